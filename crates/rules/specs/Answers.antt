@@ -87,7 +87,7 @@ firstHolding (c ∷ cs) = let r = firstHolding cs in cond (c .holds) (some (c .r
 -- "A refused call changes no lent byte": the outcome where no condition holds, and the refusal with all bytes where one does
 abbrev pub unless : List Condition → List ℕ → List ℕ → Outcome → Outcome
 unless conditions table list accepted =
-    elim (firstHolding conditions)
-      [ none ↦ accepted
+    elim (firstHolding conditions) [
+      | none ↦ accepted
       | some r ↦ record { answer = refused r; table = table; list = list }
-      ]
+    ]

@@ -40,11 +40,11 @@ result (blank len benches jobs) =
     record { answers = inNumbers ((blanking benches jobs (someBytes len)) .answer) ∷ []; list = []; holders = [] }
 result (calls t cs) =
     let os = run t cs in
-    record
-      { answers = map (λ o. inNumbers (o .answer)) os
-      ; list = joinedLists os
-      ; holders = (decode (tableAfter t os)) .holders
-      }
+    record {
+      answers = map (λ o. inNumbers (o .answer)) os;
+      list = joinedLists os;
+      holders = (decode (tableAfter t os)) .holders;
+    }
 result (program input) = record { answers = []; list = counter input; holders = [] }
 
 -- an entry: what is tried, and what 01 says comes out
@@ -82,41 +82,41 @@ unfoldable pub boards : List Case
 boards =
     -- ● Blank, B 1, J 1: 18 bytes accepted; 17 and 19 give 1.
     blanking-answers 18 1 1 0
-      ∷ blanking-answers 17 1 1 1
-      ∷ blanking-answers 19 1 1 1
-      -- ● B 500, J 4,000, 33,008 bytes accepted; B 501, J 4,001, J 0 give 1.
-      ∷ blanking-answers 33008 500 4000 0
-      ∷ blanking-answers 33010 501 4000 1
-      ∷ blanking-answers 33016 500 4001 1
-      ∷ blanking-answers 1008 500 0 1
-      ∷ calls-answer (blanked 500 4000) (formCheck ∷ []) ((0 ∷ []) ∷ []) [] (replicate 4000 0)
-      -- ● Job J accepted; 0 and J + 1 give 3.
-      ∷ calls-answer (blanked 2 3) (arrival 3 1 2 ∷ arrival 0 1 2 ∷ arrival 4 1 2 ∷ closing 0 ∷ closing 4 ∷ closing 3 ∷ [])
-        ((0 ∷ 1 ∷ 1 ∷ 0 ∷ []) ∷ (3 ∷ []) ∷ (3 ∷ []) ∷ (3 ∷ []) ∷ (3 ∷ []) ∷ (0 ∷ 1 ∷ 0 ∷ []) ∷ [])
-        [] (0 ∷ 0 ∷ 0 ∷ [])
-      -- ● Benches 2 and 2 give 4, also for a standing job.
-      ∷ calls-answer (blanked 2 3) (arrival 1 2 2 ∷ arrival 1 1 2 ∷ arrival 1 2 2 ∷ [])
-        ((4 ∷ []) ∷ (0 ∷ 1 ∷ 1 ∷ 0 ∷ []) ∷ (4 ∷ []) ∷ [])
-        [] (1 ∷ 0 ∷ 0 ∷ [])
-      -- ● The run above.
-      ∷ program-prints (text "B 3 4\nA 1 1 2\nA 2 2 3\nA 3 1 2\nS 1\nD 2\nD 2\n")
-        (text "B 3 4\nA 1 1 1 0\nA 2 2 2 0\nA 3 1 3 2\nS 1 3 3 1 2 3\nD 2 3 0\nR 6\n")
-      -- ● Jobs 1, 2, 3 all name benches 1, 2: holders 1, 2, 1; height 2 gives two benches, 1 and 2, with three inside jobs.
-      ∷ calls-answer (blanked 2 3) (threeArrivals ++ (tightSetOf 2 (9 ∷ 9 ∷ 9 ∷ 9 ∷ 9 ∷ []) ∷ []))
-        (threeAnswers ++ ((0 ∷ 2 ∷ 3 ∷ []) ∷ []))
-        (1 ∷ 0 ∷ 2 ∷ 0 ∷ 9 ∷ []) (1 ∷ 2 ∷ 1 ∷ [])
-      -- ● Closing job 2 then hands job 1 to bench 2; bench 1 fell, 1 moved.
-      ∷ calls-answer (blanked 2 3) (threeArrivals ++ (closing 2 ∷ []))
-        (threeAnswers ++ ((0 ∷ 1 ∷ 1 ∷ []) ∷ []))
-        [] (2 ∷ 0 ∷ 1 ∷ [])
-      -- ● Jobs 1 to 4 name 1 and 2, 1 and 3, 1 and 4, 1 and 5: loads 1, 0, 1, 1, 1.
-      ∷ calls-answer (blanked 5 4)
-        (arrival 1 1 2 ∷ arrival 2 1 3 ∷ arrival 3 1 4 ∷ arrival 4 1 5 ∷ loadOf 1 ∷ loadOf 2 ∷ loadOf 3 ∷ loadOf 4 ∷ loadOf 5 ∷ [])
-        ((0 ∷ 1 ∷ 1 ∷ 0 ∷ []) ∷ (0 ∷ 3 ∷ 3 ∷ 0 ∷ []) ∷ (0 ∷ 4 ∷ 4 ∷ 0 ∷ []) ∷ (0 ∷ 5 ∷ 5 ∷ 0 ∷ [])
-          ∷ (0 ∷ 1 ∷ []) ∷ (0 ∷ 0 ∷ []) ∷ (0 ∷ 1 ∷ []) ∷ (0 ∷ 1 ∷ []) ∷ (0 ∷ 1 ∷ []) ∷ [])
-        [] (1 ∷ 3 ∷ 4 ∷ 5 ∷ [])
-      -- ● Bench 1 holds three jobs, all naming 1, 2: allowance 0 is stopped with 0 paths; 1 is level with 1.
-      ∷ calls-answer heavyBench (levelling 0 ∷ levelling 1 ∷ []) ((0 ∷ 0 ∷ 0 ∷ []) ∷ (0 ∷ 1 ∷ 1 ∷ []) ∷ []) [] (2 ∷ 1 ∷ 1 ∷ [])
-      -- ● No jobs: heaviest 0, heights 0 and 1 give 7.
-      ∷ calls-answer (blanked 2 3) (heaviestLoad ∷ tightSetOf 0 [] ∷ tightSetOf 1 [] ∷ []) ((0 ∷ 0 ∷ []) ∷ (7 ∷ []) ∷ (7 ∷ []) ∷ []) [] (0 ∷ 0 ∷ 0 ∷ [])
-      ∷ []
+    ∷ blanking-answers 17 1 1 1
+    ∷ blanking-answers 19 1 1 1
+    -- ● B 500, J 4,000, 33,008 bytes accepted; B 501, J 4,001, J 0 give 1.
+    ∷ blanking-answers 33008 500 4000 0
+    ∷ blanking-answers 33010 501 4000 1
+    ∷ blanking-answers 33016 500 4001 1
+    ∷ blanking-answers 1008 500 0 1
+    ∷ calls-answer (blanked 500 4000) (formCheck ∷ []) ((0 ∷ []) ∷ []) [] (replicate 4000 0)
+    -- ● Job J accepted; 0 and J + 1 give 3.
+    ∷ calls-answer (blanked 2 3) (arrival 3 1 2 ∷ arrival 0 1 2 ∷ arrival 4 1 2 ∷ closing 0 ∷ closing 4 ∷ closing 3 ∷ [])
+    ((0 ∷ 1 ∷ 1 ∷ 0 ∷ []) ∷ (3 ∷ []) ∷ (3 ∷ []) ∷ (3 ∷ []) ∷ (3 ∷ []) ∷ (0 ∷ 1 ∷ 0 ∷ []) ∷ [])
+    [] (0 ∷ 0 ∷ 0 ∷ [])
+    -- ● Benches 2 and 2 give 4, also for a standing job.
+    ∷ calls-answer (blanked 2 3) (arrival 1 2 2 ∷ arrival 1 1 2 ∷ arrival 1 2 2 ∷ [])
+    ((4 ∷ []) ∷ (0 ∷ 1 ∷ 1 ∷ 0 ∷ []) ∷ (4 ∷ []) ∷ [])
+    [] (1 ∷ 0 ∷ 0 ∷ [])
+    -- ● The run above.
+    ∷ program-prints (text "B 3 4\nA 1 1 2\nA 2 2 3\nA 3 1 2\nS 1\nD 2\nD 2\n")
+    (text "B 3 4\nA 1 1 1 0\nA 2 2 2 0\nA 3 1 3 2\nS 1 3 3 1 2 3\nD 2 3 0\nR 6\n")
+    -- ● Jobs 1, 2, 3 all name benches 1, 2: holders 1, 2, 1; height 2 gives two benches, 1 and 2, with three inside jobs.
+    ∷ calls-answer (blanked 2 3) (threeArrivals ++ (tightSetOf 2 (9 ∷ 9 ∷ 9 ∷ 9 ∷ 9 ∷ []) ∷ []))
+    (threeAnswers ++ ((0 ∷ 2 ∷ 3 ∷ []) ∷ []))
+    (1 ∷ 0 ∷ 2 ∷ 0 ∷ 9 ∷ []) (1 ∷ 2 ∷ 1 ∷ [])
+    -- ● Closing job 2 then hands job 1 to bench 2; bench 1 fell, 1 moved.
+    ∷ calls-answer (blanked 2 3) (threeArrivals ++ (closing 2 ∷ []))
+    (threeAnswers ++ ((0 ∷ 1 ∷ 1 ∷ []) ∷ []))
+    [] (2 ∷ 0 ∷ 1 ∷ [])
+    -- ● Jobs 1 to 4 name 1 and 2, 1 and 3, 1 and 4, 1 and 5: loads 1, 0, 1, 1, 1.
+    ∷ calls-answer (blanked 5 4)
+    (arrival 1 1 2 ∷ arrival 2 1 3 ∷ arrival 3 1 4 ∷ arrival 4 1 5 ∷ loadOf 1 ∷ loadOf 2 ∷ loadOf 3 ∷ loadOf 4 ∷ loadOf 5 ∷ [])
+    ((0 ∷ 1 ∷ 1 ∷ 0 ∷ []) ∷ (0 ∷ 3 ∷ 3 ∷ 0 ∷ []) ∷ (0 ∷ 4 ∷ 4 ∷ 0 ∷ []) ∷ (0 ∷ 5 ∷ 5 ∷ 0 ∷ [])
+    ∷ (0 ∷ 1 ∷ []) ∷ (0 ∷ 0 ∷ []) ∷ (0 ∷ 1 ∷ []) ∷ (0 ∷ 1 ∷ []) ∷ (0 ∷ 1 ∷ []) ∷ [])
+    [] (1 ∷ 3 ∷ 4 ∷ 5 ∷ [])
+    -- ● Bench 1 holds three jobs, all naming 1, 2: allowance 0 is stopped with 0 paths; 1 is level with 1.
+    ∷ calls-answer heavyBench (levelling 0 ∷ levelling 1 ∷ []) ((0 ∷ 0 ∷ 0 ∷ []) ∷ (0 ∷ 1 ∷ 1 ∷ []) ∷ []) [] (2 ∷ 1 ∷ 1 ∷ [])
+    -- ● No jobs: heaviest 0, heights 0 and 1 give 7.
+    ∷ calls-answer (blanked 2 3) (heaviestLoad ∷ tightSetOf 0 [] ∷ tightSetOf 1 [] ∷ []) ((0 ∷ 0 ∷ []) ∷ (7 ∷ []) ∷ (7 ∷ []) ∷ []) [] (0 ∷ 0 ∷ 0 ∷ [])
+    ∷ []

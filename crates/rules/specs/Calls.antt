@@ -40,17 +40,17 @@ noBench b x = not (within 1 (b .benches) x)
 unfoldable pub conditions : Call → Board → List Condition
 conditions (arrival j x y) b =
     refuse jobNumber (noJob b j)
-      ∷ refuse benchNumber (noBench b x || noBench b y || eqb x y)
-      ∷ refuse alreadyStanding (stands b j)
-      ∷ []
+    ∷ refuse benchNumber (noBench b x || noBench b y || eqb x y)
+    ∷ refuse alreadyStanding (stands b j)
+    ∷ []
 conditions (closing j) b = refuse jobNumber (noJob b j) ∷ refuse notStanding (not (stands b j)) ∷ []
 conditions (levelling allowance) b = []
 conditions (loadOf x) b = refuse benchNumber (noBench b x) ∷ []
 conditions heaviestLoad b = []
 conditions (tightSetOf h list) b =
     refuse height (eqb h 0 || ltb (heaviest b) h)
-      ∷ refuse listTooShort (ltb (length list) (2 * length (tightSet b h)))
-      ∷ []
+    ∷ refuse listTooShort (ltb (length list) (2 * length (tightSet b h)))
+    ∷ []
 conditions formCheck b = []
 conditions levelCheck b = []
 
@@ -72,11 +72,11 @@ answering t a = record { answer = a; table = t; list = [] }
 -- "the bench that holds the new job in the end, the bench whose load rose, and the number of other jobs that changed holder"
 unfoldable pub arrivalOutcome : ℕ → Change → Outcome
 arrivalOutcome j c =
-    record
-      { answer = arrived (holderOf (c .board) j) (c .bench) (length (c .moved))
-      ; table = encode (c .board)
-      ; list = []
-      }
+    record {
+      answer = arrived (holderOf (c .board) j) (c .bench) (length (c .moved));
+      table = encode (c .board);
+      list = [];
+    }
 
 -- "the bench whose load fell, and the jobs that changed holder"
 unfoldable pub closingOutcome : Change → Outcome
@@ -86,21 +86,21 @@ closingOutcome c =
 -- "It reports the paths turned, and "level" if no improving path is left, else "stopped"."
 unfoldable pub levellingOutcome : Levelled → Outcome
 levellingOutcome r =
-    record
-      { answer = cond (level (r .board)) (levelled (r .paths)) (stopped (r .paths))
-      ; table = encode (r .board)
-      ; list = []
-      }
+    record {
+      answer = cond (level (r .board)) (levelled (r .paths)) (stopped (r .paths));
+      table = encode (r .board);
+      list = [];
+    }
 
 -- "the number of benches, the number of jobs with both benches inside, and the bench numbers, rising, as words in a lent
 -- list of bytes; the list beyond them is untouched"
 unfoldable pub tightSetOutcome : List ℕ → Board → List ℕ → List ℕ → Outcome
 tightSetOutcome t b set list =
-    record
-      { answer = tightSetIs (length set) (inside set (b .named))
-      ; table = t
-      ; list = bytesOf set ++ drop (2 * length set) list
-      }
+    record {
+      answer = tightSetIs (length set) (inside set (b .named));
+      table = t;
+      list = bytesOf set ++ drop (2 * length set) list;
+    }
 
 -- what an accepted call leaves
 unfoldable pub accepted : Call → List ℕ → Board → Outcome

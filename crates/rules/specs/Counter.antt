@@ -66,9 +66,9 @@ commandFor letter ns =
     let is : ℕ → ℕ → Bool = λ l n. eqb letter l && eqb (length ns) n in
     let at : ℕ → ℕ = λ i. nth ns i 0 in
     cond (is 66 2) (some (setUp (at 1) (at 2)))
-      (cond (is 65 3) (some (arrive (at 1) (at 2) (at 3)))
-        (cond (is 68 1) (some (close (at 1)))
-          (cond (is 83 1) (some (tight (at 1))) (cond (is 72 0) (some heaviest) none))))
+    (cond (is 65 3) (some (arrive (at 1) (at 2) (at 3)))
+    (cond (is 68 1) (some (close (at 1)))
+    (cond (is 83 1) (some (tight (at 1))) (cond (is 72 0) (some heaviest) none))))
 
 -- a first field of one byte, then numbers
 abbrev pub fieldsCommand : List (List ℕ) → Option Command
@@ -117,7 +117,7 @@ listed heaviest o = []
 unfoldable pub lineFor : Command → Outcome → List ℕ
 lineFor c o =
     cond (isRefused (o .answer)) (printed 82 (inNumbers (o .answer)))
-      (printed (letterOf c) (repeated c ++ drop 1 (inNumbers (o .answer)) ++ listed c o))
+    (printed (letterOf c) (repeated c ++ drop 1 (inNumbers (o .answer)) ++ listed c o))
 
 -- the program's state. "Before the first B its table has length 0"
 pub record Counter : Type 0 where
@@ -160,10 +160,10 @@ unfoldable pub prints : Counter → List (List ℕ) → List ℕ
 prints s [] = []
 prints s (piece ∷ []) = cond (empty piece) [] unreadableLine
 prints s (line ∷ piece ∷ pieces) =
-    elim (command line)
-      [ none ↦ unreadableLine ++ prints s (piece ∷ pieces)
+    elim (command line) [
+      | none ↦ unreadableLine ++ prints s (piece ∷ pieces)
       | some c ↦ let o = done c (s .table) in lineFor c o ++ prints (after c s o) (piece ∷ pieces)
-      ]
+    ]
 
 -- the whole program: from all that it reads to all that it prints
 unfoldable pub counter : List ℕ → List ℕ

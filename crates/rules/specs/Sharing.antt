@@ -92,11 +92,11 @@ pub record Levelled : Type 0 where
 abbrev pub relevel : ℕ → Board → Levelled
 relevel zero b = record { paths = 0; board = b }
 relevel (suc allowance) b =
-    elim (levellingChoice b)
-      [ none ↦ record { paths = 0; board = b }
+    elim (levellingChoice b) [
+      | none ↦ record { paths = 0; board = b }
       | some p ↦
-        let r = relevel allowance (flip b p) in record { paths = suc (r .paths); board = r .board }
-      ]
+          let r = relevel allowance (flip b p) in record { paths = suc (r .paths); board = r .board }
+    ]
 
 -- "A bench in the set brings in its chain, and each job on that chain brings in its other bench": one round of it
 unfoldable pub widen : Board → List ℕ → List ℕ

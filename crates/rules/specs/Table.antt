@@ -73,14 +73,14 @@ entriesIn (a ∷ b ∷ h ∷ n ∷ ws) = record { names = a ∷ b ∷ []; holder
 unfoldable pub layout : List ℕ → Layout
 layout ws =
     let benches = getD ws 0 0 in
-    record
-      { benches = benches
-      ; jobs = getD ws 1 0
-      ; standing = getD ws 2 0
-      ; spare = getD ws 3 0
-      ; heads = take benches (drop 4 ws)
-      ; entries = entriesIn (drop (4 + benches) ws)
-      }
+    record {
+      benches = benches;
+      jobs = getD ws 1 0;
+      standing = getD ws 2 0;
+      spare = getD ws 3 0;
+      heads = take benches (drop 4 ws);
+      entries = entriesIn (drop (4 + benches) ws);
+    }
 
 -- the jobs on a chain from job j on: "Next 0 ends a chain". A number above J has no record and ends it too. The fuel is one
 -- more than the jobs, so that a chain which returns to itself shows a job twice
@@ -115,10 +115,10 @@ formed l =
     let cs = chains l in
     let standing = standingIn (l .entries) in
     all (λ s. entryFits (l .benches) (s .1)) standing
-      && all (λ s. placed cs (s .0) (holderIn (s .1))) standing
-      && all (onlyStanding (l .entries)) cs
-      && eqb (l .standing) (length standing)
-      && eqb (l .spare) 0
+    && all (λ s. placed cs (s .0) (holderIn (s .1))) standing
+    && all (onlyStanding (l .entries)) cs
+    && eqb (l .standing) (length standing)
+    && eqb (l .spare) 0
 
 -- what refusals 1 and 2 deny of a table's bytes; B and J are read in words 0 and 1
 unfoldable pub fits : List ℕ → Bool
@@ -130,11 +130,11 @@ sound t = fits t && formed (layout (words t))
 -- the board that a layout holds: the order of the chains is forgotten
 unfoldable pub boardOf : Layout → Board
 boardOf l =
-    record
-      { benches = l .benches
-      ; named = map (λ e. cond (filled e) (e .names) []) (l .entries)
-      ; holders = map holderIn (l .entries)
-      }
+    record {
+      benches = l .benches;
+      named = map (λ e. cond (filled e) (e .names) []) (l .entries);
+      holders = map holderIn (l .entries);
+    }
 
 -- the board that a table holds
 unfoldable pub decode : List ℕ → Board
@@ -165,14 +165,14 @@ entriesFrom i (names ∷ named) (h ∷ holders) =
 -- the layout of a board, every chain rising
 unfoldable pub layoutOf : Board → Layout
 layoutOf b =
-    record
-      { benches = b .benches
-      ; jobs = length (b .named)
-      ; standing = length (keep (λ names. not (empty names)) (b .named))
-      ; spare = 0
-      ; heads = map (λ x. firstHeld 1 x (b .holders)) (rising 1 (b .benches))
-      ; entries = entriesFrom 1 (b .named) (b .holders)
-      }
+    record {
+      benches = b .benches;
+      jobs = length (b .named);
+      standing = length (keep (λ names. not (empty names)) (b .named));
+      spare = 0;
+      heads = map (λ x. firstHeld 1 x (b .holders)) (rising 1 (b .benches));
+      entries = entriesFrom 1 (b .named) (b .holders);
+    }
 
 -- a record's words
 abbrev pub entryWords : Entry → List ℕ
