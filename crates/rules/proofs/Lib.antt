@@ -1,2 +1,3 @@
 -- What is proved of the rules.
+pub mod Basics
 pub mod Boards

@@ -1,0 +1,219 @@
+-- Small facts about tests and lists that the laws share.
+use Prim.Native.Nat.{ℕ, zero, suc, _+_, _≤_, _<_}
+use native.Mathlib.Omega.{arith}
+use mathlib.Core.Path.{_≡_, refl, sym, ap, subst}
+use mathlib.Core.Logic.{_⊎_, inl, inr, _≢_}
+use mathlib.Core.Bool.{Bool, true, false, cond, not, _&&_, _||_}
+use mathlib.Core.List.{List, [], _∷_, _++_, map, flatMap}
+use lib.Dec.{T, eqb, leb, ltb}
+use borrow.Author.Tests.{eqb-true, eqb-false, eq-eqb, ne-eqb, leb-true, le-leb}
+use Rattle.rules.specs.Lists.{bit, within, count, member, rising, keep, all, Each, In}
+
+-- tests
+
+pub true→T : (a : Bool) → a ≡ true → T a
+true→T true e = tt
+true→T false e = subst T (sym e) tt
+
+pub T→true : (a : Bool) → T a → a ≡ true
+T→true true t = refl
+T→true false t = absurd t
+
+pub not→false : (a : Bool) → T (not a) → a ≡ false
+not→false true t = absurd t
+not→false false t = refl
+
+pub false→not : (a : Bool) → a ≡ false → T (not a)
+false→not a e = subst (λ (x : Bool). T (not x)) (sym e) tt
+
+pub both : (a b : Bool) → T a → T b → T (a && b)
+both true b s t = t
+both false b s t = absurd s
+
+pub left : (a b : Bool) → T (a && b) → T a
+left true b t = tt
+left false b t = absurd t
+
+pub right : (a b : Bool) → T (a && b) → T b
+right true b t = t
+right false b t = absurd t
+
+pub either : (a b : Bool) → T (a || b) → T a ⊎ T b
+either true b t = inl tt
+either false b t = inr t
+
+pub or-left : (a b : Bool) → T a → T (a || b)
+or-left true b t = tt
+or-left false b t = absurd t
+
+pub or-right : (a b : Bool) → T b → T (a || b)
+or-right true b t = tt
+or-right false b t = t
+
+-- a test, with the equation that it decides
+pub data Compared (x y : ℕ) : Bool → Type 0 where
+  same : x ≡ y → Compared x y true
+  other : (x ≡ y → ⊥) → Compared x y false
+
+pub compared : (x y : ℕ) → Compared x y (eqb x y)
+compared x y = go (eqb x y) refl
+  where
+    go : (b : Bool) → eqb x y ≡ b → Compared x y b
+    go true e = same (eqb-true x y e)
+    go false e = other (eqb-false x y e)
+
+pub eqb-refl : (x : ℕ) → eqb x x ≡ true
+eqb-refl x = eq-eqb x x refl
+
+pub T-eqb : (x y : ℕ) → T (eqb x y) → x ≡ y
+T-eqb x y t = eqb-true x y (T→true (eqb x y) t)
+
+pub eqb-T : (x y : ℕ) → x ≡ y → T (eqb x y)
+eqb-T x y e = true→T (eqb x y) (eq-eqb x y e)
+
+pub T-leb : (x y : ℕ) → T (leb x y) → x ≤ y
+T-leb x y t = leb-true x y (T→true (leb x y) t)
+
+pub leb-T : (x y : ℕ) → x ≤ y → T (leb x y)
+leb-T x y h = true→T (leb x y) (le-leb x y h)
+
+pub within-low : (lo hi x : ℕ) → T (within lo hi x) → lo ≤ x
+within-low lo hi x t = T-leb lo x (left (leb lo x) (leb x hi) t)
+
+pub within-high : (lo hi x : ℕ) → T (within lo hi x) → x ≤ hi
+within-high lo hi x t = T-leb x hi (right (leb lo x) (leb x hi) t)
+
+pub within-both : (lo hi x : ℕ) → lo ≤ x → x ≤ hi → T (within lo hi x)
+within-both lo hi x l h = both (leb lo x) (leb x hi) (leb-T lo x l) (leb-T x hi h)
+
+-- bits
+
+pub bit-same : (x y : ℕ) → x ≡ y → bit (eqb x y) ≡ 1
+bit-same x y e = ap bit (eq-eqb x y e)
+
+pub bit-other : (x y : ℕ) → (x ≡ y → ⊥) → bit (eqb x y) ≡ 0
+bit-other x y d = ap bit (ne-eqb x y d)
+
+pub bit-le : (b : Bool) → bit b ≤ 1
+bit-le true = omega arith
+bit-le false = omega arith
+
+-- elements
+
+module _ {A : Type 0} where
+  pub in-left : (a : A) (l m : List A) → In a l → In a (l ++ m)
+  in-left a [] m i = absurd i
+  in-left a (x ∷ l) m (inl e) = inl e
+  in-left a (x ∷ l) m (inr i) = inr (in-left a l m i)
+
+  pub in-right : (a : A) (l m : List A) → In a m → In a (l ++ m)
+  in-right a [] m i = i
+  in-right a (x ∷ l) m i = inr (in-right a l m i)
+
+  pub in-either : (a : A) (l m : List A) → In a (l ++ m) → In a l ⊎ In a m
+  in-either a [] m i = inr i
+  in-either a (x ∷ l) m (inl e) = inl (inl e)
+  in-either a (x ∷ l) m (inr i) = next (in-either a l m i)
+    where
+      next : In a l ⊎ In a m → In a (x ∷ l) ⊎ In a m
+      next (inl j) = inl (inr j)
+      next (inr j) = inr j
+
+  pub in-keep : (p : A → Bool) (a : A) (l : List A) → In a l → T (p a) → In a (keep p l)
+  in-keep p a [] i t = absurd i
+  in-keep p a (x ∷ l) i t = go (p x) refl (λ j. in-keep p a l j t) i
+    where
+      go : (z : Bool) → p x ≡ z → (In a l → In a (keep p l)) → In a (x ∷ l) → In a (cond z (x ∷ keep p l) (keep p l))
+      go true e ih (inl d) = inl d
+      go true e ih (inr j) = inr (ih j)
+      go false e ih (inl d) = absurd (subst T e (subst (λ (y : A). T (p y)) d t))
+      go false e ih (inr j) = ih j
+
+  pub keep-in : (p : A → Bool) (a : A) (l : List A) → In a (keep p l) → In a l × T (p a)
+  keep-in p a [] i = absurd i
+  keep-in p a (x ∷ l) i = go (p x) refl (λ j. keep-in p a l j) i
+    where
+      later : In a l × T (p a) → In a (x ∷ l) × T (p a)
+      later r = (inr (r .0), r .1)
+
+      go : (z : Bool) → p x ≡ z → (In a (keep p l) → In a l × T (p a)) → In a (cond z (x ∷ keep p l) (keep p l)) → In a (x ∷ l) × T (p a)
+      go true e ih (inl d) = (inl d, subst (λ (y : A). T (p y)) (sym d) (true→T (p x) e))
+      go true e ih (inr j) = later (ih j)
+      go false e ih j = later (ih j)
+
+  pub all-in : (p : A → Bool) (a : A) (l : List A) → T (all p l) → In a l → T (p a)
+  all-in p a [] t i = absurd i
+  all-in p a (x ∷ l) t (inl e) = subst (λ (y : A). T (p y)) (sym e) (left (p x) (all p l) t)
+  all-in p a (x ∷ l) t (inr i) = all-in p a l (right (p x) (all p l) t) i
+
+  pub in-all : (p : A → Bool) (l : List A) → ((a : A) → In a l → T (p a)) → T (all p l)
+  in-all p [] f = tt
+  in-all p (x ∷ l) f = both (p x) (all p l) (f x (inl refl)) (in-all p l (λ a i. f a (inr i)))
+
+  pub each-in : (P : A → Type 0) (a : A) (l : List A) → Each P l → In a l → P a
+  each-in P a [] e i = absurd i
+  each-in P a (x ∷ l) e (inl d) = subst P (sym d) (e .0)
+  each-in P a (x ∷ l) e (inr i) = each-in P a l (e .1) i
+
+  pub in-each : (P : A → Type 0) (l : List A) → ((a : A) → In a l → P a) → Each P l
+  in-each P [] f = tt
+  in-each P (x ∷ l) f = (f x (inl refl), in-each P l (λ a i. f a (inr i)))
+
+module _ {A B : Type 0} where
+  pub in-map : (f : A → B) (a : A) (l : List A) → In a l → In (f a) (map f l)
+  in-map f a [] i = absurd i
+  in-map f a (x ∷ l) (inl e) = inl (ap f e)
+  in-map f a (x ∷ l) (inr i) = inr (in-map f a l i)
+
+  pub map-in : (f : A → B) (b : B) (l : List A) → In b (map f l) → (a : A) × In a l × (b ≡ f a)
+  map-in f b [] i = absurd i
+  map-in f b (x ∷ l) (inl e) = (x, inl refl, e)
+  map-in f b (x ∷ l) (inr i) = let r = map-in f b l i in (r .0, inr (r .1), r .2)
+
+  pub in-flatMap : (f : A → List B) (b : B) (a : A) (l : List A) → In a l → In b (f a) → In b (flatMap f l)
+  unfolding flatMap
+  in-flatMap f b a [] i j = absurd i
+  in-flatMap f b a (x ∷ l) (inl e) j = in-left b (f x) (flatMap f l) (subst (λ (y : A). In b (f y)) e j)
+  in-flatMap f b a (x ∷ l) (inr i) j = in-right b (f x) (flatMap f l) (in-flatMap f b a l i j)
+
+  pub flatMap-in : (f : A → List B) (b : B) (l : List A) → In b (flatMap f l) → (a : A) × In a l × In b (f a)
+  unfolding flatMap
+  flatMap-in f b [] i = absurd i
+  flatMap-in f b (x ∷ l) i = go (λ j. flatMap-in f b l j) (in-either b (f x) (flatMap f l) i)
+    where
+      go : (In b (flatMap f l) → (a : A) × In a l × In b (f a)) → In b (f x) ⊎ In b (flatMap f l) → (a : A) × In a (x ∷ l) × In b (f a)
+      go ih (inl j) = (x, inl refl, j)
+      go ih (inr j) = let r = ih j in (r .0, inr (r .1), r .2)
+
+-- numbers in lists
+
+pub member-in : (x : ℕ) (l : List ℕ) → T (member x l) → In x l
+member-in x [] t = absurd t
+member-in x (y ∷ l) t = go (λ s. member-in x l s) (either (eqb y x) (member x l) t)
+  where
+    go : (T (member x l) → In x l) → T (eqb y x) ⊎ T (member x l) → In x (y ∷ l)
+    go ih (inl s) = inl (sym (T-eqb y x s))
+    go ih (inr s) = inr (ih s)
+
+pub in-member : (x : ℕ) (l : List ℕ) → In x l → T (member x l)
+in-member x [] i = absurd i
+in-member x (y ∷ l) (inl e) = or-left (eqb y x) (member x l) (eqb-T y x (sym e))
+in-member x (y ∷ l) (inr i) = or-right (eqb y x) (member x l) (in-member x l i)
+
+pub in-rising : (x i n : ℕ) → i ≤ x → x < i + n → In x (rising i n)
+in-rising x i zero l h = omega arith
+in-rising x i (suc n) l h = go (λ d. in-rising x (suc i) n (omega arith) (omega arith)) (compared x i)
+  where
+    go : ((x ≡ i → ⊥) → In x (rising (suc i) n)) → {b : Bool} → Compared x i b → In x (rising i (suc n))
+    go ih (same e) = inl e
+    go ih (other d) = inr (ih d)
+
+pub rising-low : (x i n : ℕ) → In x (rising i n) → i ≤ x
+rising-low x i zero j = absurd j
+rising-low x i (suc n) (inl e) = omega arith
+rising-low x i (suc n) (inr j) = let h = rising-low x (suc i) n j in omega arith
+
+pub rising-high : (x i n : ℕ) → In x (rising i n) → x < i + n
+rising-high x i zero j = absurd j
+rising-high x i (suc n) (inl e) = omega arith
+rising-high x i (suc n) (inr j) = let h = rising-high x (suc i) n j in omega arith
