@@ -15,8 +15,8 @@ abbrev pub someBytes : ℕ → List ℕ
 someBytes n = replicate n 165
 
 -- a table as blanking leaves it
-abbrev pub blanked : ℕ → ℕ → List ℕ
-blanked benches jobs = (blanking benches jobs (someBytes (lengthFor benches jobs))) .table
+abbrev pub blankedTable : ℕ → ℕ → List ℕ
+blankedTable benches jobs = (blanking benches jobs (someBytes (lengthFor benches jobs))) .table
 
 -- what is tried: blanking so many bytes for B and J; a list of calls on a table; what the program prints
 pub data Trial : Type 0 where
@@ -53,18 +53,18 @@ pub record Case : Type 0 where
   pub expected : Result
 
 -- the answers alone, of a blanking
-abbrev pub blanking-answers : ℕ → ℕ → ℕ → ℕ → Case
-blanking-answers len benches jobs number =
+abbrev pub whenBlanked : ℕ → ℕ → ℕ → ℕ → Case
+whenBlanked len benches jobs number =
     record { trial = blank len benches jobs; expected = record { answers = (number ∷ []) ∷ []; list = []; holders = [] } }
 
 -- the answers to a list of calls, what they leave in the lists, and the holders in the end
-abbrev pub calls-answer : List ℕ → List Call → List (List ℕ) → List ℕ → List ℕ → Case
-calls-answer t cs answers list holders =
+abbrev pub whenCalled : List ℕ → List Call → List (List ℕ) → List ℕ → List ℕ → Case
+whenCalled t cs answers list holders =
     record { trial = calls t cs; expected = record { answers = answers; list = list; holders = holders } }
 
 -- what the program prints
-abbrev pub program-prints : List ℕ → List ℕ → Case
-program-prints input output =
+abbrev pub whenRun : List ℕ → List ℕ → Case
+whenRun input output =
     record { trial = program input; expected = record { answers = []; list = output; holders = [] } }
 
 -- bench 1 holds three jobs, all naming 1 and 2; its chain is 3, 2, 1
@@ -81,42 +81,42 @@ threeAnswers = (0 ∷ 1 ∷ 1 ∷ 0 ∷ []) ∷ (0 ∷ 2 ∷ 2 ∷ 0 ∷ []) ∷
 unfoldable pub boards : List Case
 boards =
     -- ● Blank, B 1, J 1: 18 bytes accepted; 17 and 19 give 1.
-    blanking-answers 18 1 1 0
-    ∷ blanking-answers 17 1 1 1
-    ∷ blanking-answers 19 1 1 1
+    whenBlanked 18 1 1 0
+    ∷ whenBlanked 17 1 1 1
+    ∷ whenBlanked 19 1 1 1
     -- ● B 500, J 4,000, 33,008 bytes accepted; B 501, J 4,001, J 0 give 1.
-    ∷ blanking-answers 33008 500 4000 0
-    ∷ blanking-answers 33010 501 4000 1
-    ∷ blanking-answers 33016 500 4001 1
-    ∷ blanking-answers 1008 500 0 1
-    ∷ calls-answer (blanked 500 4000) (formCheck ∷ []) ((0 ∷ []) ∷ []) [] (replicate 4000 0)
+    ∷ whenBlanked 33008 500 4000 0
+    ∷ whenBlanked 33010 501 4000 1
+    ∷ whenBlanked 33016 500 4001 1
+    ∷ whenBlanked 1008 500 0 1
+    ∷ whenCalled (blankedTable 500 4000) (formCheck ∷ []) ((0 ∷ []) ∷ []) [] (replicate 4000 0)
     -- ● Job J accepted; 0 and J + 1 give 3.
-    ∷ calls-answer (blanked 2 3) (arrival 3 1 2 ∷ arrival 0 1 2 ∷ arrival 4 1 2 ∷ closing 0 ∷ closing 4 ∷ closing 3 ∷ [])
+    ∷ whenCalled (blankedTable 2 3) (arrival 3 1 2 ∷ arrival 0 1 2 ∷ arrival 4 1 2 ∷ closing 0 ∷ closing 4 ∷ closing 3 ∷ [])
     ((0 ∷ 1 ∷ 1 ∷ 0 ∷ []) ∷ (3 ∷ []) ∷ (3 ∷ []) ∷ (3 ∷ []) ∷ (3 ∷ []) ∷ (0 ∷ 1 ∷ 0 ∷ []) ∷ [])
     [] (0 ∷ 0 ∷ 0 ∷ [])
     -- ● Benches 2 and 2 give 4, also for a standing job.
-    ∷ calls-answer (blanked 2 3) (arrival 1 2 2 ∷ arrival 1 1 2 ∷ arrival 1 2 2 ∷ [])
+    ∷ whenCalled (blankedTable 2 3) (arrival 1 2 2 ∷ arrival 1 1 2 ∷ arrival 1 2 2 ∷ [])
     ((4 ∷ []) ∷ (0 ∷ 1 ∷ 1 ∷ 0 ∷ []) ∷ (4 ∷ []) ∷ [])
     [] (1 ∷ 0 ∷ 0 ∷ [])
     -- ● The run above.
-    ∷ program-prints (text "B 3 4\nA 1 1 2\nA 2 2 3\nA 3 1 2\nS 1\nD 2\nD 2\n")
+    ∷ whenRun (text "B 3 4\nA 1 1 2\nA 2 2 3\nA 3 1 2\nS 1\nD 2\nD 2\n")
     (text "B 3 4\nA 1 1 1 0\nA 2 2 2 0\nA 3 1 3 2\nS 1 3 3 1 2 3\nD 2 3 0\nR 6\n")
     -- ● Jobs 1, 2, 3 all name benches 1, 2: holders 1, 2, 1; height 2 gives two benches, 1 and 2, with three inside jobs.
-    ∷ calls-answer (blanked 2 3) (threeArrivals ++ (tightSetOf 2 (9 ∷ 9 ∷ 9 ∷ 9 ∷ 9 ∷ []) ∷ []))
+    ∷ whenCalled (blankedTable 2 3) (threeArrivals ++ (tightSetOf 2 (9 ∷ 9 ∷ 9 ∷ 9 ∷ 9 ∷ []) ∷ []))
     (threeAnswers ++ ((0 ∷ 2 ∷ 3 ∷ []) ∷ []))
     (1 ∷ 0 ∷ 2 ∷ 0 ∷ 9 ∷ []) (1 ∷ 2 ∷ 1 ∷ [])
     -- ● Closing job 2 then hands job 1 to bench 2; bench 1 fell, 1 moved.
-    ∷ calls-answer (blanked 2 3) (threeArrivals ++ (closing 2 ∷ []))
+    ∷ whenCalled (blankedTable 2 3) (threeArrivals ++ (closing 2 ∷ []))
     (threeAnswers ++ ((0 ∷ 1 ∷ 1 ∷ []) ∷ []))
     [] (2 ∷ 0 ∷ 1 ∷ [])
     -- ● Jobs 1 to 4 name 1 and 2, 1 and 3, 1 and 4, 1 and 5: loads 1, 0, 1, 1, 1.
-    ∷ calls-answer (blanked 5 4)
+    ∷ whenCalled (blankedTable 5 4)
     (arrival 1 1 2 ∷ arrival 2 1 3 ∷ arrival 3 1 4 ∷ arrival 4 1 5 ∷ loadOf 1 ∷ loadOf 2 ∷ loadOf 3 ∷ loadOf 4 ∷ loadOf 5 ∷ [])
     ((0 ∷ 1 ∷ 1 ∷ 0 ∷ []) ∷ (0 ∷ 3 ∷ 3 ∷ 0 ∷ []) ∷ (0 ∷ 4 ∷ 4 ∷ 0 ∷ []) ∷ (0 ∷ 5 ∷ 5 ∷ 0 ∷ [])
     ∷ (0 ∷ 1 ∷ []) ∷ (0 ∷ 0 ∷ []) ∷ (0 ∷ 1 ∷ []) ∷ (0 ∷ 1 ∷ []) ∷ (0 ∷ 1 ∷ []) ∷ [])
     [] (1 ∷ 3 ∷ 4 ∷ 5 ∷ [])
     -- ● Bench 1 holds three jobs, all naming 1, 2: allowance 0 is stopped with 0 paths; 1 is level with 1.
-    ∷ calls-answer heavyBench (levelling 0 ∷ levelling 1 ∷ []) ((0 ∷ 0 ∷ 0 ∷ []) ∷ (0 ∷ 1 ∷ 1 ∷ []) ∷ []) [] (2 ∷ 1 ∷ 1 ∷ [])
+    ∷ whenCalled heavyBench (levelling 0 ∷ levelling 1 ∷ []) ((0 ∷ 0 ∷ 0 ∷ []) ∷ (0 ∷ 1 ∷ 1 ∷ []) ∷ []) [] (2 ∷ 1 ∷ 1 ∷ [])
     -- ● No jobs: heaviest 0, heights 0 and 1 give 7.
-    ∷ calls-answer (blanked 2 3) (heaviestLoad ∷ tightSetOf 0 [] ∷ tightSetOf 1 [] ∷ []) ((0 ∷ 0 ∷ []) ∷ (7 ∷ []) ∷ (7 ∷ []) ∷ []) [] (0 ∷ 0 ∷ 0 ∷ [])
+    ∷ whenCalled (blankedTable 2 3) (heaviestLoad ∷ tightSetOf 0 [] ∷ tightSetOf 1 [] ∷ []) ((0 ∷ 0 ∷ []) ∷ (7 ∷ []) ∷ (7 ∷ []) ∷ []) [] (0 ∷ 0 ∷ 0 ∷ [])
     ∷ []

@@ -91,7 +91,7 @@ pub data Start : List ℕ → Book → Type 0 where
   fromLevel : (t : List ℕ) → sound t ≡ true → level (decode t) ≡ true → Start t ((decode t) .named)
 
 -- what demand 3 claims of a whole list of calls cs with outcomes os, from a start t whose book is k
-pub record Kept (t : List ℕ) (k : Book) (cs : List Call) (os : List Outcome) : Type 0 where
+pub record Claim (t : List ℕ) (k : Book) (cs : List Call) (os : List Outcome) : Type 0 where
   -- the standing jobs and the benches they name are the book's
   pub book : (decode (tableAfter t os)) .named ≡ bookAfter k cs os
   -- the holder words are a sharing of the book's jobs
@@ -107,4 +107,4 @@ pub record Kept (t : List ℕ) (k : Book) (cs : List Call) (os : List Outcome) :
 abbrev pub Demand3 : Type 1
 Demand3 =
     (Does : Call → List ℕ → Outcome → Type 0) → ((c : Call) (t : List ℕ) (o : Outcome) → Does c t o → AsDefined c t o) →
-    (t : List ℕ) (k : Book) → Start t k → (cs : List Call) (os : List Outcome) → Runs Does t cs os → Kept t k cs os
+    (t : List ℕ) (k : Book) → Start t k → (cs : List Call) (os : List Outcome) → Runs Does t cs os → Claim t k cs os

@@ -12,6 +12,7 @@ pub record Step : Type 0 where
   pub job : ℕ
   pub to : ℕ
 
+-- the step by job j to bench y
 abbrev pub stepBy : ℕ → ℕ → Step
 stepBy j y = record { job = j; to = y }
 
@@ -33,6 +34,7 @@ pub record Path : Type 0 where
   pub start : ℕ
   pub route : List Step
 
+-- the path from x with these steps
 abbrev pub pathBy : ℕ → List Step → Path
 pathBy x r = record { start = x; route = r }
 

@@ -120,10 +120,11 @@ formed l =
     && eqb (l .standing) (length standing)
     && eqb (l .spare) 0
 
--- what refusals 1 and 2 deny of a table's bytes; B and J are read in words 0 and 1
+-- what refusal 1 denies of a table's bytes: "every other call reads B and J there", in words 0 and 1
 unfoldable pub fits : List ℕ → Bool
 fits t = sizesFit (length t) (getD (words t) 0 0) (getD (words t) 1 0)
 
+-- what refusal 2 denies: "A table is sound if its sizes fit", and the clauses above hold
 unfoldable pub sound : List ℕ → Bool
 sound t = fits t && formed (layout (words t))
 
