@@ -1,3 +1,9 @@
 -- What is proved of the rules.
 pub mod Basics
 pub mod Boards
+pub mod Refusals
+pub mod Words
+pub mod Sound
+pub mod Layouts
+pub mod Encode
+pub mod Blanking

@@ -84,10 +84,11 @@ abbrev pub firstHolding : List Condition → Option Refusal
 firstHolding [] = none
 firstHolding (c ∷ cs) = let r = firstHolding cs in cond (c .holds) (some (c .refusal)) r
 
--- "A refused call changes no lent byte": the outcome where no condition holds, and the refusal with all bytes where one does
+-- the accepted outcome, or the refusal with every lent byte as it was: "A refused call changes no lent byte"
+abbrev pub settled : Option Refusal → List ℕ → List ℕ → Outcome → Outcome
+settled none table list accepted = accepted
+settled (some r) table list accepted = record { answer = refused r; table = table; list = list }
+
+-- the accepted outcome where no condition holds, else the refusal
 abbrev pub unless : List Condition → List ℕ → List ℕ → Outcome → Outcome
-unless conditions table list accepted =
-    elim (firstHolding conditions) [
-      | none ↦ accepted
-      | some r ↦ record { answer = refused r; table = table; list = list }
-    ]
+unless conditions table list accepted = settled (firstHolding conditions) table list accepted

@@ -1,0 +1,88 @@
+-- Blanking: whatever the bytes were, it leaves the table of the board without jobs.
+use Prim.Native.Nat.{ℕ, zero, suc, _+_, _*_, _≤_}
+use native.Mathlib.Omega.{arith}
+use mathlib.Core.Path.{_≡_, refl}
+use mathlib.Core.Bool.{true, not, _||_}
+use mathlib.Core.List.{List, [], _∷_, map, flatMap}
+use lib.Dec.{T, eqb}
+use lib.ListN.{length, replicate, length-replicate, replicate-append-replicate}
+use borrow.Author.Tests.{ne-eqb}
+use Rattle.rules.specs.Lists.{within, rising, keep, Each, empty}
+use Rattle.rules.specs.Board.{Board, Shares, namesFit}
+use Rattle.rules.specs.Table.{mostBenches, mostJobs, sizesFit, firstHeld, entriesFrom, layoutOf, entryWords, flat, sound, decode, encode, blankTable, Storable}
+use Rattle.rules.specs.Answers.{Outcome, blanked}
+use Rattle.rules.specs.Calls.{blanking}
+use Rattle.rules.proofs.Basics.{true→T}
+use Rattle.rules.proofs.Sound.{sized}
+use Rattle.rules.proofs.Encode.{encode-sound, decode-encode}
+
+-- a board without jobs
+abbrev pub emptyBoard : ℕ → ℕ → Board
+emptyBoard benches jobs = record { benches = benches; named = replicate jobs []; holders = replicate jobs 0 }
+
+each-replicate : (P : List ℕ → Type 0) (n : ℕ) → P [] → Each P (replicate n [])
+each-replicate P zero p = tt
+each-replicate P (suc n) p = (p, each-replicate P n p)
+
+shares-empty : (n : ℕ) → Shares (replicate n []) (replicate n 0)
+shares-empty zero = tt
+shares-empty (suc n) = (tt, shares-empty n)
+
+-- a table can hold the board without jobs
+pub storable-empty : (benches jobs : ℕ) → T (within 1 mostBenches benches) → T (within 1 mostJobs jobs) → Storable (emptyBoard benches jobs)
+storable-empty benches jobs b j =
+    record {
+      valid = record { names = each-replicate (λ names. T (namesFit benches names)) jobs tt; shares = shares-empty jobs };
+      benches = b;
+      jobs = rw (length-replicate {A = List ℕ} jobs []) j;
+      pairs = each-replicate (λ names. T (empty names || eqb (length names) 2)) jobs tt;
+    }
+
+standing-empty : (n : ℕ) → length (keep {A = List ℕ} (λ names. not (empty names)) (replicate n [])) ≡ 0
+standing-empty zero = refl
+standing-empty (suc n) = standing-empty n
+
+-- no bench, counted from 1, holds a job that does not stand
+firstHeld-empty : (i x n : ℕ) → 1 ≤ x → firstHeld i x (replicate n 0) ≡ 0
+firstHeld-empty i x zero l = refl
+firstHeld-empty i x (suc n) l = rw (ne-eqb 0 x (omega arith)) (firstHeld-empty (suc i) x n l)
+
+heads-empty : (i n jobs : ℕ) → 1 ≤ i → map (λ x. firstHeld 1 x (replicate jobs 0)) (rising i n) ≡ replicate n 0
+heads-empty i zero jobs l = refl
+heads-empty i (suc n) jobs l = rw (firstHeld-empty 1 i jobs l, heads-empty (suc i) n jobs (omega arith))
+
+records-empty : (i n : ℕ) → flatMap entryWords (entriesFrom i (replicate n []) (replicate n 0)) ≡ replicate (4 * n) 0
+unfolding flatMap
+records-empty i zero = refl
+records-empty i (suc n) = let e : 4 * suc n ≡ suc (suc (suc (suc (4 * n)))) = omega arith in rw (e, records-empty (suc i) n)
+
+-- a blanked table is the encoding of the board without jobs
+pub blank-is-encoded : (benches jobs : ℕ) → blankTable benches jobs ≡ encode (emptyBoard benches jobs)
+unfolding blankTable encode flat layoutOf
+blank-is-encoded benches jobs =
+    let e : 2 + benches + 4 * jobs ≡ suc (suc (benches + 4 * jobs)) = omega arith in
+    rw (e, length-replicate {A = List ℕ} jobs [], standing-empty jobs, heads-empty 1 benches jobs (omega arith), records-empty 1 jobs, replicate-append-replicate {A = ℕ} benches (4 * jobs) 0)
+
+-- "For a blank table" there are no jobs, and it is sound
+pub blank-sound : (benches jobs : ℕ) → T (within 1 mostBenches benches) → T (within 1 mostJobs jobs) → T (sound (blankTable benches jobs))
+blank-sound benches jobs b j = rw (blank-is-encoded benches jobs) (encode-sound (emptyBoard benches jobs) (storable-empty benches jobs b j))
+
+pub blank-decodes : (benches jobs : ℕ) → T (within 1 mostBenches benches) → T (within 1 mostJobs jobs) → decode (blankTable benches jobs) ≡ emptyBoard benches jobs
+blank-decodes benches jobs b j = rw (blank-is-encoded benches jobs) (decode-encode (emptyBoard benches jobs) (storable-empty benches jobs b j))
+
+-- blanking whatever bytes of a fitting length leaves a sound table without jobs
+pub record Blanked (benches jobs : ℕ) (o : Outcome) : Type 0 where
+  pub answer : o .answer ≡ blanked
+  pub sound : T (sound (o .table))
+  pub board : decode (o .table) ≡ emptyBoard benches jobs
+
+pub blanking-leaves : (benches jobs : ℕ) (t : List ℕ) → sizesFit (length t) benches jobs ≡ true → Blanked benches jobs (blanking benches jobs t)
+unfolding blanking
+blanking-leaves benches jobs t e =
+    let s = sized (length t) benches jobs (true→T (sizesFit (length t) benches jobs) e) in
+    rw e
+    (record {
+      answer = refl;
+      sound = blank-sound benches jobs (s .benches-within) (s .jobs-within);
+      board = blank-decodes benches jobs (s .benches-within) (s .jobs-within);
+    })

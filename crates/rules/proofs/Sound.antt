@@ -1,0 +1,389 @@
+-- What the table's words say where the sizes fit, and what a sound table holds.
+use Prim.Native.Nat.{ℕ, zero, suc, _+_, _*_, _/_, _%_, _≤_, _<_}
+use native.Mathlib.Omega.{arith}
+use native.Mathlib.Nat.{add-assoc, add-zero}
+use mathlib.Core.Path.{_≡_, refl, sym, ap, _∙_, subst}
+use mathlib.Core.Logic.{inl, inr}
+use mathlib.Core.Bool.{Bool, true, false, cond, not, _&&_, _||_}
+use mathlib.Core.List.{List, [], _∷_, map}
+use lib.Dec.{T, eqb, leb, not-T}
+use lib.ListN.{length, getD, drop, length-take, length-drop, length-map}
+use lib.Seq.{getD-take, getD-drop}
+use Rattle.rules.specs.Lists.{bit, within, count, member, total, all, Each, In, empty, nth, numbered}
+use Rattle.rules.specs.Board.{Shares, mayHold, namesFit}
+use Rattle.rules.specs.Table.{words, lengthFor, mostBenches, mostJobs, sizesFit, Entry, vacant, filled, holderIn, Layout, entriesIn, layout, follow, chains, standingIn, entryFits, placed, onlyStanding, formed, fits, sound, boardOf, decode, Storable}
+use Rattle.rules.proofs.Basics.{true→T, not→false, left, right, or-right, T-eqb, eqb-T, T-leb, Compared, same, other, compared, bit-other, bit-le, within-low, within-high, in-map, in-keep, all-in, each-in, in-each, member-in, in-member}
+
+-- the table's places
+
+-- word i is bytes 2i and 2i + 1, low byte first
+pub word-at : (t : List ℕ) (i : ℕ) → 2 * i + 1 < length t → getD (words t) i 0 ≡ getD t (2 * i) 0 + 256 * getD t (2 * i + 1) 0
+word-at [] i h = omega arith
+word-at (a ∷ []) i h = omega arith
+word-at (a ∷ b ∷ t) zero h = refl
+word-at (a ∷ b ∷ t) (suc i) h =
+    let e : 2 * suc i ≡ suc (suc (2 * i)) = omega arith in
+    let f : 2 * suc i + 1 ≡ suc (suc (2 * i + 1)) = omega arith in
+    rw (f, e) (word-at t i (omega arith))
+
+-- a word is two bytes
+pub length-words : (t : List ℕ) → length (words t) ≡ length t / 2
+length-words [] = refl
+length-words (a ∷ []) = refl
+length-words (a ∷ b ∷ t) = omega (arith, length-words t)
+
+-- word 3 + x is the head of bench x
+pub head-at : (ws : List ℕ) (x : ℕ) → 1 ≤ x → x ≤ (layout ws) .benches → nth ((layout ws) .heads) x 0 ≡ getD ws (3 + x) 0
+unfolding layout
+head-at ws zero l h = omega arith
+head-at ws (suc i) l h =
+    let e : 4 + i ≡ 3 + suc i = omega arith in
+    getD-take (getD ws 0 0) (drop 4 ws) i 0 h ∙ getD-drop 4 ws i 0 ∙ ap (λ (k : ℕ). getD ws k 0) e
+
+-- the record whose first word is word i
+abbrev pub entryFrom : List ℕ → ℕ → Entry
+entryFrom ws i = record { names = getD ws i 0 ∷ getD ws (i + 1) 0 ∷ []; holder = getD ws (i + 2) 0; next = getD ws (i + 3) 0 }
+
+entryFrom-drop : (n : ℕ) (ws : List ℕ) (i : ℕ) → entryFrom (drop n ws) i ≡ entryFrom ws (n + i)
+entryFrom-drop n ws i = simp (getD-drop, add-assoc)
+
+entriesIn-at : (ws : List ℕ) (i : ℕ) → 4 * i + 4 ≤ length ws → getD (entriesIn ws) i vacant ≡ entryFrom ws (4 * i)
+entriesIn-at [] i l = absurd (omega arith)
+entriesIn-at (a ∷ []) i l = absurd (omega arith)
+entriesIn-at (a ∷ b ∷ []) i l = absurd (omega arith)
+entriesIn-at (a ∷ b ∷ h ∷ []) i l = absurd (omega arith)
+entriesIn-at (a ∷ b ∷ h ∷ n ∷ ws) zero l = refl
+entriesIn-at (a ∷ b ∷ h ∷ n ∷ ws) (suc i) l =
+    let e : 4 + 4 * i ≡ 4 * suc i = omega arith in
+    entriesIn-at ws i (omega arith) ∙ entryFrom-drop 4 (a ∷ b ∷ h ∷ n ∷ ws) (4 * i) ∙ ap (entryFrom (a ∷ b ∷ h ∷ n ∷ ws)) e
+
+entriesIn-length : (n : ℕ) (ws : List ℕ) → length ws ≡ 4 * n → length (entriesIn ws) ≡ n
+entriesIn-length n [] e = omega arith
+entriesIn-length n (a ∷ []) e = omega arith
+entriesIn-length n (a ∷ b ∷ []) e = omega arith
+entriesIn-length n (a ∷ b ∷ h ∷ []) e = omega arith
+entriesIn-length zero (a ∷ b ∷ h ∷ m ∷ ws) e = omega arith
+entriesIn-length (suc n) (a ∷ b ∷ h ∷ m ∷ ws) e = ap suc (entriesIn-length n ws (omega arith))
+
+-- job j's record is words B + 4 × j, which is 4 + B + 4 × (j − 1), and the next three
+pub entry-at : (ws : List ℕ) (j : ℕ) → 1 ≤ j → 4 + (layout ws) .benches + 4 * j ≤ length ws → nth ((layout ws) .entries) j vacant ≡ entryFrom ws ((layout ws) .benches + 4 * j)
+unfolding layout
+entry-at ws zero l h = absurd (omega arith)
+entry-at ws (suc i) l h =
+    let b = getD ws 0 0 in
+    let e : 4 + b + 4 * i ≡ b + 4 * suc i = omega arith in
+    entriesIn-at (drop (4 + b) ws) i (omega (arith, length-drop (4 + b) ws)) ∙ entryFrom-drop (4 + b) ws (4 * i) ∙ ap (entryFrom ws) e
+
+-- sizes that fit
+
+-- the five tests of a conjunction, one by one
+five : (a b c d e : Bool) → T (a && b && c && d && e) → T a × T b × T c × T d × T e
+five a b c d e t =
+    let t₄ = left (a && b && c && d) e t in
+    let t₃ = left (a && b && c) d t₄ in
+    let t₂ = left (a && b) c t₃ in
+    (left a b t₂, right a b t₂, right (a && b) c t₃, right (a && b && c) d t₄, right (a && b && c && d) e t)
+
+-- what it is for a byte length to fit B and J
+pub record Sized (len benches jobs : ℕ) : Type 0 where
+  pub even : len % 2 ≡ 0
+  pub long : 8 ≤ len
+  pub benches-within : T (within 1 mostBenches benches)
+  pub jobs-within : T (within 1 mostJobs jobs)
+  pub exact : len ≡ lengthFor benches jobs
+
+-- sizes that fit have this shape
+pub sized : (len benches jobs : ℕ) → T (sizesFit len benches jobs) → Sized len benches jobs
+unfolding sizesFit
+sized len benches jobs t =
+    let p = five (eqb (len % 2) 0) (leb 8 len) (within 1 mostBenches benches) (within 1 mostJobs jobs) (eqb len (lengthFor benches jobs)) t in
+    record {
+      even = T-eqb (len % 2) 0 (p .0);
+      long = T-leb 8 len (p .1);
+      benches-within = p .2;
+      jobs-within = p .3;
+      exact = T-eqb len (lengthFor benches jobs) (p .4);
+    }
+
+-- a byte length does not fit where it has no such shape
+refused : (len benches jobs : ℕ) → (Sized len benches jobs → ⊥) → sizesFit len benches jobs ≡ false
+refused len benches jobs f = not→false (sizesFit len benches jobs) (not-T (sizesFit len benches jobs) (λ t. f (sized len benches jobs t)))
+
+-- an odd length does not fit, whatever B and J
+pub odd-refused : (len benches jobs : ℕ) → len % 2 ≡ 1 → sizesFit len benches jobs ≡ false
+odd-refused len benches jobs h = refused len benches jobs (λ s. omega arith)
+
+-- a length below 8 does not fit, whatever B and J
+pub short-refused : (len benches jobs : ℕ) → len < 8 → sizesFit len benches jobs ≡ false
+short-refused len benches jobs h = refused len benches jobs (λ s. omega arith)
+
+-- a table that fits, by the sizes that its words 0 and 1 give
+pub fits-sized : (t : List ℕ) → T (fits t) → Sized (length t) ((layout (words t)) .benches) ((layout (words t)) .jobs)
+unfolding fits layout
+fits-sized t f = sized (length t) (getD (words t) 0 0) (getD (words t) 1 0) f
+
+-- a table that fits has the byte length of its B and J
+pub fits-length : (t : List ℕ) → T (fits t) → length t ≡ lengthFor ((layout (words t)) .benches) ((layout (words t)) .jobs)
+fits-length t f = (fits-sized t f) .exact
+
+-- a table that fits has a head for each bench
+pub fits-heads : (t : List ℕ) → T (fits t) → length ((layout (words t)) .heads) ≡ (layout (words t)) .benches
+unfolding layout
+fits-heads t f = omega (arith, fits-length t f, length-words t, length-take (getD (words t) 0 0) (drop 4 (words t)), length-drop 4 (words t))
+
+-- a table that fits has a record for each job number
+pub fits-entries : (t : List ℕ) → T (fits t) → length ((layout (words t)) .entries) ≡ (layout (words t)) .jobs
+unfolding layout
+fits-entries t f =
+    let b = getD (words t) 0 0 in
+    entriesIn-length (getD (words t) 1 0) (drop (4 + b) (words t)) (omega (arith, fits-length t f, length-words t, length-drop (4 + b) (words t)))
+
+-- the clauses of the sound table
+
+-- an element of a list stands in it under some number
+numbered-in : {A : Type 0} (n : ℕ) (a : A) (l : List A) → In a l → (i : ℕ) × In (i, a) (numbered n l)
+numbered-in n a [] i = absurd i
+numbered-in n a (x ∷ l) (inl e) = (n, inl (λ k. (n, e k)))
+numbered-in n a (x ∷ l) (inr i) = let r = numbered-in (suc n) a l i in (r .0, inr (r .1))
+
+-- a filled record stands among the numbered ones under its own number
+filled-in : (n : ℕ) (es : List Entry) (i : ℕ) → T (filled (getD es i vacant)) → In (n + i, getD es i vacant) (numbered n es)
+filled-in n [] i t = absurd t
+filled-in n (e ∷ es) zero t = inl (λ k. (add-zero n k, e))
+filled-in n (e ∷ es) (suc i) t =
+    let p : suc n + i ≡ n + suc i = omega arith in
+    inr (subst (λ (j : ℕ). In (j, getD es i vacant) (numbered (suc n) es)) p (filled-in (suc n) es i t))
+
+-- a filled record's number is one of 1 to J
+filled-within : (es : List Entry) (j : ℕ) → T (filled (nth es j vacant)) → (1 ≤ j) × (j ≤ length es)
+filled-within es zero t = absurd t
+filled-within [] (suc i) t = absurd t
+filled-within (e ∷ es) (suc zero) t = omega arith
+filled-within (e ∷ es) (suc (suc i)) t = omega (arith, filled-within es (suc i) t)
+
+-- the clauses of the sound table after its sizes, for each record and each chain
+pub record Formed (l : Layout) : Type 0 where
+  pub entry : (e : Entry) → In e (l .entries) → T (filled e) → T (entryFits (l .benches) e)
+  pub place : (j : ℕ) → T (filled (nth (l .entries) j vacant)) → T (placed (chains l) j (holderIn (nth (l .entries) j vacant)))
+  pub only : (c : List ℕ) → In c (chains l) → (j : ℕ) → In j c → T (filled (nth (l .entries) j vacant))
+  pub standing : (l .standing) ≡ length (standingIn (l .entries))
+  pub spare : (l .spare) ≡ 0
+
+-- a layout that passes the tests has these clauses
+pub formed-is : (l : Layout) → T (formed l) → Formed l
+unfolding formed
+formed-is l t =
+    record {
+      entry = λ e i f. let r = numbered-in 1 e es i in all-in fit (r .0, e) (standingIn es) (p .0) (in-keep full (r .0, e) (numbered 1 es) (r .1) f);
+      place = here;
+      only = λ c i j k. all-in (λ j. filled (nth es j vacant)) j c (all-in (onlyStanding es) c (chains l) (p .2) i) k;
+      standing = T-eqb (l .standing) (length (standingIn es)) (p .3);
+      spare = T-eqb (l .spare) 0 (p .4);
+    }
+  where
+    es : List Entry
+    es = l .entries
+
+    full : ℕ × Entry → Bool
+    full s = filled (s .1)
+
+    fit : ℕ × Entry → Bool
+    fit s = entryFits (l .benches) (s .1)
+
+    put : ℕ × Entry → Bool
+    put s = placed (chains l) (s .0) (holderIn (s .1))
+
+    p : T (all fit (standingIn es)) × T (all put (standingIn es)) × T (all (onlyStanding es) (chains l)) × T (eqb (l .standing) (length (standingIn es))) × T (eqb (l .spare) 0)
+    p = five (all fit (standingIn es)) (all put (standingIn es)) (all (onlyStanding es) (chains l)) (eqb (l .standing) (length (standingIn es))) (eqb (l .spare) 0) t
+
+    here : (j : ℕ) → T (filled (nth es j vacant)) → T (placed (chains l) j (holderIn (nth es j vacant)))
+    here zero f = absurd f
+    here (suc i) f =
+        let q : 1 + i ≡ suc i = omega arith in
+        let s : ℕ × Entry = (suc i, getD es i vacant) in
+        let m : In s (numbered 1 es) = subst (λ (j : ℕ). In (j, getD es i vacant) (numbered 1 es)) q (filled-in 1 es i f) in
+        all-in put s (standingIn es) (p .1) (in-keep full s (numbered 1 es) m f)
+
+-- a sound table fits
+pub sound-fits : (t : List ℕ) → T (sound t) → T (fits t)
+unfolding sound
+sound-fits t s = left (fits t) (formed (layout (words t))) s
+
+-- a sound table has the clauses after its sizes
+pub sound-formed : (t : List ℕ) → T (sound t) → Formed (layout (words t))
+unfolding sound
+sound-formed t s = formed-is (layout (words t)) (right (fits t) (formed (layout (words t))) s)
+
+-- the board of a sound table
+
+getD-in : (l : List ℕ) (i d : ℕ) → i < length l → In (getD l i d) l
+getD-in [] i d h = absurd (omega arith)
+getD-in (x ∷ l) zero d h = inl refl
+getD-in (x ∷ l) (suc i) d h = inr (getD-in l i d (omega arith))
+
+each-map : {A B : Type 0} (P : B → Type 0) (f : A → B) (l : List A) → ((a : A) → In a l → P (f a)) → Each P (map f l)
+each-map P f [] g = tt
+each-map P f (x ∷ l) g = (g x (inl refl), each-map P f l (λ a i. g a (inr i)))
+
+entriesIn-pairs : (ws : List ℕ) → Each (λ (e : Entry). length (e .names) ≡ 2) (entriesIn ws)
+entriesIn-pairs [] = tt
+entriesIn-pairs (a ∷ []) = tt
+entriesIn-pairs (a ∷ b ∷ []) = tt
+entriesIn-pairs (a ∷ b ∷ h ∷ []) = tt
+entriesIn-pairs (a ∷ b ∷ h ∷ n ∷ ws) = (refl, entriesIn-pairs ws)
+
+-- the benches that a record names on the board
+abbrev namesIn : Entry → List ℕ
+namesIn e = cond (filled e) (e .names) []
+
+-- what the board asks of a job's names and holder
+record Job (benches : ℕ) (names : List ℕ) (h : ℕ) : Type 0 where
+  fit : T (namesFit benches names)
+  held : T (mayHold names h)
+  pair : T (empty names || eqb (length names) 2)
+
+-- the holder word 1 or 2 tells a bench that the job names
+told : (names : List ℕ) (p : ℕ) → T (within 1 (length names) p) → T (mayHold names (nth names p 0))
+told [] p t = absurd (omega (arith, within-low 1 0 p t, within-high 1 0 p t))
+told (x ∷ l) zero t = absurd t
+told (x ∷ l) (suc i) t = in-member (getD (x ∷ l) i 0) (x ∷ l) (getD-in (x ∷ l) i 0 (within-high 1 (length (x ∷ l)) (suc i) t))
+
+-- a record that is not a standing job's is no job on the board
+not-held : (e : Entry) → filled e ≡ false → holderIn e ≡ 0
+not-held e q =
+    let a = all (λ w. eqb w 0) (e .names) in
+    let t = not-not (a && eqb (e .holder) 0 && eqb (e .next) 0) q in
+    ap (λ (p : ℕ). nth (e .names) p 0) (T-eqb (e .holder) 0 (right a (eqb (e .holder) 0) (left (a && eqb (e .holder) 0) (eqb (e .next) 0) t)))
+  where
+    not-not : (a : Bool) → not a ≡ false → T a
+    not-not true q = tt
+    not-not false q = subst T q tt
+
+entry-job : (benches : ℕ) (e : Entry) → length (e .names) ≡ 2 → (T (filled e) → T (entryFits benches e)) → Job benches (namesIn e) (holderIn e)
+entry-job benches e two fits = go (filled e) refl
+  where
+    fit : Bool
+    fit = namesFit benches (e .names)
+
+    may : Bool
+    may = within 1 (length (e .names)) (e .holder)
+
+    go : (z : Bool) → filled e ≡ z → Job benches (cond z (e .names) []) (holderIn e)
+    go true q =
+        let t = fits (true→T (filled e) q) in
+        record {
+          fit = left fit may t;
+          held = told (e .names) (e .holder) (right fit may t);
+          pair = or-right (empty (e .names)) (eqb (length (e .names)) 2) (eqb-T (length (e .names)) 2 two);
+        }
+    go false q = record { fit = tt; held = eqb-T (holderIn e) 0 (not-held e q); pair = tt }
+
+shared : (es : List Entry) → ((e : Entry) → In e es → T (mayHold (namesIn e) (holderIn e))) → Shares (map namesIn es) (map holderIn es)
+shared [] g = tt
+shared (e ∷ es) g = (g e (inl refl), shared es (λ a i. g a (inr i)))
+
+layout-pairs : (ws : List ℕ) → Each (λ (e : Entry). length (e .names) ≡ 2) ((layout ws) .entries)
+unfolding layout
+layout-pairs ws = entriesIn-pairs (drop (4 + getD ws 0 0) ws)
+
+-- a sound table holds a board of two-bench jobs within the limits
+pub sound-storable : (t : List ℕ) → T (sound t) → Storable (decode t)
+unfolding decode boardOf
+sound-storable t s =
+    record {
+      valid = record { names = each-map (λ n. T (namesFit (l .benches) n)) namesIn es (λ e i. (job e i) .fit); shares = shared es (λ e i. (job e i) .held) };
+      benches = size .benches-within;
+      jobs = subst (λ (n : ℕ). T (within 1 mostJobs n)) (sym (length-map es namesIn ∙ fits-entries t (sound-fits t s))) (size .jobs-within);
+      pairs = each-map (λ n. T (empty n || eqb (length n) 2)) namesIn es (λ e i. (job e i) .pair);
+    }
+  where
+    l : Layout
+    l = layout (words t)
+
+    es : List Entry
+    es = l .entries
+
+    size : Sized (length t) (l .benches) (l .jobs)
+    size = fits-sized t (sound-fits t s)
+
+    job : (e : Entry) → In e es → Job (l .benches) (namesIn e) (holderIn e)
+    job e i = entry-job (l .benches) e (each-in (λ (e : Entry). length (e .names) ≡ 2) e es (layout-pairs (words t)) i) ((sound-formed t s) .entry e i)
+
+-- chains
+
+-- where a chain from job j ends within k jobs: next 0 is met
+abbrev pub Ends : List Entry → ℕ → ℕ → Type 0
+Ends es zero zero = Unit {0}
+Ends es zero (suc i) = ⊥
+Ends es (suc k) zero = Unit {0}
+Ends es (suc k) (suc i) = Ends es k ((nth es (suc i) vacant) .next)
+
+-- a chain that lists no more than k jobs where one more had room has come to 0
+short-ends : (es : List Entry) (k j : ℕ) → length (follow es (suc k) j) ≤ k → Ends es k j
+short-ends es zero zero h = tt
+short-ends es zero (suc i) h = omega arith
+short-ends es (suc k) zero h = tt
+short-ends es (suc k) (suc i) h = short-ends es k ((nth es (suc i) vacant) .next) (omega arith)
+
+total-le : (n : ℕ) (f g : ℕ → ℕ) → ((j : ℕ) → f j ≤ g j) → total n f ≤ total n g
+total-le zero f g h = omega arith
+total-le (suc n) f g h = omega (arith, total-le n f g h, h (suc n))
+
+total-ones : (n : ℕ) → total n (λ j. 1) ≡ n
+total-ones zero = refl
+total-ones (suc n) = omega (arith, total-ones n)
+
+-- one of 1 to n more in the list is one more in all
+total-more : (n y : ℕ) (f : ℕ → ℕ) → 1 ≤ y → y ≤ n → suc (total n f) ≤ total n (λ j. bit (eqb y j) + f j)
+total-more zero y f l h = absurd (omega arith)
+total-more (suc n) y f l h = go (λ d. total-more n y f l (omega arith)) (compared y (suc n))
+  where
+    g : ℕ → ℕ
+    g j = bit (eqb y j) + f j
+
+    go : ((y ≡ suc n → ⊥) → suc (total n f) ≤ total n g) → {b : Bool} → Compared y (suc n) b → suc (total (suc n) f) ≤ total n g + (bit b + f (suc n))
+    go ih (same e) = omega (arith, total-le n f g (λ j. omega arith))
+    go ih (other d) = omega (arith, ih d)
+
+-- a list of numbers of 1 to n, none twice, has no more than n
+few : (n : ℕ) (l : List ℕ) → ((j : ℕ) → count j l ≤ 1) → Each (λ j. (1 ≤ j) × (j ≤ n)) l → length l ≤ n
+few n l once each = omega (arith, counted l each, total-le n (λ j. count j l) (λ j. 1) once, total-ones n)
+  where
+    counted : (l : List ℕ) → Each (λ j. (1 ≤ j) × (j ≤ n)) l → length l ≤ total n (λ j. count j l)
+    counted [] e = omega arith
+    counted (y ∷ l) e = omega (arith, counted l (e .1), total-more n y (λ j. count j l) (e .0 .0) (e .0 .1))
+
+count-none : (j : ℕ) (l : List ℕ) → (In j l → ⊥) → count j l ≡ 0
+count-none j [] f = refl
+count-none j (y ∷ l) f = omega (arith, bit-other y j (λ e. f (inl (sym e))), count-none j l (λ i. f (inr i)))
+
+-- a sound table's chains all end, after at most J jobs: a chain that returns to itself is found unsound
+pub chain-ends : (t : List ℕ) → T (sound t) → (h : ℕ) → In h ((layout (words t)) .heads) → Ends ((layout (words t)) .entries) ((layout (words t)) .jobs) h
+chain-ends t s h i = short-ends es (l .jobs) h (few (l .jobs) c (λ j. once j (member j c) refl) (in-each (λ j. (1 ≤ j) × (j ≤ l .jobs)) c inside))
+  where
+    l : Layout
+    l = layout (words t)
+
+    es : List Entry
+    es = l .entries
+
+    c : List ℕ
+    c = follow es (suc (l .jobs)) h
+
+    on : In c (chains l)
+    on = in-map (follow es (suc (l .jobs))) h (l .heads) i
+
+    stands : (j : ℕ) → In j c → T (filled (nth es j vacant))
+    stands j k = (sound-formed t s) .only c on j k
+
+    inside : (j : ℕ) → In j c → (1 ≤ j) × (j ≤ l .jobs)
+    inside j k = omega (arith, filled-within es j (stands j k), fits-entries t (sound-fits t s))
+
+    once : (j : ℕ) (z : Bool) → member j c ≡ z → count j c ≤ 1
+    once j true q =
+        let f = stands j (member-in j c (true→T (member j c) q)) in
+        let r = numbered-in 1 c (chains l) on in
+        let x = holderIn (nth es j vacant) in
+        let p = all-in (λ (d : ℕ × List ℕ). eqb (count j (d .1)) (bit (eqb (d .0) x))) (r .0, c) (numbered 1 (chains l)) ((sound-formed t s) .place j f) (r .1) in
+        omega (arith, T-eqb (count j c) (bit (eqb (r .0) x)) p, bit-le (eqb (r .0) x))
+    once j false q = omega (arith, count-none j c (λ k. subst T q (in-member j c k)))

@@ -1,0 +1,223 @@
+-- Words and bytes: what is written reads back, a board's words fit its table, and a blanked table is the board without jobs.
+use Prim.Native.Nat.{ℕ, zero, suc, _+_, _*_, _/_, _%_, _≤_, _<_}
+use native.Mathlib.Omega.{arith}
+use mathlib.Core.Path.{_≡_, refl, ap, _∙_}
+use mathlib.Core.Bool.{Bool, true, false, cond, not, _&&_, _||_}
+use mathlib.Core.List.{List, [], _∷_, _++_, map, flatMap}
+use lib.Dec.{T, eqb, leb}
+use lib.ListN.{length, take, drop, replicate, length-append, length-map, length-replicate, replicate-append-replicate}
+use lib.Seq.{take-at, drop-at}
+use borrow.Author.Tests.{ne-eqb}
+use Rattle.rules.specs.Lists.{within, rising, keep, all, different, Each, empty}
+use Rattle.rules.specs.Board.{Board, Shares, namesFit}
+use Rattle.rules.specs.Table.{words, bytesOf, mostBenches, mostJobs, lengthFor, sizesFit, Entry, Layout, entriesIn, layout, fits, firstHeld, placeOf, entryFor, entriesFrom, layoutOf, entryWords, flat, encode, blankTable, Storable}
+use Rattle.rules.proofs.Basics.{both, left, T-eqb, eqb-T, leb-T, within-high, all-in, in-each}
+
+-- words and bytes
+
+-- bytes of words below 65,536 read back as the same words
+pub words-bytesOf : (ws : List ℕ) → Each (λ w. w < 65536) ws → words (bytesOf ws) ≡ ws
+words-bytesOf [] s = refl
+words-bytesOf (w ∷ ws) s = let e : w % 256 + 256 * (w / 256 % 256) ≡ w = omega arith in rw (e, words-bytesOf ws (s .1))
+
+-- two bytes are written for each word
+pub length-bytesOf : (ws : List ℕ) → length (bytesOf ws) ≡ 2 * length ws
+length-bytesOf [] = refl
+length-bytesOf (w ∷ ws) = omega (arith, length-bytesOf ws)
+
+-- every byte that is written is a byte
+pub bytesOf-bytes : (ws : List ℕ) → Each (λ y. y < 256) (bytesOf ws)
+bytesOf-bytes [] = tt
+bytesOf-bytes (w ∷ ws) = (omega arith, (omega arith, bytesOf-bytes ws))
+
+-- layouts
+
+-- a layout that a table of its sizes has room for: a head for each bench, two names in each record
+pub record LaidOut (l : Layout) : Type 0 where
+  pub heads : length (l .heads) ≡ l .benches
+  pub entries : Each (λ e. length (e .names) ≡ 2) (l .entries)
+
+-- the words of a record with two names read back as that record
+entriesIn-entry : (e : Entry) (ws : List ℕ) → length (e .names) ≡ 2 → entriesIn (entryWords e ++ ws) ≡ e ∷ entriesIn ws
+entriesIn-entry e ws = go (e .names)
+  where
+    go : (names : List ℕ) → length names ≡ 2 → entriesIn (names ++ (e .holder ∷ e .next ∷ []) ++ ws) ≡ record { names = names; holder = e .holder; next = e .next } ∷ entriesIn ws
+    go [] p = absurd (omega arith)
+    go (a ∷ []) p = absurd (omega arith)
+    go (a ∷ b ∷ []) p = refl
+    go (a ∷ b ∷ c ∷ names) p = absurd (omega arith)
+
+-- the words of records with two names each read back as the same records
+entriesIn-words : (es : List Entry) → Each (λ e. length (e .names) ≡ 2) es → entriesIn (flatMap entryWords es) ≡ es
+unfolding flatMap
+entriesIn-words [] p = refl
+entriesIn-words (e ∷ es) p = rw (entriesIn-entry e (flatMap entryWords es) (p .0), entriesIn-words es (p .1))
+
+-- records with two names have four words each
+length-entryWords : (es : List Entry) → Each (λ e. length (e .names) ≡ 2) es → length (flatMap entryWords es) ≡ 4 * length es
+unfolding flatMap
+length-entryWords [] p = refl
+length-entryWords (e ∷ es) p =
+    omega (arith, length-entryWords es (p .1), length-append (entryWords e) (flatMap entryWords es), length-append (e .names) (e .holder ∷ e .next ∷ []))
+
+-- the words of a layout read back as the same layout
+pub layout-flat : (l : Layout) → LaidOut l → layout (flat l) ≡ l
+unfolding layout flat
+layout-flat l r = λ i. record { benches = l .benches; jobs = l .jobs; standing = l .standing; spare = l .spare; heads = heads i; entries = entries i }
+  where
+    front : List ℕ
+    front = l .benches ∷ l .jobs ∷ l .standing ∷ l .spare ∷ l .heads
+
+    records : List ℕ
+    records = flatMap entryWords (l .entries)
+
+    heads : take (l .benches) (l .heads ++ records) ≡ l .heads
+    heads = take-at (l .heads) records (l .benches) (r .heads)
+
+    entries : entriesIn (drop (4 + l .benches) (front ++ records)) ≡ l .entries
+    entries = rw (drop-at front records (4 + l .benches) (omega arith)) (entriesIn-words (l .entries) (r .entries))
+
+-- a layout has "4 + B + 4 × J words"
+pub length-flat : (l : Layout) → LaidOut l → length (flat l) ≡ 4 + l .benches + 4 * length (l .entries)
+unfolding flat
+length-flat l r = omega (arith, length-entryWords (l .entries) (r .entries), length-append (l .heads) (flatMap entryWords (l .entries)))
+
+-- the layout of a board
+
+-- a board's layout has one record for each job number
+pub length-entries : (i : ℕ) (named : List (List ℕ)) (holders : List ℕ) → Shares named holders → length (entriesFrom i named holders) ≡ length named
+length-entries i [] holders s = refl
+length-entries i (names ∷ named) [] s = absurd s
+length-entries i (names ∷ named) (h ∷ holders) s = ap suc (length-entries (suc i) named holders (s .1))
+
+-- there are as many holders as job numbers
+length-shares : (named : List (List ℕ)) (holders : List ℕ) → Shares named holders → length holders ≡ length named
+length-shares [] [] s = refl
+length-shares [] (h ∷ holders) s = absurd s
+length-shares (names ∷ named) [] s = absurd s
+length-shares (names ∷ named) (h ∷ holders) s = ap suc (length-shares named holders (s .1))
+
+length-rising : (i n : ℕ) → length (rising i n) ≡ n
+length-rising i zero = refl
+length-rising i (suc n) = ap suc (length-rising (suc i) n)
+
+-- the records have two names each
+entries-two : (i : ℕ) (named : List (List ℕ)) (holders : List ℕ) → Each (λ names. T (empty names || eqb (length names) 2)) named → Each (λ e. length (e .names) ≡ 2) (entriesFrom i named holders)
+entries-two i [] holders p = tt
+entries-two i (names ∷ named) [] p = tt
+entries-two i ([] ∷ named) (h ∷ holders) p = (refl, entries-two (suc i) named holders (p .1))
+entries-two i ((x ∷ names) ∷ named) (h ∷ holders) p = (T-eqb (length (x ∷ names)) 2 (p .0), entries-two (suc i) named holders (p .1))
+
+-- a table of the board's sizes has room for its layout
+pub laidOut : (b : Board) → Storable b → LaidOut (layoutOf b)
+unfolding layoutOf
+laidOut b s =
+    record {
+      heads = length-map (rising 1 (b .benches)) (λ x. firstHeld 1 x (b .holders)) ∙ length-rising 1 (b .benches);
+      entries = entries-two 1 (b .named) (b .holders) (s .pairs);
+    }
+
+-- small words
+
+cond-le : (z : Bool) (x y n : ℕ) → x ≤ n → y ≤ n → cond z x y ≤ n
+cond-le true x y n p q = p
+cond-le false x y n p q = q
+
+-- the first job that a bench holds is not after the last job
+firstHeld-le : (i x : ℕ) (holders : List ℕ) → firstHeld i x holders ≤ i + length holders
+firstHeld-le i x [] = omega arith
+firstHeld-le i x (h ∷ holders) =
+    cond-le (eqb h x) i (firstHeld (suc i) x holders) (i + suc (length holders)) (omega arith) (omega (arith, firstHeld-le (suc i) x holders))
+
+-- a place is not after the end of the list
+placeOf-le : (h : ℕ) (names : List ℕ) → placeOf h names ≤ length names
+placeOf-le h [] = omega arith
+placeOf-le h (x ∷ names) = cond-le (eqb x h) 1 (suc (placeOf h names)) (suc (length names)) (omega arith) (omega (arith, placeOf-le h names))
+
+-- no more jobs stand than there are job numbers
+length-keep : (p : List ℕ → Bool) (l : List (List ℕ)) → length (keep p l) ≤ length l
+length-keep p [] = omega arith
+length-keep p (x ∷ l) = go (p x) (length-keep p l)
+  where
+    go : (z : Bool) → length (keep p l) ≤ length l → length (cond z (x ∷ keep p l) (keep p l)) ≤ suc (length l)
+    go true ih = omega arith
+    go false ih = omega arith
+
+module _ (P : ℕ → Type 0) where
+  each-append : (k l : List ℕ) → Each P k → Each P l → Each P (k ++ l)
+  each-append [] l p q = q
+  each-append (x ∷ k) l p q = (p .0, each-append k l (p .1) q)
+
+  each-map : (f : ℕ → ℕ) (l : List ℕ) → ((x : ℕ) → P (f x)) → Each P (map f l)
+  each-map f [] p = tt
+  each-map f (x ∷ l) p = (p x, each-map f l p)
+
+abbrev Small : ℕ → Type 0
+Small w = w < 65536
+
+-- no word of a record is above 65,535
+entry-small : (benches : ℕ) (names : List ℕ) (h n : ℕ) → benches ≤ 500 → n < 65536 → T (namesFit benches names) → T (empty names || eqb (length names) 2) → Each Small (entryWords (entryFor names h n))
+entry-small benches [] h n b m f p = omega arith
+entry-small benches (x ∷ l) h n b m f p =
+    let names : List ℕ = x ∷ l in
+    let fit : T (all (within 1 benches) names) = left (all (within 1 benches) names) (different names) f in
+    each-append Small names (placeOf h names ∷ n ∷ [])
+    (in-each Small names (λ w i. omega (arith, within-high 1 benches w (all-in (within 1 benches) w names fit i))))
+    (omega (arith, placeOf-le h names, T-eqb (length names) 2 p))
+
+-- nor of the records of the jobs from i on
+entries-small : (benches i : ℕ) (named : List (List ℕ)) (holders : List ℕ) → benches ≤ 500 → i + length holders < 65536 → Each (λ names. T (namesFit benches names)) named → Each (λ names. T (empty names || eqb (length names) 2)) named → Each Small (flatMap entryWords (entriesFrom i named holders))
+unfolding flatMap
+entries-small benches i [] holders b m f p = tt
+entries-small benches i (names ∷ named) [] b m f p = tt
+entries-small benches i (names ∷ named) (h ∷ holders) b m f p =
+    let next : ℕ = firstHeld (suc i) h holders in
+    each-append Small (entryWords (entryFor names h next)) (flatMap entryWords (entriesFrom (suc i) named holders))
+    (entry-small benches names h next b (omega (arith, firstHeld-le (suc i) h holders)) (f .0) (p .0))
+    (entries-small benches (suc i) named holders b (omega arith) (f .1) (p .1))
+
+-- no word of a board's layout is above 65,535
+pub layoutOf-small : (b : Board) → Storable b → Each (λ w. w < 65536) (flat (layoutOf b))
+unfolding flat layoutOf
+layoutOf-small b s =
+    let benches : b .benches ≤ 500 = within-high 1 mostBenches (b .benches) (s .benches) in
+    let jobs : length (b .named) ≤ 4000 = within-high 1 mostJobs (length (b .named)) (s .jobs) in
+    let held : length (b .holders) ≡ length (b .named) = length-shares (b .named) (b .holders) (s .valid .shares) in
+    let head : ℕ → ℕ = λ x. firstHeld 1 x (b .holders) in
+    let heads : Each Small (map head (rising 1 (b .benches))) = each-map Small head (rising 1 (b .benches)) (λ x. omega (arith, firstHeld-le 1 x (b .holders))) in
+    let records : Each Small (flatMap entryWords (entriesFrom 1 (b .named) (b .holders))) = entries-small (b .benches) 1 (b .named) (b .holders) benches (omega arith) (s .valid .names) (s .pairs) in
+    let rest = each-append Small (map head (rising 1 (b .benches))) (flatMap entryWords (entriesFrom 1 (b .named) (b .holders))) heads records in
+    (omega arith, (omega arith, (omega (arith, length-keep (λ names. not (empty names)) (b .named)), (omega arith, rest))))
+
+-- the table of a board
+
+-- an encoded board's words are the words of its layout
+words-encode : (b : Board) → Storable b → words (encode b) ≡ flat (layoutOf b)
+unfolding encode
+words-encode b s = words-bytesOf (flat (layoutOf b)) (layoutOf-small b s)
+
+-- an encoded board's words have the board's layout
+pub layout-encode : (b : Board) → Storable b → layout (words (encode b)) ≡ layoutOf b
+layout-encode b s = rw (words-encode b s) (layout-flat (layoutOf b) (laidOut b s))
+
+-- an encoded board has the length that belongs to its sizes
+length-encode : (b : Board) → Storable b → length (encode b) ≡ lengthFor (b .benches) (length (b .named))
+unfolding encode layoutOf
+length-encode b s =
+    omega (arith, length-bytesOf (flat (layoutOf b)), length-flat (layoutOf b) (laidOut b s), length-entries 1 (b .named) (b .holders) (s .valid .shares))
+
+-- sizes within the limits, and the length that belongs to them
+sizes-fit : (benches jobs : ℕ) → T (within 1 mostBenches benches) → T (within 1 mostJobs jobs) → T (sizesFit (lengthFor benches jobs) benches jobs)
+unfolding sizesFit
+sizes-fit benches jobs b j =
+    let len : ℕ = lengthFor benches jobs in
+    let even : Bool = eqb (len % 2) 0 in
+    let p : T (even && leb 8 len) = both even (leb 8 len) (eqb-T (len % 2) 0 (omega arith)) (leb-T 8 len (omega arith)) in
+    let q = both (even && leb 8 len) (within 1 mostBenches benches) p b in
+    let r = both (even && leb 8 len && within 1 mostBenches benches) (within 1 mostJobs jobs) q j in
+    both (even && leb 8 len && within 1 mostBenches benches && within 1 mostJobs jobs) (eqb len len) r (eqb-T len len refl)
+
+-- an encoded board's sizes fit
+pub fits-encode : (b : Board) → Storable b → T (fits (encode b))
+unfolding fits flat layoutOf
+fits-encode b s = rw (words-encode b s, length-encode b s) (sizes-fit (b .benches) (length (b .named)) (s .benches) (s .jobs))
