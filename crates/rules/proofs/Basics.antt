@@ -5,9 +5,10 @@ use mathlib.Core.Path.{_≡_, refl, sym, ap, subst}
 use mathlib.Core.Logic.{_⊎_, inl, inr, _≢_}
 use mathlib.Core.Bool.{Bool, true, false, cond, not, _&&_, _||_}
 use mathlib.Core.List.{List, [], _∷_, _++_, map, flatMap}
-use lib.Dec.{T, eqb, leb, ltb}
+use lib.Dec.{T, T-not, not-T, eqb, leb, ltb}
+use lib.ListN.{length, getD}
 use borrow.Author.Tests.{eqb-true, eqb-false, eq-eqb, ne-eqb, leb-true, le-leb}
-use Rattle.rules.specs.Lists.{bit, within, count, member, rising, keep, all, Each, In}
+use Rattle.rules.specs.Lists.{within, member, different, rising, keep, all, Each, In, empty, nth, numbered}
 
 -- tests
 
@@ -86,18 +87,6 @@ within-high lo hi x t = T-leb x hi (right (leb lo x) (leb x hi) t)
 pub within-both : (lo hi x : ℕ) → lo ≤ x → x ≤ hi → T (within lo hi x)
 within-both lo hi x l h = both (leb lo x) (leb x hi) (leb-T lo x l) (leb-T x hi h)
 
--- bits
-
-pub bit-same : (x y : ℕ) → x ≡ y → bit (eqb x y) ≡ 1
-bit-same x y e = ap bit (eq-eqb x y e)
-
-pub bit-other : (x y : ℕ) → (x ≡ y → ⊥) → bit (eqb x y) ≡ 0
-bit-other x y d = ap bit (ne-eqb x y d)
-
-pub bit-le : (b : Bool) → bit b ≤ 1
-bit-le true = omega arith
-bit-le false = omega arith
-
 -- elements
 
 module _ {A : Type 0} where
@@ -159,6 +148,47 @@ module _ {A : Type 0} where
   in-each P [] f = tt
   in-each P (x ∷ l) f = (f x (inl refl), in-each P l (λ a i. f a (inr i)))
 
+  -- an empty list has no element, and a list without elements is empty
+  pub empty-in : (a : A) (l : List A) → T (empty l) → In a l → ⊥
+  empty-in a [] t i = i
+  empty-in a (x ∷ l) t i = t
+
+  pub in-empty : (l : List A) → ((a : A) → In a l → ⊥) → T (empty l)
+  in-empty [] f = tt
+  in-empty (x ∷ l) f = f x (inl refl)
+
+  pub each-append : (P : A → Type 0) (k l : List A) → Each P k → Each P l → Each P (k ++ l)
+  each-append P [] l p q = q
+  each-append P (x ∷ k) l p q = (p .0, each-append P k l (p .1) q)
+
+  pub each-getD : (P : A → Type 0) (l : List A) (i : ℕ) (d : A) → P d → Each P l → P (getD l i d)
+  each-getD P [] i d p e = p
+  each-getD P (x ∷ l) zero d p e = e .0
+  each-getD P (x ∷ l) (suc i) d p e = each-getD P l i d p (e .1)
+
+  pub each-nth : (P : A → Type 0) (l : List A) (j : ℕ) (d : A) → P d → Each P l → P (nth l j d)
+  each-nth P l zero d p e = p
+  each-nth P l (suc i) d p e = each-getD P l i d p e
+
+  pub in-getD : (l : List A) (i : ℕ) (d : A) → i < length l → In (getD l i d) l
+  in-getD [] i d h = absurd (omega arith)
+  in-getD (x ∷ l) zero d h = inl refl
+  in-getD (x ∷ l) (suc i) d h = inr (in-getD l i d (omega arith))
+
+  -- an element stands in the numbered list under some number
+  pub in-numbered : (n : ℕ) (a : A) (l : List A) → In a l → (i : ℕ) × In (i, a) (numbered n l)
+  in-numbered n a [] i = absurd i
+  in-numbered n a (x ∷ l) (inl e) = (n, inl (λ k. (n, e k)))
+  in-numbered n a (x ∷ l) (inr i) = let r = in-numbered (suc n) a l i in (r .0, inr (r .1))
+
+  pub length-keep : (p : A → Bool) (l : List A) → length (keep p l) ≤ length l
+  length-keep p [] = omega arith
+  length-keep p (x ∷ l) = go (p x) (length-keep p l)
+    where
+      go : (z : Bool) → length (keep p l) ≤ length l → length (cond z (x ∷ keep p l) (keep p l)) ≤ suc (length l)
+      go true ih = omega arith
+      go false ih = omega arith
+
 module _ {A B : Type 0} where
   pub in-map : (f : A → B) (a : A) (l : List A) → In a l → In (f a) (map f l)
   in-map f a [] i = absurd i
@@ -169,6 +199,10 @@ module _ {A B : Type 0} where
   map-in f b [] i = absurd i
   map-in f b (x ∷ l) (inl e) = (x, inl refl, e)
   map-in f b (x ∷ l) (inr i) = let r = map-in f b l i in (r .0, inr (r .1), r .2)
+
+  pub each-map : (P : B → Type 0) (f : A → B) (l : List A) → ((a : A) → In a l → P (f a)) → Each P (map f l)
+  each-map P f [] g = tt
+  each-map P f (x ∷ l) g = (g x (inl refl), each-map P f l (λ a i. g a (inr i)))
 
   pub in-flatMap : (f : A → List B) (b : B) (a : A) (l : List A) → In a l → In b (f a) → In b (flatMap f l)
   unfolding flatMap
@@ -217,3 +251,19 @@ pub rising-high : (x i n : ℕ) → In x (rising i n) → x < i + n
 rising-high x i zero j = absurd j
 rising-high x i (suc n) (inl e) = omega arith
 rising-high x i (suc n) (inr j) = let h = rising-high x (suc i) n j in omega arith
+
+pub length-rising : (i n : ℕ) → length (rising i n) ≡ n
+length-rising i zero = refl
+length-rising i (suc n) = ap suc (length-rising (suc i) n)
+
+pub not-member : (x : ℕ) (l : List ℕ) → (In x l → ⊥) → T (not (member x l))
+not-member x l f = not-T (member x l) (λ t. f (member-in x l t))
+
+pub member-not : (x : ℕ) (l : List ℕ) → T (not (member x l)) → In x l → ⊥
+member-not x l t i = T-not (member x l) t (in-member x l i)
+
+pub different-head : (x : ℕ) (l : List ℕ) → T (different (x ∷ l)) → In x l → ⊥
+different-head x l t = member-not x l (left (not (member x l)) (different l) t)
+
+pub different-tail : (x : ℕ) (l : List ℕ) → T (different (x ∷ l)) → T (different l)
+different-tail x l t = right (not (member x l)) (different l) t

@@ -15,7 +15,8 @@ use borrow.Author.Tests.{eq-eqb, ne-eqb}
 use Rattle.rules.specs.Lists.{bit, within, count, different, rising, keep, all, Each, In, empty, nth, numbered}
 use Rattle.rules.specs.Board.{Board, Valid, mayHold, Shares, namesFit}
 use Rattle.rules.specs.Table.{Entry, vacant, filled, holderIn, follow, chains, standingIn, entryFits, placed, onlyStanding, formed, boardOf, firstHeld, placeOf, entryFor, entriesFrom, layoutOf}
-use Rattle.rules.proofs.Basics.{both, left, Compared, same, other, compared, T-eqb, eqb-T, within-low, within-both, bit-same, bit-other, keep-in, in-all, map-in, member-in, rising-low, true→T}
+use Rattle.rules.proofs.Counting.{bit-same, bit-other}
+use Rattle.rules.proofs.Basics.{both, left, Compared, same, other, compared, T-eqb, eqb-T, within-low, within-both, keep-in, in-all, map-in, member-in, rising-low, true→T}
 
 -- the jobs from number i on that bench x holds, rising
 abbrev pub heldBy : ℕ → ℕ → List ℕ → List ℕ

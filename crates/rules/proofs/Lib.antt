@@ -1,5 +1,6 @@
 -- What is proved of the rules.
 pub mod Basics
+pub mod Counting
 pub mod Boards
 pub mod Refusals
 pub mod Words
@@ -7,3 +8,4 @@ pub mod Sound
 pub mod Layouts
 pub mod Encode
 pub mod Blanking
+pub mod Paths

@@ -87,6 +87,7 @@ refused-by c t r e = go (firstHolding cs) refl e
   where
     cs : List Condition
     cs = formConditions t ++ conditions c (decode t)
+
     go : (o : Option Refusal) → firstHolding cs ≡ o → (settled o t (lentList c) (accepted c t (decode t))) .answer ≡ refused r → RefusedBy r c t
     go none f d = absurd (false≢true (sym (accepted-answers c t (decode t)) ∙ ap isRefused d))
     go (some s) f d =
@@ -100,6 +101,7 @@ accepted-by c t e = go (firstHolding cs) refl e
   where
     cs : List Condition
     cs = formConditions t ++ conditions c (decode t)
+
     go : (o : Option Refusal) → firstHolding cs ≡ o → isRefused ((settled o t (lentList c) (accepted c t (decode t))) .answer) ≡ false → Each (λ k. k .holds ≡ false) cs × (outcome c t ≡ accepted c t (decode t))
     go none f d = (none-holds cs f, ap (λ o. settled o t (lentList c) (accepted c t (decode t))) f)
     go (some s) f d = absurd (false≢true (sym d))
@@ -129,6 +131,7 @@ question-leaves c t q = go (firstHolding (formConditions t ++ conditions c (deco
     asked (tightSetOf h list) p = refl
     asked formCheck p = refl
     asked levelCheck p = refl
+
     go : (o : Option Refusal) → (settled o t (lentList c) (accepted c t (decode t))) .table ≡ t
     go none = asked c q
     go (some s) = refl

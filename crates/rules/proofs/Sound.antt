@@ -9,10 +9,11 @@ use mathlib.Core.List.{List, [], _∷_, map}
 use lib.Dec.{T, eqb, leb, not-T}
 use lib.ListN.{length, getD, drop, length-take, length-drop, length-map}
 use lib.Seq.{getD-take, getD-drop}
-use Rattle.rules.specs.Lists.{bit, within, count, member, total, all, Each, In, empty, nth, numbered}
+use Rattle.rules.specs.Lists.{bit, within, count, member, all, Each, In, empty, nth, numbered}
 use Rattle.rules.specs.Board.{Shares, mayHold, namesFit}
 use Rattle.rules.specs.Table.{words, lengthFor, mostBenches, mostJobs, sizesFit, Entry, vacant, filled, holderIn, Layout, entriesIn, layout, follow, chains, standingIn, entryFits, placed, onlyStanding, formed, fits, sound, boardOf, decode, Storable}
-use Rattle.rules.proofs.Basics.{true→T, not→false, left, right, or-right, T-eqb, eqb-T, T-leb, Compared, same, other, compared, bit-other, bit-le, within-low, within-high, in-map, in-keep, all-in, each-in, in-each, member-in, in-member}
+use Rattle.rules.proofs.Basics.{true→T, not→false, left, right, or-right, T-eqb, eqb-T, T-leb, within-low, within-high, within-both, in-map, in-keep, all-in, each-in, in-each, each-map, in-getD, in-numbered, member-in, in-member}
+use Rattle.rules.proofs.Counting.{bit-le, count-none, few}
 
 -- the table's places
 
@@ -140,12 +141,6 @@ fits-entries t f =
 
 -- the clauses of the sound table
 
--- an element of a list stands in it under some number
-numbered-in : {A : Type 0} (n : ℕ) (a : A) (l : List A) → In a l → (i : ℕ) × In (i, a) (numbered n l)
-numbered-in n a [] i = absurd i
-numbered-in n a (x ∷ l) (inl e) = (n, inl (λ k. (n, e k)))
-numbered-in n a (x ∷ l) (inr i) = let r = numbered-in (suc n) a l i in (r .0, inr (r .1))
-
 -- a filled record stands among the numbered ones under its own number
 filled-in : (n : ℕ) (es : List Entry) (i : ℕ) → T (filled (getD es i vacant)) → In (n + i, getD es i vacant) (numbered n es)
 filled-in n [] i t = absurd t
@@ -174,7 +169,7 @@ pub formed-is : (l : Layout) → T (formed l) → Formed l
 unfolding formed
 formed-is l t =
     record {
-      entry = λ e i f. let r = numbered-in 1 e es i in all-in fit (r .0, e) (standingIn es) (p .0) (in-keep full (r .0, e) (numbered 1 es) (r .1) f);
+      entry = λ e i f. let r = in-numbered 1 e es i in all-in fit (r .0, e) (standingIn es) (p .0) (in-keep full (r .0, e) (numbered 1 es) (r .1) f);
       place = here;
       only = λ c i j k. all-in (λ j. filled (nth es j vacant)) j c (all-in (onlyStanding es) c (chains l) (p .2) i) k;
       standing = T-eqb (l .standing) (length (standingIn es)) (p .3);
@@ -216,15 +211,6 @@ sound-formed t s = formed-is (layout (words t)) (right (fits t) (formed (layout 
 
 -- the board of a sound table
 
-getD-in : (l : List ℕ) (i d : ℕ) → i < length l → In (getD l i d) l
-getD-in [] i d h = absurd (omega arith)
-getD-in (x ∷ l) zero d h = inl refl
-getD-in (x ∷ l) (suc i) d h = inr (getD-in l i d (omega arith))
-
-each-map : {A B : Type 0} (P : B → Type 0) (f : A → B) (l : List A) → ((a : A) → In a l → P (f a)) → Each P (map f l)
-each-map P f [] g = tt
-each-map P f (x ∷ l) g = (g x (inl refl), each-map P f l (λ a i. g a (inr i)))
-
 entriesIn-pairs : (ws : List ℕ) → Each (λ (e : Entry). length (e .names) ≡ 2) (entriesIn ws)
 entriesIn-pairs [] = tt
 entriesIn-pairs (a ∷ []) = tt
@@ -246,7 +232,7 @@ record Job (benches : ℕ) (names : List ℕ) (h : ℕ) : Type 0 where
 told : (names : List ℕ) (p : ℕ) → T (within 1 (length names) p) → T (mayHold names (nth names p 0))
 told [] p t = absurd (omega (arith, within-low 1 0 p t, within-high 1 0 p t))
 told (x ∷ l) zero t = absurd t
-told (x ∷ l) (suc i) t = in-member (getD (x ∷ l) i 0) (x ∷ l) (getD-in (x ∷ l) i 0 (within-high 1 (length (x ∷ l)) (suc i) t))
+told (x ∷ l) (suc i) t = in-member (getD (x ∷ l) i 0) (x ∷ l) (in-getD (x ∷ l) i 0 (within-high 1 (length (x ∷ l)) (suc i) t))
 
 -- a record that is not a standing job's is no job on the board
 not-held : (e : Entry) → filled e ≡ false → holderIn e ≡ 0
@@ -325,41 +311,9 @@ short-ends es zero (suc i) h = omega arith
 short-ends es (suc k) zero h = tt
 short-ends es (suc k) (suc i) h = short-ends es k ((nth es (suc i) vacant) .next) (omega arith)
 
-total-le : (n : ℕ) (f g : ℕ → ℕ) → ((j : ℕ) → f j ≤ g j) → total n f ≤ total n g
-total-le zero f g h = omega arith
-total-le (suc n) f g h = omega (arith, total-le n f g h, h (suc n))
-
-total-ones : (n : ℕ) → total n (λ j. 1) ≡ n
-total-ones zero = refl
-total-ones (suc n) = omega (arith, total-ones n)
-
--- one of 1 to n more in the list is one more in all
-total-more : (n y : ℕ) (f : ℕ → ℕ) → 1 ≤ y → y ≤ n → suc (total n f) ≤ total n (λ j. bit (eqb y j) + f j)
-total-more zero y f l h = absurd (omega arith)
-total-more (suc n) y f l h = go (λ d. total-more n y f l (omega arith)) (compared y (suc n))
-  where
-    g : ℕ → ℕ
-    g j = bit (eqb y j) + f j
-
-    go : ((y ≡ suc n → ⊥) → suc (total n f) ≤ total n g) → {b : Bool} → Compared y (suc n) b → suc (total (suc n) f) ≤ total n g + (bit b + f (suc n))
-    go ih (same e) = omega (arith, total-le n f g (λ j. omega arith))
-    go ih (other d) = omega (arith, ih d)
-
--- a list of numbers of 1 to n, none twice, has no more than n
-few : (n : ℕ) (l : List ℕ) → ((j : ℕ) → count j l ≤ 1) → Each (λ j. (1 ≤ j) × (j ≤ n)) l → length l ≤ n
-few n l once each = omega (arith, counted l each, total-le n (λ j. count j l) (λ j. 1) once, total-ones n)
-  where
-    counted : (l : List ℕ) → Each (λ j. (1 ≤ j) × (j ≤ n)) l → length l ≤ total n (λ j. count j l)
-    counted [] e = omega arith
-    counted (y ∷ l) e = omega (arith, counted l (e .1), total-more n y (λ j. count j l) (e .0 .0) (e .0 .1))
-
-count-none : (j : ℕ) (l : List ℕ) → (In j l → ⊥) → count j l ≡ 0
-count-none j [] f = refl
-count-none j (y ∷ l) f = omega (arith, bit-other y j (λ e. f (inl (sym e))), count-none j l (λ i. f (inr i)))
-
 -- a sound table's chains all end, after at most J jobs: a chain that returns to itself is found unsound
 pub chain-ends : (t : List ℕ) → T (sound t) → (h : ℕ) → In h ((layout (words t)) .heads) → Ends ((layout (words t)) .entries) ((layout (words t)) .jobs) h
-chain-ends t s h i = short-ends es (l .jobs) h (few (l .jobs) c (λ j. once j (member j c) refl) (in-each (λ j. (1 ≤ j) × (j ≤ l .jobs)) c inside))
+chain-ends t s h i = short-ends es (l .jobs) h (few (l .jobs) c (λ j. once j (member j c) refl) (in-each (λ j. T (within 1 (l .jobs) j)) c inside))
   where
     l : Layout
     l = layout (words t)
@@ -376,13 +330,13 @@ chain-ends t s h i = short-ends es (l .jobs) h (few (l .jobs) c (λ j. once j (m
     stands : (j : ℕ) → In j c → T (filled (nth es j vacant))
     stands j k = (sound-formed t s) .only c on j k
 
-    inside : (j : ℕ) → In j c → (1 ≤ j) × (j ≤ l .jobs)
-    inside j k = omega (arith, filled-within es j (stands j k), fits-entries t (sound-fits t s))
+    inside : (j : ℕ) → In j c → T (within 1 (l .jobs) j)
+    inside j k = let r = filled-within es j (stands j k) in within-both 1 (l .jobs) j (r .0) (omega (arith, r .1, fits-entries t (sound-fits t s)))
 
     once : (j : ℕ) (z : Bool) → member j c ≡ z → count j c ≤ 1
     once j true q =
         let f = stands j (member-in j c (true→T (member j c) q)) in
-        let r = numbered-in 1 c (chains l) on in
+        let r = in-numbered 1 c (chains l) on in
         let x = holderIn (nth es j vacant) in
         let p = all-in (λ (d : ℕ × List ℕ). eqb (count j (d .1)) (bit (eqb (d .0) x))) (r .0, c) (numbered 1 (chains l)) ((sound-formed t s) .place j f) (r .1) in
         omega (arith, T-eqb (count j c) (bit (eqb (r .0) x)) p, bit-le (eqb (r .0) x))

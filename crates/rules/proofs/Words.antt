@@ -11,7 +11,7 @@ use borrow.Author.Tests.{ne-eqb}
 use Rattle.rules.specs.Lists.{within, rising, keep, all, different, Each, empty}
 use Rattle.rules.specs.Board.{Board, Shares, namesFit}
 use Rattle.rules.specs.Table.{words, bytesOf, mostBenches, mostJobs, lengthFor, sizesFit, Entry, Layout, entriesIn, layout, fits, firstHeld, placeOf, entryFor, entriesFrom, layoutOf, entryWords, flat, encode, blankTable, Storable}
-use Rattle.rules.proofs.Basics.{both, left, T-eqb, eqb-T, leb-T, within-high, all-in, in-each}
+use Rattle.rules.proofs.Basics.{both, left, T-eqb, eqb-T, leb-T, within-high, all-in, in-each, each-append, each-map, length-keep, length-rising}
 
 -- words and bytes
 
@@ -97,10 +97,6 @@ length-shares [] (h ∷ holders) s = absurd s
 length-shares (names ∷ named) [] s = absurd s
 length-shares (names ∷ named) (h ∷ holders) s = ap suc (length-shares named holders (s .1))
 
-length-rising : (i n : ℕ) → length (rising i n) ≡ n
-length-rising i zero = refl
-length-rising i (suc n) = ap suc (length-rising (suc i) n)
-
 -- the records have two names each
 entries-two : (i : ℕ) (named : List (List ℕ)) (holders : List ℕ) → Each (λ names. T (empty names || eqb (length names) 2)) named → Each (λ e. length (e .names) ≡ 2) (entriesFrom i named holders)
 entries-two i [] holders p = tt
@@ -134,24 +130,6 @@ placeOf-le : (h : ℕ) (names : List ℕ) → placeOf h names ≤ length names
 placeOf-le h [] = omega arith
 placeOf-le h (x ∷ names) = cond-le (eqb x h) 1 (suc (placeOf h names)) (suc (length names)) (omega arith) (omega (arith, placeOf-le h names))
 
--- no more jobs stand than there are job numbers
-length-keep : (p : List ℕ → Bool) (l : List (List ℕ)) → length (keep p l) ≤ length l
-length-keep p [] = omega arith
-length-keep p (x ∷ l) = go (p x) (length-keep p l)
-  where
-    go : (z : Bool) → length (keep p l) ≤ length l → length (cond z (x ∷ keep p l) (keep p l)) ≤ suc (length l)
-    go true ih = omega arith
-    go false ih = omega arith
-
-module _ (P : ℕ → Type 0) where
-  each-append : (k l : List ℕ) → Each P k → Each P l → Each P (k ++ l)
-  each-append [] l p q = q
-  each-append (x ∷ k) l p q = (p .0, each-append k l (p .1) q)
-
-  each-map : (f : ℕ → ℕ) (l : List ℕ) → ((x : ℕ) → P (f x)) → Each P (map f l)
-  each-map f [] p = tt
-  each-map f (x ∷ l) p = (p x, each-map f l p)
-
 abbrev Small : ℕ → Type 0
 Small w = w < 65536
 
@@ -184,7 +162,7 @@ layoutOf-small b s =
     let jobs : length (b .named) ≤ 4000 = within-high 1 mostJobs (length (b .named)) (s .jobs) in
     let held : length (b .holders) ≡ length (b .named) = length-shares (b .named) (b .holders) (s .valid .shares) in
     let head : ℕ → ℕ = λ x. firstHeld 1 x (b .holders) in
-    let heads : Each Small (map head (rising 1 (b .benches))) = each-map Small head (rising 1 (b .benches)) (λ x. omega (arith, firstHeld-le 1 x (b .holders))) in
+    let heads : Each Small (map head (rising 1 (b .benches))) = each-map Small head (rising 1 (b .benches)) (λ x i. omega (arith, firstHeld-le 1 x (b .holders))) in
     let records : Each Small (flatMap entryWords (entriesFrom 1 (b .named) (b .holders))) = entries-small (b .benches) 1 (b .named) (b .holders) benches (omega arith) (s .valid .names) (s .pairs) in
     let rest = each-append Small (map head (rising 1 (b .benches))) (flatMap entryWords (entriesFrom 1 (b .named) (b .holders))) heads records in
     (omega arith, (omega arith, (omega (arith, length-keep (λ names. not (empty names)) (b .named)), (omega arith, rest))))

@@ -1,0 +1,255 @@
+-- Steps, paths and improving paths: the lists of the definitions hold exactly what they are to hold.
+use Prim.Native.Nat.{ℕ, zero, suc, _+_, _≤_}
+use native.Mathlib.Omega.{arith}
+use mathlib.Core.Path.{_≡_, refl, sym, ap, subst, _∙_}
+use mathlib.Core.Logic.{inl, inr, _≢_, _↔_}
+use mathlib.Core.Bool.{Bool, true, false, cond, not}
+use mathlib.Core.List.{List, [], _∷_, _++_, map}
+use lib.Dec.{T, eqb, T-not, not-T}
+use lib.ListN.{length, getD, length-map}
+use borrow.Author.Tests.{eq-eqb}
+use Rattle.rules.specs.Lists.{within, member, different, rising, keep, all, Each, In}
+use Rattle.rules.specs.Board.{Board, Valid, namesOf, holderOf, namesFit, Shares, mayHold, load}
+use Rattle.rules.specs.Paths.{Step, stepBy, stepsFrom, steps, Path, pathBy, last, Walk, IsPath, routes, pathsFrom, improves, improvingFrom, improving, improvingTo}
+use Rattle.rules.specs.Sharing.{level}
+use Rattle.rules.proofs.Basics.{T→true, true→T, both, left, Compared, same, other, compared, T-eqb, T-leb, eqb-T, within-low, within-high, within-both, in-left, in-right, in-either, in-keep, keep-in, all-in, in-map, map-in, in-flatMap, flatMap-in, member-in, in-rising, rising-low, rising-high, empty-in, in-empty, each-nth, not-member, member-not, different-head, different-tail}
+use Rattle.rules.proofs.Counting.{few, different-count}
+
+-- steps
+
+-- what a step by a job from j on is; i is how far behind j the job stands
+abbrev Leaves : ℕ → ℕ → List (List ℕ) → List ℕ → Step → Type 0
+Leaves j x named holders s =
+    (i : ℕ) × (s .job ≡ j + i) × (getD holders i 0 ≡ x) × In (s .to) (getD named i []) × (s .to ≢ x)
+
+stepsFrom-is : (j x : ℕ) (named : List (List ℕ)) (holders : List ℕ) (s : Step) → In s (stepsFrom j x named holders) → Leaves j x named holders s
+stepsFrom-is j x [] holders s i = absurd i
+stepsFrom-is j x (names ∷ named) [] s i = absurd i
+stepsFrom-is j x (names ∷ named) (h ∷ holders) s i = go (compared h x) (λ k. later (stepsFrom-is (suc j) x named holders s k)) i
+  where
+    others : List ℕ
+    others = keep (λ y. not (eqb y x)) names
+
+    rest : List Step
+    rest = stepsFrom (suc j) x named holders
+
+    later : Leaves (suc j) x named holders s → Leaves j x (names ∷ named) (h ∷ holders) s
+    later r = (suc (r .0), omega (arith, r .1), r .2, r .3, r .4)
+
+    first : h ≡ x → In s (map (stepBy j) others) → Leaves j x (names ∷ named) (h ∷ holders) s
+    first e k =
+        let m = map-in (stepBy j) s others k in
+        let f = keep-in (λ y. not (eqb y x)) (m .0) names (m .1) in
+        let to : s .to ≡ m .0 = ap (λ (t : Step). t .to) (m .2) in
+        (0, omega (arith, ap (λ (t : Step). t .job) (m .2)), e, rw to (f .0), λ d. T-not (eqb (m .0) x) (f .1) (eqb-T (m .0) x (sym to ∙ d)))
+
+    go : {z : Bool} → Compared h x z → (In s rest → Leaves j x (names ∷ named) (h ∷ holders) s) → In s (cond z (map (stepBy j) others ++ rest) rest) → Leaves j x (names ∷ named) (h ∷ holders) s
+    go (same e) ih k = elim (in-either s (map (stepBy j) others) rest k) [ inl m ↦ first e m | inr m ↦ ih m ]
+    go (other d) ih k = ih k
+
+-- what a step is: its job is held by the bench it leaves, and names the bench it leads to, which is another one
+pub step-is : (b : Board) (x : ℕ) (s : Step) → In s (steps b x) → (holderOf b (s .job) ≡ x) × In (s .to) (namesOf b (s .job)) × (s .to ≢ x)
+unfolding steps
+step-is b x s i = go (stepsFrom-is 1 x (b .named) (b .holders) s i)
+  where
+    go : Leaves 1 x (b .named) (b .holders) s → (holderOf b (s .job) ≡ x) × In (s .to) (namesOf b (s .job)) × (s .to ≢ x)
+    go r = let e : s .job ≡ suc (r .0) = omega (arith, r .1) in rw e (r .2, r .3, r .4)
+
+stepsFrom-has : (j x i : ℕ) (named : List (List ℕ)) (holders : List ℕ) (s : Step) → length named ≡ length holders → s .job ≡ j + i → getD holders i 0 ≡ x → In (s .to) (getD named i []) → s .to ≢ x → In s (stepsFrom j x named holders)
+stepsFrom-has j x i [] holders s l e h n d = absurd n
+stepsFrom-has j x i (names ∷ named) [] s l e h n d = omega arith
+stepsFrom-has j x zero (names ∷ named) (h₀ ∷ holders) s l e h n d =
+    let others = keep (λ y. not (eqb y x)) names in
+    let kept = in-keep (λ y. not (eqb y x)) (s .to) names n (not-T (eqb (s .to) x) (λ t. d (T-eqb (s .to) x t))) in
+    let job : j ≡ s .job = omega arith in
+    let first = subst (λ (i : ℕ). In (stepBy i (s .to)) (map (stepBy j) others)) job (in-map (stepBy j) (s .to) others kept) in
+    rw (eq-eqb h₀ x h) (in-left s (map (stepBy j) others) (stepsFrom (suc j) x named holders) first)
+stepsFrom-has j x (suc i) (names ∷ named) (h₀ ∷ holders) s l e h n d = later (eqb h₀ x) (stepsFrom-has (suc j) x i named holders s (omega arith) (omega arith) h n d)
+  where
+    others : List Step
+    others = map (stepBy j) (keep (λ y. not (eqb y x)) names)
+
+    rest : List Step
+    rest = stepsFrom (suc j) x named holders
+
+    later : (z : Bool) → In s rest → In s (cond z (others ++ rest) rest)
+    later true k = in-right s others rest k
+    later false k = k
+
+-- every job held by x makes a step from x to each other bench that it names
+pub is-step : (b : Board) (x : ℕ) (s : Step) → holderOf b (s .job) ≡ x → In (s .to) (namesOf b (s .job)) → s .to ≢ x → length (b .named) ≡ length (b .holders) → In s (steps b x)
+unfolding steps
+is-step b x s h n d l = go (s .job) refl h n
+  where
+    go : (j : ℕ) → s .job ≡ j → holderOf b j ≡ x → In (s .to) (namesOf b j) → In s (stepsFrom 1 x (b .named) (b .holders))
+    go zero e h n = absurd n
+    go (suc i) e h n = stepsFrom-has 1 x i (b .named) (b .holders) s l (omega arith) h n d
+
+-- a step leads to a bench of 1 to B
+pub step-bench : (b : Board) → Valid b → (x : ℕ) (s : Step) → In s (steps b x) → T (within 1 (b .benches) (s .to))
+step-bench b v x s i =
+    let fit : T (namesFit (b .benches) (namesOf b (s .job))) = each-nth (λ names. T (namesFit (b .benches) names)) (b .named) (s .job) [] tt (v .names) in
+    all-in (within 1 (b .benches)) (s .to) (namesOf b (s .job)) (left (all (within 1 (b .benches)) (namesOf b (s .job))) (different (namesOf b (s .job))) fit) ((step-is b x s i) .1)
+
+-- paths
+
+-- the benches that a route comes to
+abbrev benchesOf : List Step → List ℕ
+benchesOf r = map (λ s. s .to) r
+
+-- different benches, and none already seen
+record Fresh (seen : List ℕ) (l : List ℕ) : Type 0 where
+  once : T (different l)
+  apart : (y : ℕ) → In y l → In y seen → ⊥
+
+fresh-more : (seen : List ℕ) (x : ℕ) (l : List ℕ) → (In x seen → ⊥) → Fresh (x ∷ seen) l → Fresh seen (x ∷ l)
+fresh-more seen x l f p =
+    record { once = both (not (member x l)) (different l) (not-member x l (λ i. p .apart x i (inl refl))) (p .once); apart = apart }
+  where
+    apart : (y : ℕ) → In y (x ∷ l) → In y seen → ⊥
+    apart y (inl e) j = f (rw e at j)
+    apart y (inr i) j = p .apart y i (inr j)
+
+fresh-less : (seen : List ℕ) (x : ℕ) (l : List ℕ) → Fresh seen (x ∷ l) → Fresh (x ∷ seen) l
+fresh-less seen x l p = record { once = different-tail x l (p .once); apart = apart }
+  where
+    apart : (y : ℕ) → In y l → In y (x ∷ seen) → ⊥
+    apart y i (inl e) = different-head x l (p .once) (rw e at i)
+    apart y i (inr j) = p .apart y (inr i) j
+
+-- the parts of `routes`: the test of a step, and the routes behind it
+abbrev unseen : List ℕ → Step → Bool
+unseen seen s = not (member (s .to) seen)
+
+abbrev behind : (ℕ → List Step) → ℕ → List ℕ → Step → List (List Step)
+behind out k seen s = routes out k (s .to ∷ seen) (s .to)
+
+module _ (out : ℕ → List Step) where
+  routes-only : (k : ℕ) (seen : List ℕ) (x : ℕ) (r : List Step) → In r (routes out k seen x) → Walk out x r × Fresh seen (benchesOf r)
+  routes-only zero seen x r (inl e) = rw e (tt, record { once = tt; apart = λ y i j. i })
+  routes-only zero seen x r (inr i) = absurd i
+  routes-only (suc k) seen x r (inl e) = rw e (tt, record { once = tt; apart = λ y i j. i })
+  routes-only (suc k) seen x r (inr i) =
+      let f = flatMap-in (λ s. map (λ t. s ∷ t) (behind out k seen s)) r (keep (unseen seen) (out x)) i in
+      let s = f .0 in
+      let m = map-in (λ t. s ∷ t) r (behind out k seen s) (f .2) in
+      let g = keep-in (unseen seen) s (out x) (f .1) in
+      let h = routes-only k (s .to ∷ seen) (s .to) (m .0) (m .1) in
+      rw (m .2) ((g .0, h .0), fresh-more seen (s .to) (benchesOf (m .0)) (member-not (s .to) seen (g .1)) (h .1))
+
+  routes-every : (k : ℕ) (seen : List ℕ) (x : ℕ) (r : List Step) → length r ≤ k → Walk out x r → Fresh seen (benchesOf r) → In r (routes out k seen x)
+  routes-every zero seen x [] l w p = inl refl
+  routes-every zero seen x (s ∷ r) l w p = inr (omega arith)
+  routes-every (suc k) seen x [] l w p = inl refl
+  routes-every (suc k) seen x (s ∷ r) l w p =
+      let i = in-keep (unseen seen) s (out x) (w .0) (not-member (s .to) seen (p .apart (s .to) (inl refl))) in
+      let j = routes-every k (s .to ∷ seen) (s .to) r (omega arith) (w .1) (fresh-less seen (s .to) (benchesOf r) p) in
+      inr (in-flatMap (λ s. map (λ t. s ∷ t) (behind out k seen s)) (s ∷ r) s (keep (unseen seen) (out x)) i (in-map (λ t. s ∷ t) r (behind out k seen s) j))
+
+-- the list of the paths from x has only paths from x ..
+pub listed-is-path : (b : Board) (x : ℕ) (p : Path) → In p (pathsFrom b x) → IsPath b p × (p .start ≡ x)
+unfolding pathsFrom
+listed-is-path b x p i =
+    let m = map-in (pathBy x) p (routes (steps b) (b .benches) (x ∷ []) x) i in
+    let h = routes-only (steps b) (b .benches) (x ∷ []) x (m .0) (m .1) in
+    let f = fresh-more [] x (benchesOf (m .0)) (λ i. i) (h .1) in
+    rw (m .2) (record { walk = h .0; once = T→true (different (x ∷ benchesOf (m .0))) (f .once) }, refl)
+
+walk-benches : (b : Board) → Valid b → (x : ℕ) (r : List Step) → Walk (steps b) x r → Each (λ y. T (within 1 (b .benches) y)) (benchesOf r)
+walk-benches b v x [] w = tt
+walk-benches b v x (s ∷ r) w = (step-bench b v x s (w .0), walk-benches b v (s .to) r (w .1))
+
+-- .. and every path from x
+pub path-is-listed : (b : Board) → Valid b → (p : Path) → IsPath b p → In p (pathsFrom b (p .start))
+unfolding pathsFrom
+path-is-listed b v p h =
+    let x = p .start in
+    let r = p .route in
+    let t = true→T (different (x ∷ benchesOf r)) (h .once) in
+    let f = fresh-less [] x (benchesOf r) (record { once = t; apart = λ y i j. j }) in
+    let l = few (b .benches) (benchesOf r) (different-count (benchesOf r) (f .once)) (walk-benches b v x r (h .walk)) in
+    in-map (pathBy x) r (routes (steps b) (b .benches) (x ∷ []) x) (routes-every (steps b) (b .benches) (x ∷ []) x r (omega (arith, length-map r (λ (s : Step). s .to))) (h .walk) f)
+
+-- the list of the improving paths from x has only improving paths from x ..
+pub improvingFrom-only : (b : Board) (x : ℕ) (p : Path) → In p (improvingFrom b x) → IsPath b p × (p .start ≡ x) × T (improves b p)
+unfolding improvingFrom
+improvingFrom-only b x p i =
+    let k = keep-in (improves b) p (pathsFrom b x) i in
+    let h = listed-is-path b x p (k .0) in
+    (h .0, h .1, k .1)
+
+-- .. and every one
+pub improvingFrom-every : (b : Board) → Valid b → (p : Path) → IsPath b p → T (improves b p) → In p (improvingFrom b (p .start))
+unfolding improvingFrom
+improvingFrom-every b v p h t = in-keep (improves b) p (pathsFrom b (p .start)) (path-is-listed b v p h) t
+
+-- benches that hold a job
+
+shares-getD : (named : List (List ℕ)) (holders : List ℕ) → Shares named holders → (i : ℕ) → T (mayHold (getD named i []) (getD holders i 0))
+shares-getD [] [] s i = tt
+shares-getD [] (h ∷ holders) s i = absurd s
+shares-getD (names ∷ named) [] s i = absurd s
+shares-getD (names ∷ named) (h ∷ holders) s zero = s .0
+shares-getD (names ∷ named) (h ∷ holders) s (suc i) = shares-getD named holders (s .1) i
+
+shares-nth : (b : Board) → Valid b → (j : ℕ) → T (mayHold (namesOf b j) (holderOf b j))
+shares-nth b v zero = tt
+shares-nth b v (suc i) = shares-getD (b .named) (b .holders) (v .shares) i
+
+held-named : (names : List ℕ) (h y : ℕ) → In y names → T (mayHold names h) → In h names
+held-named [] h y i t = absurd i
+held-named (x ∷ names) h y i t = member-in h (x ∷ names) t
+
+-- on a valid board an improving path starts at a bench of 1 to B
+pub improves-start : (b : Board) → Valid b → (p : Path) → IsPath b p → T (improves b p) → T (within 1 (b .benches) (p .start))
+unfolding improves
+improves-start b v p h t = go (p .route) (h .walk) t
+  where
+    go : (r : List Step) → Walk (steps b) (p .start) r → T (improves b (pathBy (p .start) r)) → T (within 1 (b .benches) (p .start))
+    go [] w u = absurd (let e = T-leb (load (b .holders) (p .start) + 2) (load (b .holders) (p .start)) u in omega arith)
+    go (s ∷ r) w u =
+        let k = step-is b (p .start) s (w .0) in
+        let names = namesOf b (s .job) in
+        let fit : T (namesFit (b .benches) names) = each-nth (λ names. T (namesFit (b .benches) names)) (b .named) (s .job) [] tt (v .names) in
+        let i : In (holderOf b (s .job)) names = held-named names (holderOf b (s .job)) (s .to) (k .1) (shares-nth b v (s .job)) in
+        subst (λ (x : ℕ). T (within 1 (b .benches) x)) (k .0) (all-in (within 1 (b .benches)) (holderOf b (s .job)) names (left (all (within 1 (b .benches)) names) (different names) fit) i)
+
+-- improving paths
+
+-- the list of all improving paths has only improving paths that start at a bench of 1 to B ..
+pub improving-only : (b : Board) (p : Path) → In p (improving b) → IsPath b p × T (within 1 (b .benches) (p .start)) × T (improves b p)
+unfolding improving
+improving-only b p i =
+    let f = flatMap-in (improvingFrom b) p (rising 1 (b .benches)) i in
+    let h = improvingFrom-only b (f .0) p (f .2) in
+    let low = rising-low (f .0) 1 (b .benches) (f .1) in
+    let high = rising-high (f .0) 1 (b .benches) (f .1) in
+    (h .0, within-both 1 (b .benches) (p .start) (omega (arith, h .1)) (omega (arith, h .1)), h .2)
+
+-- .. and every one
+pub improving-every : (b : Board) → Valid b → (p : Path) → IsPath b p → T (improves b p) → In p (improving b)
+unfolding improving
+improving-every b v p h t =
+    let w = improves-start b v p h t in
+    let low = within-low 1 (b .benches) (p .start) w in
+    let high = within-high 1 (b .benches) (p .start) w in
+    in-flatMap (improvingFrom b) p (p .start) (rising 1 (b .benches)) (in-rising (p .start) 1 (b .benches) low (omega arith)) (improvingFrom-every b v p h t)
+
+-- the list of the improving paths that end at x has only such paths ..
+pub improvingTo-only : (b : Board) (x : ℕ) (p : Path) → In p (improvingTo b x) → IsPath b p × T (within 1 (b .benches) (p .start)) × (last p ≡ x) × T (improves b p)
+unfolding improvingTo
+improvingTo-only b x p i =
+    let k = keep-in (λ p. eqb (last p) x) p (improving b) i in
+    let h = improving-only b p (k .0) in
+    (h .0, h .1, T-eqb (last p) x (k .1), h .2)
+
+-- .. and every one
+pub improvingTo-every : (b : Board) → Valid b → (p : Path) → IsPath b p → T (improves b p) → In p (improvingTo b (last p))
+unfolding improvingTo
+improvingTo-every b v p h t = in-keep (λ q. eqb (last q) (last p)) p (improving b) (improving-every b v p h t) (eqb-T (last p) (last p) refl)
+
+-- a board is level exactly if no path improves
+pub level-exact : (b : Board) → Valid b → T (level b) ↔ ((p : Path) → IsPath b p → T (improves b p) → ⊥)
+unfolding level
+level-exact b v =
+    (λ l p h t. empty-in p (improving b) l (improving-every b v p h t), λ f. in-empty (improving b) (λ p i. let h = improving-only b p i in f p (h .0) (h .2)))
