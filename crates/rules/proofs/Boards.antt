@@ -1,6 +1,6 @@
 -- The ● boards of 01: one table, one theorem, by computation.
 use mathlib.Core.Path.{_≡_, refl}
-use mathlib.Core.List.{List, map, flatMap}
+use mathlib.Core.List.{map, flatMap}
 use Rattle.rules.specs.Board.{heaviest}
 use Rattle.rules.specs.Table.{sizesFit, layout, formed, fits, sound, boardOf, decode, layoutOf, flat, encode, blankTable}
 use Rattle.rules.specs.Paths.{steps, pathsFrom, improves, improvingFrom, improving, improvingTo, flip}
@@ -8,7 +8,7 @@ use Rattle.rules.specs.Sharing.{arrivalChoice, closingChoice, levellingC
 use Rattle.rules.specs.Calls.{conditions, arrivalOutcome, closingOutcome, levellingOutcome, tightSetOutcome, accepted, outcome, blanking}
 use Rattle.rules.specs.Tally.{noted}
 use Rattle.rules.specs.Counter.{number, commandFor, command, printed, lineFor, done, after, prints, counter}
-use Rattle.rules.specs.Boards.{Case, Result, result, boards}
+use Rattle.rules.specs.Boards.{Case, result, boards}
 
 pub boards-hold : map (λ (c : Case). result (c .trial)) boards ≡ map (λ (c : Case). c .expected) boards
 unfolding flatMap heaviest sizesFit layout formed fits sound boardOf decode layoutOf flat encode blankTable steps pathsFrom improves improvingFrom improving improvingTo flip arrivalChoice closingChoice levellingChoice arrive close level widen tightSet conditions arrivalOutcome closingOutcome levellingOutcome tightSetOutcome accepted outcome blanking noted number commandFor command printed lineFor done after prints counter result boards

@@ -8,7 +8,7 @@ use mathlib.Core.List.{List, [], _∷_}
 use lib.Dec.{T, eqb}
 use lib.ListN.{length}
 use borrow.Author.Tests.{eq-eqb, ne-eqb}
-use Rattle.rules.specs.Lists.{bit, within, count, different, total, greatest, Each, In}
+use Rattle.rules.specs.Lists.{bit, within, count, different, total, Each, In}
 use Rattle.rules.proofs.Basics.{Compared, same, other, compared, within-low, within-high, different-head, different-tail}
 
 -- bits

@@ -9,3 +9,5 @@ pub mod Layouts
 pub mod Encode
 pub mod Blanking
 pub mod Paths
+pub mod Choice
+pub mod Sets

@@ -10,7 +10,7 @@ use lib.ListN.{length, getD, length-map}
 use borrow.Author.Tests.{eq-eqb}
 use Rattle.rules.specs.Lists.{within, member, different, rising, keep, all, Each, In}
 use Rattle.rules.specs.Board.{Board, Valid, namesOf, holderOf, namesFit, Shares, mayHold, load}
-use Rattle.rules.specs.Paths.{Step, stepBy, stepsFrom, steps, Path, pathBy, last, Walk, IsPath, routes, pathsFrom, improves, improvingFrom, improving, improvingTo}
+use Rattle.rules.specs.Paths.{Step, stepBy, stepsFrom, steps, BenchPath, pathBy, last, Walk, IsPath, routes, pathsFrom, improves, improvingFrom, improving, improvingTo}
 use Rattle.rules.specs.Sharing.{level}
 use Rattle.rules.proofs.Basics.{T→true, true→T, both, left, Compared, same, other, compared, T-eqb, T-leb, eqb-T, within-low, within-high, within-both, in-left, in-right, in-either, in-keep, keep-in, all-in, in-map, map-in, in-flatMap, flatMap-in, member-in, in-rising, rising-low, rising-high, empty-in, in-empty, each-nth, not-member, member-not, different-head, different-tail}
 use Rattle.rules.proofs.Counting.{few, different-count}
@@ -147,7 +147,7 @@ module _ (out : ℕ → List Step) where
       inr (in-flatMap (λ s. map (λ t. s ∷ t) (behind out k seen s)) (s ∷ r) s (keep (unseen seen) (out x)) i (in-map (λ t. s ∷ t) r (behind out k seen s) j))
 
 -- the list of the paths from x has only paths from x ..
-pub listed-is-path : (b : Board) (x : ℕ) (p : Path) → In p (pathsFrom b x) → IsPath b p × (p .start ≡ x)
+pub listed-is-path : (b : Board) (x : ℕ) (p : BenchPath) → In p (pathsFrom b x) → IsPath b p × (p .start ≡ x)
 unfolding pathsFrom
 listed-is-path b x p i =
     let m = map-in (pathBy x) p (routes (steps b) (b .benches) (x ∷ []) x) i in
@@ -160,7 +160,7 @@ walk-benches b v x [] w = tt
 walk-benches b v x (s ∷ r) w = (step-bench b v x s (w .0), walk-benches b v (s .to) r (w .1))
 
 -- .. and every path from x
-pub path-is-listed : (b : Board) → Valid b → (p : Path) → IsPath b p → In p (pathsFrom b (p .start))
+pub path-is-listed : (b : Board) → Valid b → (p : BenchPath) → IsPath b p → In p (pathsFrom b (p .start))
 unfolding pathsFrom
 path-is-listed b v p h =
     let x = p .start in
@@ -171,7 +171,7 @@ path-is-listed b v p h =
     in-map (pathBy x) r (routes (steps b) (b .benches) (x ∷ []) x) (routes-every (steps b) (b .benches) (x ∷ []) x r (omega (arith, length-map r (λ (s : Step). s .to))) (h .walk) f)
 
 -- the list of the improving paths from x has only improving paths from x ..
-pub improvingFrom-only : (b : Board) (x : ℕ) (p : Path) → In p (improvingFrom b x) → IsPath b p × (p .start ≡ x) × T (improves b p)
+pub improvingFrom-only : (b : Board) (x : ℕ) (p : BenchPath) → In p (improvingFrom b x) → IsPath b p × (p .start ≡ x) × T (improves b p)
 unfolding improvingFrom
 improvingFrom-only b x p i =
     let k = keep-in (improves b) p (pathsFrom b x) i in
@@ -179,7 +179,7 @@ improvingFrom-only b x p i =
     (h .0, h .1, k .1)
 
 -- .. and every one
-pub improvingFrom-every : (b : Board) → Valid b → (p : Path) → IsPath b p → T (improves b p) → In p (improvingFrom b (p .start))
+pub improvingFrom-every : (b : Board) → Valid b → (p : BenchPath) → IsPath b p → T (improves b p) → In p (improvingFrom b (p .start))
 unfolding improvingFrom
 improvingFrom-every b v p h t = in-keep (improves b) p (pathsFrom b (p .start)) (path-is-listed b v p h) t
 
@@ -201,7 +201,7 @@ held-named [] h y i t = absurd i
 held-named (x ∷ names) h y i t = member-in h (x ∷ names) t
 
 -- on a valid board an improving path starts at a bench of 1 to B
-pub improves-start : (b : Board) → Valid b → (p : Path) → IsPath b p → T (improves b p) → T (within 1 (b .benches) (p .start))
+pub improves-start : (b : Board) → Valid b → (p : BenchPath) → IsPath b p → T (improves b p) → T (within 1 (b .benches) (p .start))
 unfolding improves
 improves-start b v p h t = go (p .route) (h .walk) t
   where
@@ -217,7 +217,7 @@ improves-start b v p h t = go (p .route) (h .walk) t
 -- improving paths
 
 -- the list of all improving paths has only improving paths that start at a bench of 1 to B ..
-pub improving-only : (b : Board) (p : Path) → In p (improving b) → IsPath b p × T (within 1 (b .benches) (p .start)) × T (improves b p)
+pub improving-only : (b : Board) (p : BenchPath) → In p (improving b) → IsPath b p × T (within 1 (b .benches) (p .start)) × T (improves b p)
 unfolding improving
 improving-only b p i =
     let f = flatMap-in (improvingFrom b) p (rising 1 (b .benches)) i in
@@ -227,7 +227,7 @@ improving-only b p i =
     (h .0, within-both 1 (b .benches) (p .start) (omega (arith, h .1)) (omega (arith, h .1)), h .2)
 
 -- .. and every one
-pub improving-every : (b : Board) → Valid b → (p : Path) → IsPath b p → T (improves b p) → In p (improving b)
+pub improving-every : (b : Board) → Valid b → (p : BenchPath) → IsPath b p → T (improves b p) → In p (improving b)
 unfolding improving
 improving-every b v p h t =
     let w = improves-start b v p h t in
@@ -236,7 +236,7 @@ improving-every b v p h t =
     in-flatMap (improvingFrom b) p (p .start) (rising 1 (b .benches)) (in-rising (p .start) 1 (b .benches) low (omega arith)) (improvingFrom-every b v p h t)
 
 -- the list of the improving paths that end at x has only such paths ..
-pub improvingTo-only : (b : Board) (x : ℕ) (p : Path) → In p (improvingTo b x) → IsPath b p × T (within 1 (b .benches) (p .start)) × (last p ≡ x) × T (improves b p)
+pub improvingTo-only : (b : Board) (x : ℕ) (p : BenchPath) → In p (improvingTo b x) → IsPath b p × T (within 1 (b .benches) (p .start)) × (last p ≡ x) × T (improves b p)
 unfolding improvingTo
 improvingTo-only b x p i =
     let k = keep-in (λ p. eqb (last p) x) p (improving b) i in
@@ -244,12 +244,12 @@ improvingTo-only b x p i =
     (h .0, h .1, T-eqb (last p) x (k .1), h .2)
 
 -- .. and every one
-pub improvingTo-every : (b : Board) → Valid b → (p : Path) → IsPath b p → T (improves b p) → In p (improvingTo b (last p))
+pub improvingTo-every : (b : Board) → Valid b → (p : BenchPath) → IsPath b p → T (improves b p) → In p (improvingTo b (last p))
 unfolding improvingTo
 improvingTo-every b v p h t = in-keep (λ q. eqb (last q) (last p)) p (improving b) (improving-every b v p h t) (eqb-T (last p) (last p) refl)
 
 -- a board is level exactly if no path improves
-pub level-exact : (b : Board) → Valid b → T (level b) ↔ ((p : Path) → IsPath b p → T (improves b p) → ⊥)
+pub level-exact : (b : Board) → Valid b → T (level b) ↔ ((p : BenchPath) → IsPath b p → T (improves b p) → ⊥)
 unfolding level
 level-exact b v =
     (λ l p h t. empty-in p (improving b) l (improving-every b v p h t), λ f. in-empty (improving b) (λ p i. let h = improving-only b p i in f p (h .0) (h .2)))

@@ -9,9 +9,9 @@ use mathlib.Core.Option.{Option, none, some, Option·some-injective, Option·non
 use lib.Dec.{T, ltb}
 use Rattle.rules.specs.Lists.{Each}
 use Rattle.rules.specs.Table.{decode}
-use Rattle.rules.specs.Sharing.{level, Levelled, relevel}
+use Rattle.rules.specs.Sharing.{level, relevel}
 use Rattle.rules.specs.Board.{Board}
-use Rattle.rules.specs.Answers.{Refusal, Answer, Outcome, Condition, refuse, refusalNumber, firstHolding, isRefused, unless, settled, refused, levelYes, levelNo, levelled, stopped}
+use Rattle.rules.specs.Answers.{Refusal, Condition, refusalNumber, firstHolding, isRefused, settled, refused, levelYes, levelNo, levelled, stopped}
 use Rattle.rules.specs.Calls.{Call, arrival, closing, levelling, loadOf, heaviestLoad, tightSetOf, formCheck, levelCheck, formConditions, conditions, lentList, accepted, outcome, arrivalOutcome, closingOutcome, levellingOutcome, tightSetOutcome}
 
 -- each number is below the next

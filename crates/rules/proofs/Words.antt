@@ -1,16 +1,15 @@
 -- Words and bytes: what is written reads back, a board's words fit its table, and a blanked table is the board without jobs.
-use Prim.Native.Nat.{ℕ, zero, suc, _+_, _*_, _/_, _%_, _≤_, _<_}
+use Prim.Native.Nat.{ℕ, suc, _+_, _*_, _/_, _%_, _≤_, _<_}
 use native.Mathlib.Omega.{arith}
 use mathlib.Core.Path.{_≡_, refl, ap, _∙_}
 use mathlib.Core.Bool.{Bool, true, false, cond, not, _&&_, _||_}
 use mathlib.Core.List.{List, [], _∷_, _++_, map, flatMap}
 use lib.Dec.{T, eqb, leb}
-use lib.ListN.{length, take, drop, replicate, length-append, length-map, length-replicate, replicate-append-replicate}
+use lib.ListN.{length, take, drop, length-append, length-map}
 use lib.Seq.{take-at, drop-at}
-use borrow.Author.Tests.{ne-eqb}
-use Rattle.rules.specs.Lists.{within, rising, keep, all, different, Each, empty}
+use Rattle.rules.specs.Lists.{within, rising, all, different, Each, empty}
 use Rattle.rules.specs.Board.{Board, Shares, namesFit}
-use Rattle.rules.specs.Table.{words, bytesOf, mostBenches, mostJobs, lengthFor, sizesFit, Entry, Layout, entriesIn, layout, fits, firstHeld, placeOf, entryFor, entriesFrom, layoutOf, entryWords, flat, encode, blankTable, Storable}
+use Rattle.rules.specs.Table.{words, bytesOf, mostBenches, mostJobs, lengthFor, sizesFit, Entry, Layout, entriesIn, layout, fits, firstHeld, placeOf, entryFor, entriesFrom, layoutOf, entryWords, flat, encode, Storable}
 use Rattle.rules.proofs.Basics.{both, left, T-eqb, eqb-T, leb-T, within-high, all-in, in-each, each-append, each-map, length-keep, length-rising}
 
 -- words and bytes

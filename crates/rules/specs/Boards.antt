@@ -2,10 +2,9 @@
 use Prim.Native.Nat.{ℕ}
 use mathlib.Core.List.{List, [], _∷_, _++_, map}
 use lib.ListN.{replicate}
-use Rattle.rules.specs.Board.{Board}
 use Rattle.rules.specs.Table.{bytesOf, lengthFor, decode}
 use Rattle.rules.specs.Answers.{Outcome, inNumbers}
-use Rattle.rules.specs.Calls.{Call, blanking, arrival, closing, levelling, loadOf, heaviestLoad, tightSetOf, formCheck, levelCheck}
+use Rattle.rules.specs.Calls.{Call, blanking, arrival, closing, levelling, loadOf, heaviestLoad, tightSetOf, formCheck}
 use Rattle.rules.specs.JobBook.{run, tableAfter}
 use Rattle.rules.specs.Counter.{counter}
 use Rattle.rules.specs.Text.{text}

@@ -9,7 +9,7 @@ use Rattle.rules.specs.Lists.{within}
 use Rattle.rules.specs.Board.{Board, holderOf, stands, load, heaviest}
 use Rattle.rules.specs.Table.{bytesOf, sizesFit, fits, sound, decode, encode, blankTable}
 use Rattle.rules.specs.Sharing.{Change, arrive, close, level, Levelled, relevel, tightSet, inside}
-use Rattle.rules.specs.Answers.{Refusal, Answer, Outcome, Condition, refuse, unless}
+use Rattle.rules.specs.Answers.{Answer, Outcome, Condition, refuse, unless}
 use Rattle.rules.specs.Answers.{sizes, unsound, jobNumber, benchNumber, alreadyStanding, notStanding, height, listTooShort}
 use Rattle.rules.specs.Answers.{blanked, arrived, closed, loadIs, heaviestIs, tightSetIs, isSound, levelYes, levelNo, levelled, stopped}
 

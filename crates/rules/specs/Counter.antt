@@ -8,9 +8,9 @@ use lib.Dec.{eqb, leb, ltb}
 use lib.ListN.{length, take, drop, replicate}
 use Rattle.rules.specs.Lists.{within, all, empty, nth}
 use Rattle.rules.specs.Table.{words, lengthFor, mostBenches, mostJobs}
-use Rattle.rules.specs.Answers.{Answer, Outcome, inNumbers, isRefused, refused, unreadable}
+use Rattle.rules.specs.Answers.{Outcome, inNumbers, isRefused, refused, unreadable}
 use Rattle.rules.specs.Calls.{outcome, blanking, arrival, closing, heaviestLoad, tightSetOf}
-use Rattle.rules.specs.Tally.{Tally, Noted, zeroTally, noted}
+use Rattle.rules.specs.Tally.{Tally, zeroTally, noted}
 
 -- the bytes that end a line and stand between its fields
 abbrev pub lineFeed : ℕ

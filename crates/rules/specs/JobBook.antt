@@ -4,7 +4,7 @@ use mathlib.Core.Path.{_≡_}
 use mathlib.Core.Logic.{_≢_}
 use mathlib.Core.Bool.{Bool, true, false}
 use mathlib.Core.List.{List, [], _∷_}
-use lib.ListN.{length, replicate}
+use lib.ListN.{replicate}
 use Rattle.rules.specs.Lists.{change}
 use Rattle.rules.specs.Board.{Board, load, excess, Shares}
 use Rattle.rules.specs.Table.{lengthFor, sizesFit, sound, decode, blankTable}

@@ -30,12 +30,12 @@ unfoldable pub steps : Board → ℕ → List Step
 steps b x = stepsFrom 1 x (b .named) (b .holders)
 
 -- a path: its first bench and its steps
-pub record Path : Type 0 where
+pub record BenchPath : Type 0 where
   pub start : ℕ
   pub route : List Step
 
 -- the path from x with these steps
-abbrev pub pathBy : ℕ → List Step → Path
+abbrev pub pathBy : ℕ → List Step → BenchPath
 pathBy x r = record { start = x; route = r }
 
 -- the bench that a route from x leads to
@@ -44,11 +44,11 @@ endOf x [] = x
 endOf x (s ∷ r) = endOf (s .to) r
 
 -- a path's last bench
-abbrev pub last : Path → ℕ
+abbrev pub last : BenchPath → ℕ
 last p = endOf (p .start) (p .route)
 
 -- a path's jobs, in path order
-abbrev pub jobs : Path → List ℕ
+abbrev pub jobs : BenchPath → List ℕ
 jobs p = map (λ s. s .job) (p .route)
 
 -- each step of the route leaves the bench that the one before it led to
@@ -57,7 +57,7 @@ Walk out x [] = Unit {0}
 Walk out x (s ∷ r) = In s (out x) × Walk out (s .to) r
 
 -- "A path goes from bench to bench, no bench twice"
-pub record IsPath (b : Board) (p : Path) : Type 0 where
+pub record IsPath (b : Board) (p : BenchPath) : Type 0 where
   pub walk : Walk (steps b) (p .start) (p .route)
   pub once : different (p .start ∷ map (λ s. s .to) (p .route)) ≡ true
 
@@ -68,23 +68,23 @@ routes out (suc k) seen x =
     [] ∷ flatMap (λ s. map (λ r. s ∷ r) (routes out k (s .to ∷ seen) (s .to))) (keep (λ s. not (member (s .to) seen)) (out x))
 
 -- all paths from bench x
-unfoldable pub pathsFrom : Board → ℕ → List Path
+unfoldable pub pathsFrom : Board → ℕ → List BenchPath
 pathsFrom b x = map (pathBy x) (routes (steps b) (b .benches) (x ∷ []) x)
 
 -- "It improves if its first bench has a load at least two above its last"
-unfoldable pub improves : Board → Path → Bool
+unfoldable pub improves : Board → BenchPath → Bool
 improves b p = leb (load (b .holders) (last p) + 2) (load (b .holders) (p .start))
 
 -- the improving paths from bench x
-unfoldable pub improvingFrom : Board → ℕ → List Path
+unfoldable pub improvingFrom : Board → ℕ → List BenchPath
 improvingFrom b x = keep (improves b) (pathsFrom b x)
 
 -- all improving paths
-unfoldable pub improving : Board → List Path
+unfoldable pub improving : Board → List BenchPath
 improving b = flatMap (improvingFrom b) (rising 1 (b .benches))
 
 -- the improving paths that end at bench x
-unfoldable pub improvingTo : Board → ℕ → List Path
+unfoldable pub improvingTo : Board → ℕ → List BenchPath
 improvingTo b x = keep (λ p. eqb (last p) x) (improving b)
 
 -- the holders after each job of a route went to the bench its step leads to
@@ -93,5 +93,5 @@ handOver holders [] = holders
 handOver holders (s ∷ r) = handOver (change holders (s .job) (s .to)) r
 
 -- "Turning a path hands each of its jobs to the other bench"; 000: to flip it
-unfoldable pub flip : Board → Path → Board
+unfoldable pub flip : Board → BenchPath → Board
 flip b p = record { benches = b .benches; named = b .named; holders = handOver (b .holders) (p .route) }

@@ -1,5 +1,5 @@
 -- 01, "Sharing": the choice of a path, arrival, closing, levelling, tight set.
-use Prim.Native.Nat.{ℕ, zero, suc, _+_, _-_, _*_, _/_}
+use Prim.Native.Nat.{ℕ, zero, suc, _+_, _-_, _/_}
 use mathlib.Core.Bool.{Bool, cond, not, _&&_, _||_}
 use mathlib.Core.List.{List, [], _∷_, map, flatMap}
 use mathlib.Core.Option.{Option, none, some}
@@ -7,34 +7,34 @@ use lib.Dec.{eqb, leb, ltb}
 use lib.ListN.{length}
 use Rattle.rules.specs.Lists.{bit, member, rising, keep, all, empty, least}
 use Rattle.rules.specs.Board.{Board, holderOf, put, load, heaviest}
-use Rattle.rules.specs.Paths.{Path, Step, steps, last, jobs, improvingFrom, improvingTo, improving, flip}
+use Rattle.rules.specs.Paths.{BenchPath, steps, last, jobs, improvingFrom, improvingTo, improving, flip}
 
 -- how far bench x is below the heaviest: the greatest load comes first
 abbrev pub below : Board → ℕ → ℕ
 below b x = heaviest b - load (b .holders) x
 
 -- "lowest last load, then fewest jobs, then lowest last bench, then the list of job numbers that is first in dictionary order"
-abbrev pub arrivalKey : Board → Path → List ℕ
+abbrev pub arrivalKey : Board → BenchPath → List ℕ
 arrivalKey b p = load (b .holders) (last p) ∷ length (p .route) ∷ last p ∷ jobs p
 
 -- "greatest first load, then fewest jobs, lowest first bench, first list"
-abbrev pub closingKey : Board → Path → List ℕ
+abbrev pub closingKey : Board → BenchPath → List ℕ
 closingKey b p = below b (p .start) ∷ length (p .route) ∷ p .start ∷ jobs p
 
 -- "first bench of greatest load among those that start one, then lowest number, then the arrival's order"
-abbrev pub levellingKey : Board → Path → List ℕ
+abbrev pub levellingKey : Board → BenchPath → List ℕ
 levellingKey b p = below b (p .start) ∷ p .start ∷ arrivalKey b p
 
 -- "of the improving paths from that bench, one is turned"
-unfoldable pub arrivalChoice : Board → ℕ → Option Path
+unfoldable pub arrivalChoice : Board → ℕ → Option BenchPath
 arrivalChoice b x = least (arrivalKey b) (improvingFrom b x)
 
 -- "Of the improving paths that end at the bench that held it, one is turned"
-unfoldable pub closingChoice : Board → ℕ → Option Path
+unfoldable pub closingChoice : Board → ℕ → Option BenchPath
 closingChoice b x = least (closingKey b) (improvingTo b x)
 
 -- the path that levelling turns next
-unfoldable pub levellingChoice : Board → Option Path
+unfoldable pub levellingChoice : Board → Option BenchPath
 levellingChoice b = least (levellingKey b) (improving b)
 
 -- an arrival's or closing's result: the board, the bench whose load changed, and the other jobs that changed holder, in path order
@@ -55,7 +55,7 @@ getter holders [] = 0
 getter holders (x ∷ others) = lightest holders x others
 
 -- the board in which bench x has just got job j, after the path was turned: the load rises at the path's last bench
-abbrev pub afterArrival : Board → ℕ → ℕ → Option Path → Change
+abbrev pub afterArrival : Board → ℕ → ℕ → Option BenchPath → Change
 afterArrival b j x none = record { board = b; bench = x; moved = [] }
 afterArrival b j x (some p) =
     record { board = flip b p; bench = last p; moved = keep (λ i. not (eqb i j)) (jobs p) }
@@ -68,7 +68,7 @@ arrive b j names =
     afterArrival c j x (arrivalChoice c x)
 
 -- the board in which bench x has just lost a job, after the path was turned: the load falls at the path's first bench
-abbrev pub afterClosing : Board → ℕ → Option Path → Change
+abbrev pub afterClosing : Board → ℕ → Option BenchPath → Change
 afterClosing b x none = record { board = b; bench = x; moved = [] }
 afterClosing b x (some p) = record { board = flip b p; bench = p .start; moved = jobs p }
 

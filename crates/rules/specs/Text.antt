@@ -1,6 +1,6 @@
 -- Text as the bytes of its characters, so that a run reads as it stands in 01. For characters below 128.
 use Prim.Native.Nat.{ℕ}
-use Prim.Native.Char.{Char, code}
+use Prim.Native.Char.{code}
 use Prim.Native.String as S
 use Prim.Native.String.{String}
 use mathlib.Core.List.{List, [], _∷_}
