@@ -133,7 +133,7 @@ abbrev Small : ℕ → Type 0
 Small w = w < 65536
 
 -- no word of a record is above 65,535
-entry-small : (benches : ℕ) (names : List ℕ) (h n : ℕ) → benches ≤ 500 → n < 65536 → T (namesFit benches names) → T (empty names || eqb (length names) 2) → Each Small (entryWords (entryFor names h n))
+entry-small : (benches : ℕ) (names : List ℕ) (h n : ℕ) → benches ≤ mostBenches → n < 65536 → T (namesFit benches names) → T (empty names || eqb (length names) 2) → Each Small (entryWords (entryFor names h n))
 entry-small benches [] h n b m f p = omega arith
 entry-small benches (x ∷ l) h n b m f p =
     let names : List ℕ = x ∷ l in
@@ -143,7 +143,7 @@ entry-small benches (x ∷ l) h n b m f p =
     (omega (arith, placeOf-le h names, T-eqb (length names) 2 p))
 
 -- nor of the records of the jobs from i on
-entries-small : (benches i : ℕ) (named : List (List ℕ)) (holders : List ℕ) → benches ≤ 500 → i + length holders < 65536 → Each (λ names. T (namesFit benches names)) named → Each (λ names. T (empty names || eqb (length names) 2)) named → Each Small (flatMap entryWords (entriesFrom i named holders))
+entries-small : (benches i : ℕ) (named : List (List ℕ)) (holders : List ℕ) → benches ≤ mostBenches → i + length holders < 65536 → Each (λ names. T (namesFit benches names)) named → Each (λ names. T (empty names || eqb (length names) 2)) named → Each Small (flatMap entryWords (entriesFrom i named holders))
 unfolding flatMap
 entries-small benches i [] holders b m f p = tt
 entries-small benches i (names ∷ named) [] b m f p = tt
@@ -157,8 +157,8 @@ entries-small benches i (names ∷ named) (h ∷ holders) b m f p =
 pub layoutOf-small : (b : Board) → Storable b → Each (λ w. w < 65536) (flat (layoutOf b))
 unfolding flat layoutOf
 layoutOf-small b s =
-    let benches : b .benches ≤ 500 = within-high 1 mostBenches (b .benches) (s .benches) in
-    let jobs : length (b .named) ≤ 4000 = within-high 1 mostJobs (length (b .named)) (s .jobs) in
+    let benches : b .benches ≤ mostBenches = within-high 1 mostBenches (b .benches) (s .benches) in
+    let jobs : length (b .named) ≤ mostJobs = within-high 1 mostJobs (length (b .named)) (s .jobs) in
     let held : length (b .holders) ≡ length (b .named) = length-shares (b .named) (b .holders) (s .valid .shares) in
     let head : ℕ → ℕ = λ x. firstHeld 1 x (b .holders) in
     let heads : Each Small (map head (rising 1 (b .benches))) = each-map Small head (rising 1 (b .benches)) (λ x i. omega (arith, firstHeld-le 1 x (b .holders))) in
