@@ -11,3 +11,4 @@ pub mod Blanking
 pub mod Paths
 pub mod Choice
 pub mod Sets
+pub mod ChainOrder
