@@ -160,10 +160,10 @@ unreadableLine = printed (code "R") (inNumbers (refused unreadable))
 unfoldable pub prints : Counter → List (List ℕ) → List ℕ
 prints s [] = []
 prints s (piece ∷ []) = cond (empty piece) [] unreadableLine
-prints s (line ∷ piece ∷ pieces) =
+prints s (line ∷ piece ∷ rest) =
     elim (command line) [
-      | none ↦ unreadableLine ++ prints s (piece ∷ pieces)
-      | some c ↦ let o = done c (s .table) in lineFor c o ++ prints (after c s o) (piece ∷ pieces)
+      | none ↦ unreadableLine ++ prints s (piece ∷ rest)
+      | some c ↦ let o = done c (s .table) in lineFor c o ++ prints (after c s o) (piece ∷ rest)
     ]
 
 -- the whole program: from all that it reads to all that it prints
