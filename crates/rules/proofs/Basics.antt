@@ -175,11 +175,30 @@ module _ {A : Type 0} where
   in-getD (x ∷ l) zero d h = inl refl
   in-getD (x ∷ l) (suc i) d h = inr (in-getD l i d (omega arith))
 
+  pub in-nth : (l : List A) (j : ℕ) (d : A) → 1 ≤ j → j ≤ length l → In (nth l j d) l
+  in-nth l zero d h u = absurd (omega arith)
+  in-nth l (suc i) d h u = in-getD l i d u
+
   -- an element stands in the numbered list under some number
   pub in-numbered : (n : ℕ) (a : A) (l : List A) → In a l → (i : ℕ) × In (i, a) (numbered n l)
   in-numbered n a [] i = absurd i
   in-numbered n a (x ∷ l) (inl e) = (n, inl (λ k. (n, e k)))
   in-numbered n a (x ∷ l) (inr i) = let r = in-numbered (suc n) a l i in (r .0, inr (r .1))
+
+  -- the element at a place stands in the numbered list under its own number
+  pub in-numbered-at : (n i : ℕ) (l : List A) (d : A) → i < length l → In (n + i, getD l i d) (numbered n l)
+  in-numbered-at n i [] d h = absurd (omega arith)
+  in-numbered-at n zero (x ∷ l) d h = let e : n + 0 ≡ n = omega arith in inl (λ k. (e k, x))
+  in-numbered-at n (suc i) (x ∷ l) d h =
+      let e : suc n + i ≡ n + suc i = omega arith in
+      inr (subst (λ (j : ℕ). In (j, getD l i d) (numbered (suc n) l)) e (in-numbered-at (suc n) i l d (omega arith)))
+
+  -- counted from 1, where the place is one too
+  pub in-numbered-nth : (j : ℕ) (l : List A) (d : A) → 1 ≤ j → j ≤ length l → In (j, nth l j d) (numbered 1 l)
+  in-numbered-nth zero l d h u = absurd (omega arith)
+  in-numbered-nth (suc i) l d h u =
+      let e : 1 + i ≡ suc i = omega arith in
+      subst (λ (j : ℕ). In (j, getD l i d) (numbered 1 l)) e (in-numbered-at 1 i l d (omega arith))
 
   pub length-keep : (p : A → Bool) (l : List A) → length (keep p l) ≤ length l
   length-keep p [] = omega arith

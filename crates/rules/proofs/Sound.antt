@@ -1,19 +1,20 @@
 -- What the table's words say where the sizes fit, and what a sound table holds.
 use Prim.Native.Nat.{ℕ, zero, suc, _+_, _*_, _/_, _%_, _≤_, _<_}
 use native.Mathlib.Omega.{arith}
-use native.Mathlib.Nat.{add-assoc, add-zero}
+use native.Mathlib.Nat.{add-assoc}
 use mathlib.Core.Path.{_≡_, refl, sym, ap, _∙_, subst}
-use mathlib.Core.Logic.{inl, inr}
+use mathlib.Core.Logic.{_⊎_, inl, inr, _≢_}
 use mathlib.Core.Bool.{Bool, true, false, cond, not, _&&_, _||_}
 use mathlib.Core.List.{List, [], _∷_, map}
 use lib.Dec.{T, eqb, leb, not-T}
-use lib.ListN.{length, getD, drop, length-take, length-drop, length-map}
+use lib.ListN.{length, getD, drop, length-take, length-drop, length-map, List·getD-eq-default}
+use native.Mathlib.Decide.{decLe}
 use lib.Seq.{getD-take, getD-drop}
-use Rattle.rules.specs.Lists.{bit, within, count, member, all, Each, In, empty, nth, numbered}
+use Rattle.rules.specs.Lists.{bit, within, count, member, different, all, Each, In, empty, nth, numbered}
 use Rattle.rules.specs.Board.{Shares, mayHold, namesFit}
 use Rattle.rules.specs.Table.{words, lengthFor, mostBenches, mostJobs, sizesFit, Entry, vacant, filled, holderIn, Layout, entriesIn, layout, follow, chains, standingIn, entryFits, placed, onlyStanding, formed, fits, sound, boardOf, decode, Storable}
-use Rattle.rules.proofs.Basics.{true→T, not→false, left, right, or-right, T-eqb, eqb-T, T-leb, within-low, within-high, within-both, in-map, in-keep, all-in, each-in, in-each, each-map, in-getD, in-numbered, member-in, in-member}
-use Rattle.rules.proofs.Counting.{bit-le, count-none, few}
+use Rattle.rules.proofs.Basics.{true→T, not→false, left, right, or-right, T-eqb, eqb-T, T-leb, within-low, within-high, within-both, in-map, in-keep, all-in, each-in, in-each, each-map, in-getD, in-nth, in-numbered, in-numbered-nth, member-in, in-member, Compared, same, other, compared, different-head}
+use Rattle.rules.proofs.Counting.{bit-le, bit-same, bit-other, count-none, few}
 
 -- the table's places
 
@@ -141,14 +142,6 @@ fits-entries t f =
 
 -- the clauses of the sound table
 
--- a filled record stands among the numbered ones under its own number
-filled-in : (n : ℕ) (es : List Entry) (i : ℕ) → T (filled (getD es i vacant)) → In (n + i, getD es i vacant) (numbered n es)
-filled-in n [] i t = absurd t
-filled-in n (e ∷ es) zero t = inl (λ k. (add-zero n k, e))
-filled-in n (e ∷ es) (suc i) t =
-    let p : suc n + i ≡ n + suc i = omega arith in
-    inr (subst (λ (j : ℕ). In (j, getD es i vacant) (numbered (suc n) es)) p (filled-in (suc n) es i t))
-
 -- a filled record's number is one of 1 to J
 filled-within : (es : List Entry) (j : ℕ) → T (filled (nth es j vacant)) → (1 ≤ j) × (j ≤ length es)
 filled-within es zero t = absurd t
@@ -192,12 +185,10 @@ formed-is l t =
     p = five (all fit (standingIn es)) (all put (standingIn es)) (all (onlyStanding es) (chains l)) (eqb (l .standing) (length (standingIn es))) (eqb (l .spare) 0) t
 
     here : (j : ℕ) → T (filled (nth es j vacant)) → T (placed (chains l) j (holderIn (nth es j vacant)))
-    here zero f = absurd f
-    here (suc i) f =
-        let q : 1 + i ≡ suc i = omega arith in
-        let s : ℕ × Entry = (suc i, getD es i vacant) in
-        let m : In s (numbered 1 es) = subst (λ (j : ℕ). In (j, getD es i vacant) (numbered 1 es)) q (filled-in 1 es i f) in
-        all-in put s (standingIn es) (p .1) (in-keep full s (numbered 1 es) m f)
+    here j f =
+        let s : ℕ × Entry = (j, nth es j vacant) in
+        let w = filled-within es j f in
+        all-in put s (standingIn es) (p .1) (in-keep full s (numbered 1 es) (in-numbered-nth j es vacant (w .0) (w .1)) f)
 
 -- a sound table fits
 pub sound-fits : (t : List ℕ) → T (sound t) → T (fits t)
@@ -310,6 +301,97 @@ short-ends es zero zero h = tt
 short-ends es zero (suc i) h = omega arith
 short-ends es (suc k) zero h = tt
 short-ends es (suc k) (suc i) h = short-ends es k ((nth es (suc i) vacant) .next) (omega arith)
+
+-- the sound table in words
+
+-- "two different benches of 1 to B and holder 1 or 2"
+pub record TwoBenches (benches : ℕ) (e : Entry) : Type 0 where
+  pub first : ℕ
+  pub second : ℕ
+  pub names : e .names ≡ first ∷ second ∷ []
+  pub first-bench : (1 ≤ first) × (first ≤ benches)
+  pub second-bench : (1 ≤ second) × (second ≤ benches)
+  pub apart : first ≢ second
+  pub holder : (e .holder ≡ 1) ⊎ (e .holder ≡ 2)
+
+two-benches : (benches : ℕ) (e : Entry) → length (e .names) ≡ 2 → T (entryFits benches e) → TwoBenches benches e
+two-benches benches e two fits = go (e .names) refl two (left (namesFit benches (e .names)) (within 1 (length (e .names)) (e .holder)) fits)
+  where
+    may : T (within 1 (length (e .names)) (e .holder))
+    may = right (namesFit benches (e .names)) (within 1 (length (e .names)) (e .holder)) fits
+
+    holder : {z : Bool} → Compared (e .holder) 1 z → (e .holder ≡ 1) ⊎ (e .holder ≡ 2)
+    holder (same q) = inl q
+    holder (other d) = inr (omega (arith, within-low 1 (length (e .names)) (e .holder) may, within-high 1 (length (e .names)) (e .holder) may))
+
+    bench : (x : ℕ) (names : List ℕ) → T (namesFit benches names) → In x names → (1 ≤ x) × (x ≤ benches)
+    bench x names f i =
+        let w = all-in (within 1 benches) x names (left (all (within 1 benches) names) (different names) f) i in
+        (within-low 1 benches x w, within-high 1 benches x w)
+
+    go : (names : List ℕ) → e .names ≡ names → length names ≡ 2 → T (namesFit benches names) → TwoBenches benches e
+    go [] q l f = absurd (omega arith)
+    go (a ∷ []) q l f = absurd (omega arith)
+    go (a ∷ b ∷ []) q l f =
+        record {
+          first = a;
+          second = b;
+          names = q;
+          first-bench = bench a (a ∷ b ∷ []) f (inl refl);
+          second-bench = bench b (a ∷ b ∷ []) f (inr (inl refl));
+          apart = λ d. different-head a (b ∷ []) (right (all (within 1 benches) (a ∷ b ∷ [])) (different (a ∷ b ∷ [])) f) (inl d);
+          holder = holder (compared (e .holder) 1);
+        }
+    go (a ∷ b ∷ c ∷ names) q l f = absurd (omega arith)
+
+-- such a record's holder is a bench of 1 to B
+holder-bench : (benches : ℕ) (e : Entry) → TwoBenches benches e → (1 ≤ holderIn e) × (holderIn e ≤ benches)
+holder-bench benches e r = go (r .holder)
+  where
+    go : (e .holder ≡ 1) ⊎ (e .holder ≡ 2) → (1 ≤ holderIn e) × (holderIn e ≤ benches)
+    go (inl q) = rw (r .names, q) (r .first-bench)
+    go (inr q) = rw (r .names, q) (r .second-bench)
+
+-- every standing job of a sound table has "two different benches of 1 to B and holder 1 or 2"
+pub standing-record : (t : List ℕ) → T (sound t) → (e : Entry) → In e ((layout (words t)) .entries) → T (filled e) → TwoBenches ((layout (words t)) .benches) e
+standing-record t s e i f =
+    let l = layout (words t) in
+    two-benches (l .benches) e (each-in (λ (e : Entry). length (e .names) ≡ 2) e (l .entries) (layout-pairs (words t)) i) ((sound-formed t s) .entry e i f)
+
+-- how often a placed job is on a chain
+count-placed : (cs : List (List ℕ)) (j h x : ℕ) → T (placed cs j h) → 1 ≤ x → x ≤ length cs → count j (nth cs x []) ≡ bit (eqb x h)
+count-placed cs j h x p l u =
+    let c : ℕ × List ℕ = (x, nth cs x []) in
+    T-eqb (count j (c .1)) (bit (eqb x h)) (all-in (λ c. eqb (count j (c .1)) (bit (eqb (c .0) h))) c (numbered 1 cs) p (in-numbered-nth x cs [] l u))
+
+-- it is "on its holder's chain once ..
+pub own-chain : (t : List ℕ) → T (sound t) → (j : ℕ) → T (filled (nth ((layout (words t)) .entries) j vacant)) → count j (nth (chains (layout (words t))) (holderIn (nth ((layout (words t)) .entries) j vacant)) []) ≡ 1
+own-chain t s j f =
+    let l = layout (words t) in
+    let e = nth (l .entries) j vacant in
+    let h = holderIn e in
+    let w = filled-within (l .entries) j f in
+    let r = holder-bench (l .benches) e (standing-record t s e (in-nth (l .entries) j vacant (w .0) (w .1)) f) in
+    let n : length (chains l) ≡ l .benches = length-map (l .heads) (follow (l .entries) (suc (l .jobs))) ∙ fits-heads t (sound-fits t s) in
+    count-placed (chains l) j h h ((sound-formed t s) .place j f) (r .0) (omega (arith, r .1)) ∙ bit-same h h refl
+
+-- .. and on no other"
+pub other-chain : (t : List ℕ) → T (sound t) → (j x : ℕ) → T (filled (nth ((layout (words t)) .entries) j vacant)) → x ≢ holderIn (nth ((layout (words t)) .entries) j vacant) → count j (nth (chains (layout (words t))) x []) ≡ 0
+other-chain t s j x f d = go x d
+  where
+    l : Layout
+    l = layout (words t)
+
+    h : ℕ
+    h = holderIn (nth (l .entries) j vacant)
+
+    there : (i : ℕ) → suc i ≢ h → Dec (suc i ≤ length (chains l)) → count j (getD (chains l) i []) ≡ 0
+    there i d (yes u) = count-placed (chains l) j h (suc i) ((sound-formed t s) .place j f) (omega arith) u ∙ bit-other (suc i) h d
+    there i d (no u) = ap (count j) (List·getD-eq-default (chains l) [] (omega arith))
+
+    go : (x : ℕ) → x ≢ h → count j (nth (chains l) x []) ≡ 0
+    go zero d = refl
+    go (suc i) d = there i d (decLe (suc i) (length (chains l)))
 
 -- a sound table's chains all end, after at most J jobs: a chain that returns to itself is found unsound
 pub chain-ends : (t : List ℕ) → T (sound t) → (h : ℕ) → In h ((layout (words t)) .heads) → Ends ((layout (words t)) .entries) ((layout (words t)) .jobs) h
