@@ -372,7 +372,7 @@ own-chain t s j f =
     let h = holderIn e in
     let w = filled-within (l .entries) j f in
     let r = holder-bench (l .benches) e (standing-record t s e (in-nth (l .entries) j vacant (w .0) (w .1)) f) in
-    let n : length (chains l) ≡ l .benches = length-map (l .heads) (follow (l .entries) (suc (l .jobs))) ∙ fits-heads t (sound-fits t s) in
+    let n : length (chains l) ≡ l .benches = simp length-map (fits-heads t (sound-fits t s)) in
     count-placed (chains l) j h h ((sound-formed t s) .place j f) (r .0) (omega (arith, r .1)) ∙ bit-same h h refl
 
 -- .. and on no other"

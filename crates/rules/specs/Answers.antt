@@ -76,6 +76,7 @@ pub record Condition : Type 0 where
   pub refusal : Refusal
   pub holds : Bool
 
+-- the call is refused so if the test passes
 abbrev pub refuse : Refusal → Bool → Condition
 refuse r h = record { refusal = r; holds = h }
 

@@ -69,10 +69,11 @@ abbrev pub whenRun : List ℕ → List ℕ → Case
 whenRun input output =
     record { trial = program input; expected = record { answers = []; bytes = output; holders = [] } }
 
--- an answer in numbers: "give 3"; or accepted, with these values
+-- a refusal in numbers: "give 3"
 abbrev pub gives : ℕ → List ℕ
 gives number = number ∷ []
 
+-- an accepted answer in numbers, with its values
 abbrev pub says : List ℕ → List ℕ
 says values = 0 ∷ values
 
@@ -80,10 +81,11 @@ says values = 0 ∷ values
 abbrev pub heavyBench : List ℕ
 heavyBench = bytesOf (2 ∷ 3 ∷ 3 ∷ 0 ∷ 3 ∷ 0 ∷ 1 ∷ 2 ∷ 1 ∷ 0 ∷ 1 ∷ 2 ∷ 1 ∷ 1 ∷ 1 ∷ 2 ∷ 1 ∷ 2 ∷ [])
 
--- jobs 1, 2, 3 arrive, all naming 1 and 2, and what that answers
+-- jobs 1, 2, 3 arrive, all naming 1 and 2
 abbrev pub threeArrivals : List Call
 threeArrivals = arrival 1 1 2 ∷ arrival 2 1 2 ∷ arrival 3 1 2 ∷ []
 
+-- what these arrivals answer: holders 1, 2, 1
 abbrev pub threeAnswers : List (List ℕ)
 threeAnswers = says (1 ∷ 1 ∷ 0 ∷ []) ∷ says (2 ∷ 2 ∷ 0 ∷ []) ∷ says (1 ∷ 1 ∷ 0 ∷ []) ∷ []
 

@@ -12,18 +12,20 @@ use Rattle.rules.specs.Answers.{Outcome, inNumbers, isRefused, refused, 
 use Rattle.rules.specs.Calls.{outcome, blanking, arrival, closing, heaviestLoad, tightSetOf}
 use Rattle.rules.specs.Tally.{Tally, zeroTally, noted}
 
--- the bytes that end a line and stand between its fields
+-- the byte that ends a line
 abbrev pub lineFeed : ℕ
 lineFeed = code "\n"
 
+-- the byte between two fields
 abbrev pub space : ℕ
 space = code " "
 
--- the pieces of a list between the separators, one more than there are separators
+-- a byte put in front of the first piece
 abbrev pub onto : ℕ → List (List ℕ) → List (List ℕ)
 onto c [] = (c ∷ []) ∷ []
 onto c (piece ∷ pieces) = (c ∷ piece) ∷ pieces
 
+-- the pieces of a list between the separators, one more than there are separators
 abbrev pub pieces : ℕ → List ℕ → List (List ℕ)
 pieces sep [] = [] ∷ []
 pieces sep (c ∷ l) = let r = pieces sep l in cond (eqb c sep) ([] ∷ r) (onto c r)
@@ -43,12 +45,13 @@ number [] = none
 number (c ∷ l) =
     cond (all digit (c ∷ l) && (empty l || not (eqb c (code "0"))) && leb (value 0 (c ∷ l)) 65535) (some (value 0 (c ∷ l))) none
 
--- the numbers of a line; none if one of them is not readable
+-- a number and the numbers after it; none if one of them is not readable
 abbrev pub joined : Option ℕ → Option (List ℕ) → Option (List ℕ)
 joined none ns = none
 joined (some n) none = none
 joined (some n) (some ns) = some (n ∷ ns)
 
+-- the numbers of a line's fields
 abbrev pub numbers : List (List ℕ) → Option (List ℕ)
 numbers [] = some []
 numbers (f ∷ fs) = joined (number f) (numbers fs)
@@ -91,7 +94,7 @@ digits (suc k) n = elim (ltb n 10) [ true ↦ (code "0" + n) ∷ [] | false ↦ 
 unfoldable pub printed : ℕ → List ℕ → List ℕ
 printed letter ns = letter ∷ flatMap (λ n. space ∷ digits n n) ns ++ (lineFeed ∷ [])
 
--- the letter of a command's line, and the numbers of the command that the line repeats
+-- the letter of a command's line
 abbrev pub letterOf : Command → ℕ
 letterOf (setTable benches jobs) = code "B"
 letterOf (takeIn j x y) = code "A"
@@ -99,6 +102,7 @@ letterOf (closeJob j) = code "D"
 letterOf (askTightSet h) = code "S"
 letterOf askHeaviest = code "H"
 
+-- the numbers of the command that its line repeats
 abbrev pub repeated : Command → List ℕ
 repeated (setTable benches jobs) = benches ∷ jobs ∷ []
 repeated (takeIn j x y) = j ∷ []
@@ -120,11 +124,12 @@ lineFor c o =
     cond (isRefused (o .answer)) (printed (code "R") (inNumbers (o .answer)))
     (printed (letterOf c) (repeated c ++ drop 1 (inNumbers (o .answer)) ++ listed c o))
 
--- the program's state. "Before the first B its table has length 0"
+-- the program's state
 pub record Counter : Type 0 where
   pub table : List ℕ
   pub tally : Tally
 
+-- "Before the first B its table has length 0"
 abbrev pub atFirst : Counter
 atFirst = record { table = []; tally = zeroTally }
 

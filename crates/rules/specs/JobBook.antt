@@ -69,6 +69,7 @@ OneLoad levelNo before after = Unit {0}
 OneLoad (levelled paths) before after = Unit {0}
 OneLoad (stopped paths) before after = Unit {0}
 
+-- so along the outcomes, each from the table that the last one left
 abbrev pub OneLoadEach : List ℕ → List Outcome → Type 0
 OneLoadEach t [] = Unit {0}
 OneLoadEach t (o ∷ os) = OneLoad (o .answer) (decode t) (decode (o .table)) × OneLoadEach (o .table) os

@@ -18,10 +18,11 @@ abbrev pub bytesOf : List ℕ → List ℕ
 bytesOf [] = []
 bytesOf (w ∷ ws) = w % 256 ∷ w / 256 % 256 ∷ bytesOf ws
 
--- "Benches are numbered 1 to 500, jobs 1 to 4,000"
+-- "Benches are numbered 1 to 500 ..
 abbrev pub mostBenches : ℕ
 mostBenches = 500
 
+-- .. jobs 1 to 4,000"
 abbrev pub mostJobs : ℕ
 mostJobs = 4000
 

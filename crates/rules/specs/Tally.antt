@@ -12,9 +12,11 @@ pub record Tally : Type 0 where
   pub closings : ℕ
   pub moved : ℕ
 
+-- the most that a count holds
 abbrev pub mostCount : ℕ
 mostCount = 4294967295
 
+-- the tally that starts with a blank table
 abbrev pub zeroTally : Tally
 zeroTally = record { arrivals = 0; closings = 0; moved = 0 }
 

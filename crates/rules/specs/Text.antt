@@ -5,6 +5,7 @@ use Prim.Native.String as S
 use Prim.Native.String.{String}
 use mathlib.Core.List.{List, [], _∷_}
 
+-- the codes of a text's characters
 abbrev pub text : String → List ℕ
 text S.[] = []
 text (S._∷_ c s) = code c ∷ text s
