@@ -2,7 +2,7 @@
 use Prim.Native.Nat.{ℕ, zero, suc, _+_, _*_, _≤_}
 use native.Mathlib.Omega.{arith}
 use mathlib.Core.Path.{_≡_, refl}
-use mathlib.Core.Bool.{true, not, _||_}
+use mathlib.Core.Bool.{true, false, not, _||_}
 use mathlib.Core.List.{List, [], map, flatMap}
 use lib.Dec.{T, eqb}
 use lib.ListN.{length, replicate, length-replicate, replicate-append-replicate}
@@ -10,7 +10,7 @@ use borrow.Author.Tests.{ne-eqb}
 use Rattle.rules.specs.Lists.{within, rising, keep, Each, empty}
 use Rattle.rules.specs.Board.{Board, Shares, namesFit}
 use Rattle.rules.specs.Table.{mostBenches, mostJobs, sizesFit, firstHeld, entriesFrom, layoutOf, entryWords, flat, sound, decode, encode, blankTable, Storable}
-use Rattle.rules.specs.Answers.{Outcome, blanked}
+use Rattle.rules.specs.Answers.{Outcome, blanked, refused, sizes}
 use Rattle.rules.specs.Calls.{blanking}
 use Rattle.rules.proofs.Basics.{true→T}
 use Rattle.rules.proofs.Sound.{sized}
@@ -86,3 +86,8 @@ blanking-leaves benches jobs t e =
       sound = blank-sound benches jobs (s .benches-within) (s .jobs-within);
       board = blank-decodes benches jobs (s .benches-within) (s .jobs-within);
     })
+
+-- and where the length does not fit, it is refused with 1 and leaves all bytes
+pub blanking-refused : (benches jobs : ℕ) (t : List ℕ) → sizesFit (length t) benches jobs ≡ false → blanking benches jobs t ≡ record { answer = refused sizes; table = t; list = [] }
+unfolding blanking
+blanking-refused benches jobs t e = rw e

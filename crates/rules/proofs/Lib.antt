@@ -12,3 +12,5 @@ pub mod Paths
 pub mod Choice
 pub mod Sets
 pub mod ChainOrder
+pub mod Tally
+pub mod Changes
