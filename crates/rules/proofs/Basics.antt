@@ -2,13 +2,15 @@
 use Prim.Native.Nat.{ℕ, zero, suc, _+_, _≤_, _<_}
 use native.Mathlib.Omega.{arith}
 use mathlib.Core.Path.{_≡_, refl, sym, ap, subst}
-use mathlib.Core.Logic.{_⊎_, inl, inr}
+use mathlib.Core.Logic.{_⊎_, inl, inr, _≢_}
 use mathlib.Core.Bool.{Bool, true, false, cond, not, _&&_, _||_}
 use mathlib.Core.List.{List, [], _∷_, _++_, map, flatMap}
 use lib.Dec.{T, T-not, not-T, eqb, leb}
 use lib.ListN.{length, getD}
+use lib.Seq.{getD-set-same, getD-set-other}
 use borrow.Author.Tests.{eqb-true, eqb-false, eq-eqb, leb-true, le-leb}
-use Rattle.rules.specs.Lists.{within, member, different, rising, keep, all, Each, In, empty, nth, numbered}
+use Rattle.rules.specs.Board.{Shares}
+use Rattle.rules.specs.Lists.{within, member, different, rising, keep, all, Each, In, empty, nth, change, numbered}
 
 -- tests
 
@@ -179,6 +181,16 @@ module _ {A : Type 0} where
   in-nth l zero d h u = absurd (omega arith)
   in-nth l (suc i) d h u = in-getD l i d u
 
+  -- what is written at a place stands there, and nothing else changes
+  pub nth-change-same : (l : List A) (j : ℕ) (a d : A) → 1 ≤ j → j ≤ length l → nth (change l j a) j d ≡ a
+  nth-change-same l zero a d h u = absurd (omega arith)
+  nth-change-same l (suc i) a d h u = getD-set-same l i a d u
+
+  pub nth-change-other : (l : List A) (j i : ℕ) (a d : A) → i ≢ j → nth (change l j a) i d ≡ nth l i d
+  nth-change-other l zero i a d n = refl
+  nth-change-other l (suc j) zero a d n = refl
+  nth-change-other l (suc j) (suc i) a d n = getD-set-other l j i a d (λ e. n (ap suc e))
+
   -- an element stands in the numbered list under some number
   pub in-numbered : (n : ℕ) (a : A) (l : List A) → In a l → (i : ℕ) × In (i, a) (numbered n l)
   in-numbered n a [] i = absurd i
@@ -286,3 +298,12 @@ different-head x l t = member-not x l (left (not (member x l)) (different l) t)
 
 pub different-tail : (x : ℕ) (l : List ℕ) → T (different (x ∷ l)) → T (different l)
 different-tail x l t = right (not (member x l)) (different l) t
+
+-- sharings
+
+-- there are as many holders as job numbers
+pub length-shares : (named : List (List ℕ)) (holders : List ℕ) → Shares named holders → length holders ≡ length named
+length-shares [] [] s = refl
+length-shares [] (h ∷ holders) s = absurd s
+length-shares (names ∷ named) [] s = absurd s
+length-shares (names ∷ named) (h ∷ holders) s = ap suc (length-shares named holders (s .1))

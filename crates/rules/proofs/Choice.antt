@@ -129,33 +129,24 @@ module _ {A : Type 0} (key : A → List ℕ) where
 
 -- a path by its jobs and its last bench
 
--- two routes with the same jobs and the same end start at the same bench
-route-start : (b : Board) (x y : ℕ) (r q : List Step) → Walk (steps b) x r → Walk (steps b) y q → map (λ s. s .job) r ≡ map (λ s. s .job) q → endOf x r ≡ endOf y q → x ≡ y
-route-start b x y [] [] w v e d = d
-route-start b x y [] (t ∷ q) w v e d = cc
-route-start b x y (s ∷ r) [] w v e d = cc
-route-start b x y (s ∷ r) (t ∷ q) w v e d =
-    let f : s .job ≡ t .job = cc in
-    sym ((step-is b x s (w .0)) .0) ∙ ap (holderOf b) f ∙ (step-is b y t (v .0)) .0
-
--- and are the same route: a bench in between is the holder of the next job
-route-fixed : (b : Board) (x y : ℕ) (r q : List Step) → Walk (steps b) x r → Walk (steps b) y q → map (λ s. s .job) r ≡ map (λ s. s .job) q → endOf x r ≡ endOf y q → r ≡ q
-route-fixed b x y [] [] w v e d = refl
-route-fixed b x y [] (t ∷ q) w v e d = cc
-route-fixed b x y (s ∷ r) [] w v e d = cc
+-- two routes with the same jobs and the same end start at the same bench and are the same: a bench that a step leaves is the
+-- holder of its job
+route-fixed : (b : Board) (x y : ℕ) (r q : List Step) → Walk (steps b) x r → Walk (steps b) y q → map (λ s. s .job) r ≡ map (λ s. s .job) q → endOf x r ≡ endOf y q → (x ≡ y) × (r ≡ q)
+route-fixed b x y [] [] w v e d = (d, refl)
+route-fixed b x y [] (t ∷ q) w v e d = (cc, cc)
+route-fixed b x y (s ∷ r) [] w v e d = (cc, cc)
 route-fixed b x y (s ∷ r) (t ∷ q) w v e d =
     let f : s .job ≡ t .job = cc in
     let g : map (λ s. s .job) r ≡ map (λ s. s .job) q = cc in
-    let h : s .to ≡ t .to = route-start b (s .to) (t .to) r q (w .1) (v .1) g d in
-    let k : s ≡ t = λ i. record { job = f i; to = h i } in
-    ap₂ _∷_ k (route-fixed b (s .to) (t .to) r q (w .1) (v .1) g d)
+    let h = route-fixed b (s .to) (t .to) r q (w .1) (v .1) g d in
+    let k : s ≡ t = λ i. record { job = f i; to = h .0 i } in
+    (sym ((step-is b x s (w .0)) .0) ∙ ap (holderOf b) f ∙ (step-is b y t (v .0)) .0, ap₂ _∷_ k (h .1))
 
 -- a path is fixed by its jobs and its last bench
 pub path-fixed : (b : Board) (p q : BenchPath) → IsPath b p → IsPath b q → jobs p ≡ jobs q → last p ≡ last q → p ≡ q
 path-fixed b p q m n e d =
-    let f : p .start ≡ q .start = route-start b (p .start) (q .start) (p .route) (q .route) (m .walk) (n .walk) e d in
-    let g : p .route ≡ q .route = route-fixed b (p .start) (q .start) (p .route) (q .route) (m .walk) (n .walk) e d in
-    λ i. record { start = f i; route = g i }
+    let f = route-fixed b (p .start) (q .start) (p .route) (q .route) (m .walk) (n .walk) e d in
+    λ i. record { start = f .0 i; route = f .1 i }
 
 -- so an arrival's key belongs to one path only
 pub arrivalKey-one : (b : Board) (p q : BenchPath) → IsPath b p → IsPath b q → arrivalKey b p ≡ arrivalKey b q → p ≡ q

@@ -16,7 +16,7 @@ use Rattle.rules.specs.Lists.{bit, within, count, different, rising, kee
 use Rattle.rules.specs.Board.{Board, Valid, mayHold, Shares, namesFit}
 use Rattle.rules.specs.Table.{Entry, vacant, filled, holderIn, follow, chains, standingIn, entryFits, placed, onlyStanding, formed, boardOf, firstHeld, placeOf, entryFor, entriesFrom, layoutOf}
 use Rattle.rules.proofs.Counting.{bit-same, bit-other}
-use Rattle.rules.proofs.Basics.{both, left, Compared, same, other, compared, T-eqb, eqb-T, within-low, within-both, keep-in, in-all, map-in, member-in, rising-low, true→T}
+use Rattle.rules.proofs.Basics.{both, left, Compared, same, other, compared, T-eqb, eqb-T, within-low, within-both, keep-in, in-all, map-in, member-in, rising-low, true→T, length-shares}
 
 -- the jobs from number i on that bench x holds, rising
 abbrev pub heldBy : ℕ → ℕ → List ℕ → List ℕ
@@ -38,11 +38,6 @@ rows benches (names ∷ named) (h ∷ holders) f s = row (f .0) (s .0) (rows ben
 -- the jobs of a valid board
 rowsOf : (b : Board) → Valid b → Rows (b .benches) (b .named) (b .holders)
 rowsOf b v = rows (b .benches) (b .named) (b .holders) (v .names) (v .shares)
-
--- there are as many holders as job numbers
-same-length : {benches : ℕ} {named : List (List ℕ)} {holders : List ℕ} → Rows benches named holders → length named ≡ length holders
-same-length none = refl
-same-length (row f m r) = ap suc (same-length r)
 
 -- one record
 
@@ -178,7 +173,7 @@ chains-layoutOf b v =
     let r = rowsOf b v in
     let es : List Entry = entriesFrom 1 (b .named) (b .holders) in
     map-twice (follow es (suc (length (b .named)))) (λ x. firstHeld 1 x (b .holders)) (λ x. heldBy 1 x (b .holders)) (rising 1 (b .benches))
-    (λ x i. follow-held es x (rising-low x 1 (b .benches) i) 0 (suc (length (b .named))) r refl (omega (arith, same-length r)))
+    (λ x i. follow-held es x (rising-low x 1 (b .benches) i) 0 (suc (length (b .named))) r refl (omega (arith, length-shares (b .named) (b .holders) (v .shares))))
 
 -- the clauses of the sound table
 

@@ -14,3 +14,6 @@ pub mod Sets
 pub mod ChainOrder
 pub mod Tally
 pub mod Changes
+pub mod JobBook
+pub mod Counter
+pub mod Questions

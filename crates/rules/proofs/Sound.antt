@@ -108,16 +108,16 @@ sized len benches jobs t =
     }
 
 -- a byte length does not fit where it has no such shape
-refused : (len benches jobs : ℕ) → (Sized len benches jobs → ⊥) → sizesFit len benches jobs ≡ false
-refused len benches jobs f = not→false (sizesFit len benches jobs) (not-T (sizesFit len benches jobs) (λ t. f (sized len benches jobs t)))
+misfit : (len benches jobs : ℕ) → (Sized len benches jobs → ⊥) → sizesFit len benches jobs ≡ false
+misfit len benches jobs f = not→false (sizesFit len benches jobs) (not-T (sizesFit len benches jobs) (λ t. f (sized len benches jobs t)))
 
 -- an odd length does not fit, whatever B and J
 pub odd-refused : (len benches jobs : ℕ) → len % 2 ≡ 1 → sizesFit len benches jobs ≡ false
-odd-refused len benches jobs h = refused len benches jobs (λ s. omega arith)
+odd-refused len benches jobs h = misfit len benches jobs (λ s. omega arith)
 
 -- a length below 8 does not fit, whatever B and J
 pub short-refused : (len benches jobs : ℕ) → len < 8 → sizesFit len benches jobs ≡ false
-short-refused len benches jobs h = refused len benches jobs (λ s. omega arith)
+short-refused len benches jobs h = misfit len benches jobs (λ s. omega arith)
 
 -- a table that fits, by the sizes that its words 0 and 1 give
 pub fits-sized : (t : List ℕ) → T (fits t) → Sized (length t) ((layout (words t)) .benches) ((layout (words t)) .jobs)

@@ -10,7 +10,7 @@ use lib.Seq.{take-at, drop-at}
 use Rattle.rules.specs.Lists.{within, rising, all, different, Each, empty}
 use Rattle.rules.specs.Board.{Board, Shares, namesFit}
 use Rattle.rules.specs.Table.{words, bytesOf, mostBenches, mostJobs, lengthFor, sizesFit, Entry, Layout, entriesIn, layout, fits, firstHeld, placeOf, entryFor, entriesFrom, layoutOf, entryWords, flat, encode, Storable}
-use Rattle.rules.proofs.Basics.{both, left, T-eqb, eqb-T, leb-T, within-high, all-in, in-each, each-append, each-map, length-keep, length-rising}
+use Rattle.rules.proofs.Basics.{both, left, T-eqb, eqb-T, leb-T, within-high, all-in, in-each, each-append, each-map, length-keep, length-rising, length-shares}
 
 -- words and bytes
 
@@ -88,13 +88,6 @@ pub length-entries : (i : ℕ) (named : List (List ℕ)) (holders : List ℕ) �
 length-entries i [] holders s = refl
 length-entries i (names ∷ named) [] s = absurd s
 length-entries i (names ∷ named) (h ∷ holders) s = ap suc (length-entries (suc i) named holders (s .1))
-
--- there are as many holders as job numbers
-length-shares : (named : List (List ℕ)) (holders : List ℕ) → Shares named holders → length holders ≡ length named
-length-shares [] [] s = refl
-length-shares [] (h ∷ holders) s = absurd s
-length-shares (names ∷ named) [] s = absurd s
-length-shares (names ∷ named) (h ∷ holders) s = ap suc (length-shares named holders (s .1))
 
 -- the records have two names each
 entries-two : (i : ℕ) (named : List (List ℕ)) (holders : List ℕ) → Each (λ names. T (empty names || eqb (length names) 2)) named → Each (λ e. length (e .names) ≡ 2) (entriesFrom i named holders)
