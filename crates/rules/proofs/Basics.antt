@@ -6,7 +6,7 @@ use mathlib.Core.Logic.{_⊎_, inl, inr, _≢_}
 use mathlib.Core.Bool.{Bool, true, false, cond, not, _&&_, _||_}
 use mathlib.Core.List.{List, [], _∷_, _++_, map, flatMap}
 use lib.Dec.{T, T-not, not-T, eqb, leb}
-use lib.ListN.{length, getD}
+use lib.ListN.{length, getD, set, length-set}
 use lib.Seq.{getD-set-same, getD-set-other}
 use borrow.Author.Tests.{eqb-true, eqb-false, eq-eqb, leb-true, le-leb}
 use Rattle.rules.specs.Board.{Shares}
@@ -190,6 +190,20 @@ module _ {A : Type 0} where
   nth-change-other l zero i a d n = refl
   nth-change-other l (suc j) zero a d n = refl
   nth-change-other l (suc j) (suc i) a d n = getD-set-other l j i a d (λ e. n (ap suc e))
+
+  pub length-change : (l : List A) (j : ℕ) (a : A) → length (change l j a) ≡ length l
+  length-change l zero a = refl
+  length-change l (suc i) a = length-set l i a
+
+  each-set : (P : A → Type 0) (l : List A) (i : ℕ) (a : A) → P a → Each P l → Each P (set l i a)
+  each-set P [] i a p e = tt
+  each-set P (x ∷ l) zero a p e = (p, e .1)
+  each-set P (x ∷ l) (suc i) a p e = (e .0, each-set P l i a p (e .1))
+
+  -- what is written has the property that every element has
+  pub each-change : (P : A → Type 0) (l : List A) (j : ℕ) (a : A) → P a → Each P l → Each P (change l j a)
+  each-change P l zero a p e = e
+  each-change P l (suc i) a p e = each-set P l i a p e
 
   -- an element stands in the numbered list under some number
   pub in-numbered : (n : ℕ) (a : A) (l : List A) → In a l → (i : ℕ) × In (i, a) (numbered n l)

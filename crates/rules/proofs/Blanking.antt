@@ -38,7 +38,8 @@ storable-empty benches jobs b j =
       pairs = each-replicate (λ names. T (empty names || eqb (length names) 2)) jobs tt;
     }
 
-standing-empty : (n : ℕ) → length (keep {A = List ℕ} (λ names. not (empty names)) (replicate n [])) ≡ 0
+-- no job stands on it
+pub standing-empty : (n : ℕ) → length (keep {A = List ℕ} (λ names. not (empty names)) (replicate n [])) ≡ 0
 standing-empty zero = refl
 standing-empty (suc n) = standing-empty n
 

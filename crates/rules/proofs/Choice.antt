@@ -19,11 +19,11 @@ use Rattle.rules.proofs.Paths.{step-is, improvingFrom-only, improving-o
 -- the dictionary order
 
 -- a list with a lower first number comes first
-dictionary-lower : (x y : ℕ) (k l : List ℕ) → x < y → T (dictionary (x ∷ k) (y ∷ l))
+pub dictionary-lower : (x y : ℕ) (k l : List ℕ) → x < y → T (dictionary (x ∷ k) (y ∷ l))
 dictionary-lower x y k l h = or-left (ltb x y) (eqb x y && dictionary k l) (lt→ltb x y h)
 
 -- with equal first numbers the rests decide
-dictionary-same : (x y : ℕ) (k l : List ℕ) → x ≡ y → T (dictionary k l) → T (dictionary (x ∷ k) (y ∷ l))
+pub dictionary-same : (x y : ℕ) (k l : List ℕ) → x ≡ y → T (dictionary k l) → T (dictionary (x ∷ k) (y ∷ l))
 dictionary-same x y k l e t = or-right (ltb x y) (eqb x y && dictionary k l) (both (eqb x y) (dictionary k l) (eqb-T x y e) t)
 
 -- and there is no other way to come first
@@ -172,7 +172,7 @@ greatest-above (suc n) f x l h = go (decLt x (suc n)) (λ i. greatest-above n f 
     go (no i) ih = let e : f x ≡ f (suc n) = ap f (omega arith) in omega arith
 
 -- no bench is above the heaviest
-load-heaviest : (b : Board) (x : ℕ) → T (within 1 (b .benches) x) → load (b .holders) x ≤ heaviest b
+pub load-heaviest : (b : Board) (x : ℕ) → T (within 1 (b .benches) x) → load (b .holders) x ≤ heaviest b
 unfolding heaviest
 load-heaviest b x t = greatest-above (b .benches) (load (b .holders)) x (within-low 1 (b .benches) x t) (within-high 1 (b .benches) x t)
 

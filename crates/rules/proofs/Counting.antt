@@ -1,14 +1,14 @@
 -- Counting: bits, how often a number stands in a list, totals over 1 to n.
-use Prim.Native.Nat.{ℕ, zero, suc, _+_, _≤_}
+use Prim.Native.Nat.{ℕ, zero, suc, _+_, _≤_, _<_}
 use native.Mathlib.Omega.{arith}
 use mathlib.Core.Path.{_≡_, refl, sym, ap}
-use mathlib.Core.Logic.{inl, inr}
-use mathlib.Core.Bool.{Bool, true, false}
+use mathlib.Core.Logic.{inl, inr, _≢_}
+use mathlib.Core.Bool.{Bool, true, false, cond}
 use mathlib.Core.List.{List, [], _∷_}
 use lib.Dec.{T, eqb}
-use lib.ListN.{length}
+use lib.ListN.{length, getD, set}
 use borrow.Author.Tests.{eq-eqb, ne-eqb}
-use Rattle.rules.specs.Lists.{bit, within, count, different, total, Each, In}
+use Rattle.rules.specs.Lists.{bit, within, count, different, total, keep, Each, In, nth, change}
 use Rattle.rules.proofs.Basics.{Compared, same, other, compared, within-low, within-high, different-head, different-tail}
 
 -- bits
@@ -55,12 +55,76 @@ pub total-most : (n : ℕ) (f : ℕ → ℕ) → ((x : ℕ) → f x ≤ 1) → t
 total-most zero f h = omega arith
 total-most (suc n) f h = omega (arith, total-most n f h, h (suc n))
 
--- a list of numbers of 1 to n is counted once for each place
-length-total : (n : ℕ) (l : List ℕ) → Each (λ x. T (within 1 n x)) l → length l ≤ total n (λ x. count x l)
-length-total n [] e = omega arith
-length-total n (y ∷ l) e =
-    omega (arith, length-total n l (e .1), total-add n (λ x. bit (eqb y x)) (λ x. count x l), total-at n (λ x. bit (eqb y x)) y (within-low 1 n y (e .0)) (within-high 1 n y (e .0)), bit-same y y refl)
+-- functions that agree on 1 to n have the same total ..
+pub total-same : (n : ℕ) (f g : ℕ → ℕ) → ((x : ℕ) → 1 ≤ x → x ≤ n → f x ≡ g x) → total n f ≡ total n g
+total-same zero f g h = refl
+total-same (suc n) f g h = omega (arith, total-same n f g (λ x l u. h x l (omega arith)), h (suc n) (omega arith) (omega arith))
+
+-- .. a function nowhere above another has no greater total ..
+pub total-le : (n : ℕ) (f g : ℕ → ℕ) → ((x : ℕ) → 1 ≤ x → x ≤ n → f x ≤ g x) → total n f ≤ total n g
+total-le zero f g h = omega arith
+total-le (suc n) f g h = omega (arith, total-le n f g (λ x l u. h x l (omega arith)), h (suc n) (omega arith) (omega arith))
+
+-- .. and if they differ at one place, the totals differ by what the functions do there
+pub total-but-one : (n : ℕ) (f g : ℕ → ℕ) (x : ℕ) → 1 ≤ x → x ≤ n → ((y : ℕ) → 1 ≤ y → y ≤ n → y ≢ x → f y ≡ g y) → total n f + g x ≡ total n g + f x
+total-but-one zero f g x l u h = omega arith
+total-but-one (suc n) f g x l u h = go (λ w. total-but-one n f g x l w (λ y k m. h y k (omega arith))) (compared x (suc n))
+  where
+    go : (x ≤ n → total n f + g x ≡ total n g + f x) → {b : Bool} → Compared x (suc n) b → total n f + f (suc n) + g x ≡ total n g + g (suc n) + f x
+    go ih (same e) = omega (arith, ap f e, ap g e, total-same n f g (λ y k m. h y k (omega arith) (λ d. omega arith)))
+    go ih (other d) = omega (arith, ih (omega arith), h (suc n) (omega arith) (omega arith) (λ e. d (sym e)))
+
+-- a number is at no place of 1 to n if it is above n ..
+total-above : (n y : ℕ) → n < y → total n (λ x. bit (eqb y x)) ≡ 0
+total-above zero y h = refl
+total-above (suc n) y h = omega (arith, total-above n y (omega arith), bit-other y (suc n) (λ e. omega arith))
+
+-- .. and at no more than one in any case
+total-once : (n y : ℕ) → total n (λ x. bit (eqb y x)) ≤ 1
+total-once zero y = omega arith
+total-once (suc n) y = go (total-once n y) (compared y (suc n))
+  where
+    go : total n (λ x. bit (eqb y x)) ≤ 1 → {b : Bool} → Compared y (suc n) b → total n (λ x. bit (eqb y x)) + bit (eqb y (suc n)) ≤ 1
+    go ih (same e) = omega (arith, total-above n y (omega arith), bit-le (eqb y (suc n)))
+    go ih (other d) = omega (arith, bit-other y (suc n) d)
+
+-- numbers outside 1 to n are not counted
+pub total-count-le : (n : ℕ) (l : List ℕ) → total n (λ x. count x l) ≤ length l
+total-count-le n [] = omega (arith, total-add n (λ x. 0) (λ x. 0))
+total-count-le n (y ∷ l) = omega (arith, total-count-le n l, total-add n (λ x. bit (eqb y x)) (λ x. count x l), total-once n y)
+
+-- a list of numbers of 1 to n has one place for each count
+pub total-count : (n : ℕ) (l : List ℕ) → Each (λ x. T (within 1 n x)) l → total n (λ x. count x l) ≡ length l
+total-count n [] e = omega (arith, total-count-le n [])
+total-count n (y ∷ l) e =
+    let at = total-at n (λ x. bit (eqb y x)) y (within-low 1 n y (e .0)) (within-high 1 n y (e .0)) in
+    omega (arith, total-count-le n (y ∷ l), total-count n l (e .1), total-add n (λ x. bit (eqb y x)) (λ x. count x l), at, bit-same y y refl)
 
 -- numbers of 1 to n, none twice, are at most n
 pub few : (n : ℕ) (l : List ℕ) → ((x : ℕ) → count x l ≤ 1) → Each (λ x. T (within 1 n x)) l → length l ≤ n
-few n l once e = omega (arith, length-total n l e, total-most n (λ x. count x l) once)
+few n l once e = omega (arith, total-count n l e, total-most n (λ x. count x l) once)
+
+-- writing at a place: the new number is counted there, and the old one no more
+pub count-change : (l : List ℕ) (j a y : ℕ) → 1 ≤ j → j ≤ length l → count y (change l j a) + bit (eqb (nth l j 0) y) ≡ count y l + bit (eqb a y)
+count-change l zero a y h u = omega arith
+count-change [] (suc i) a y h u = omega arith
+count-change (x ∷ l) (suc zero) a y h u = omega arith
+count-change (x ∷ l) (suc (suc i)) a y h u = omega (arith, count-change l (suc i) a y (omega arith) (omega arith))
+
+module _ {A : Type 0} (p : A → Bool) where
+  keep-more : (x : A) (l : List A) → length (keep p (x ∷ l)) ≡ bit (p x) + length (keep p l)
+  keep-more x l = go (p x)
+    where
+      go : (z : Bool) → length (cond z (x ∷ keep p l) (keep p l)) ≡ bit z + length (keep p l)
+      go true = omega arith
+      go false = omega arith
+
+  keep-set : (l : List A) (i : ℕ) (a d : A) → i < length l → length (keep p (set l i a)) + bit (p (getD l i d)) ≡ length (keep p l) + bit (p a)
+  keep-set [] i a d u = absurd (omega arith)
+  keep-set (x ∷ l) zero a d u = omega (arith, keep-more x l, keep-more a l)
+  keep-set (x ∷ l) (suc i) a d u = omega (arith, keep-more x l, keep-more x (set l i a), keep-set l i a d (omega arith))
+
+  -- writing at a place: what passes a test is counted so too
+  pub keep-change : (l : List A) (j : ℕ) (a d : A) → 1 ≤ j → j ≤ length l → length (keep p (change l j a)) + bit (p (nth l j d)) ≡ length (keep p l) + bit (p a)
+  keep-change l zero a d h u = absurd (omega arith)
+  keep-change l (suc i) a d h u = keep-set l i a d u

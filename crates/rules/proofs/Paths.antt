@@ -94,7 +94,7 @@ step-bench b v x s i =
 -- paths
 
 -- the benches that a route comes to
-abbrev benchesOf : List Step → List ℕ
+abbrev pub benchesOf : List Step → List ℕ
 benchesOf r = map (λ s. s .to) r
 
 -- different benches, and none already seen
@@ -155,7 +155,7 @@ listed-is-path b x p i =
     let f = fresh-more [] x (benchesOf (m .0)) (λ i. i) (h .1) in
     rw (m .2) (record { walk = h .0; once = T→true (different (x ∷ benchesOf (m .0))) (f .once) }, refl)
 
-walk-benches : (b : Board) → Valid b → (x : ℕ) (r : List Step) → Walk (steps b) x r → Each (λ y. T (within 1 (b .benches) y)) (benchesOf r)
+pub walk-benches : (b : Board) → Valid b → (x : ℕ) (r : List Step) → Walk (steps b) x r → Each (λ y. T (within 1 (b .benches) y)) (benchesOf r)
 walk-benches b v x [] w = tt
 walk-benches b v x (s ∷ r) w = (step-bench b v x s (w .0), walk-benches b v (s .to) r (w .1))
 
@@ -185,18 +185,18 @@ improvingFrom-every b v p h t = in-keep (improves b) p (pathsFrom b (p .start)) 
 
 -- benches that hold a job
 
-shares-getD : (named : List (List ℕ)) (holders : List ℕ) → Shares named holders → (i : ℕ) → T (mayHold (getD named i []) (getD holders i 0))
+pub shares-getD : (named : List (List ℕ)) (holders : List ℕ) → Shares named holders → (i : ℕ) → T (mayHold (getD named i []) (getD holders i 0))
 shares-getD [] [] s i = tt
 shares-getD [] (h ∷ holders) s i = absurd s
 shares-getD (names ∷ named) [] s i = absurd s
 shares-getD (names ∷ named) (h ∷ holders) s zero = s .0
 shares-getD (names ∷ named) (h ∷ holders) s (suc i) = shares-getD named holders (s .1) i
 
-shares-nth : (b : Board) → Valid b → (j : ℕ) → T (mayHold (namesOf b j) (holderOf b j))
+pub shares-nth : (b : Board) → Valid b → (j : ℕ) → T (mayHold (namesOf b j) (holderOf b j))
 shares-nth b v zero = tt
 shares-nth b v (suc i) = shares-getD (b .named) (b .holders) (v .shares) i
 
-held-named : (names : List ℕ) (h y : ℕ) → In y names → T (mayHold names h) → In h names
+pub held-named : (names : List ℕ) (h y : ℕ) → In y names → T (mayHold names h) → In h names
 held-named [] h y i t = absurd i
 held-named (x ∷ names) h y i t = member-in h (x ∷ names) t
 

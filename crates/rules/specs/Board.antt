@@ -4,7 +4,8 @@ use Prim.Native.Nat.{ℕ, _-_}
 use mathlib.Core.Bool.{Bool, _&&_, not}
 use mathlib.Core.List.{List, [], _∷_}
 use lib.Dec.{T, eqb}
-use Rattle.rules.specs.Lists.{within, count, member, different, total, greatest, all, Each, empty, nth, change}
+use lib.ListN.{length}
+use Rattle.rules.specs.Lists.{within, count, member, different, total, greatest, keep, all, Each, empty, nth, change}
 
 -- benches 1 to `benches`; for each job number in order the benches that the job names, [] for no job; and the bench that
 -- holds it, 0 for no job
@@ -24,6 +25,10 @@ holderOf b j = nth (b .holders) j 0
 -- job j stands
 abbrev pub stands : Board → ℕ → Bool
 stands b j = not (empty (namesOf b j))
+
+-- the number of standing jobs
+abbrev pub standing : Board → ℕ
+standing b = length (keep (λ names. not (empty names)) (b .named))
 
 -- the board with the benches of job j and its holder written anew; [] and 0 take the job away
 abbrev pub put : Board → ℕ → List ℕ → ℕ → Board

@@ -5,7 +5,7 @@ use mathlib.Core.List.{List, [], _∷_, _++_, map, flatMap}
 use lib.Dec.{T, eqb, leb}
 use lib.ListN.{length, getD, take, drop, replicate}
 use Rattle.rules.specs.Lists.{bit, within, count, rising, keep, all, Each, empty, nth, numbered}
-use Rattle.rules.specs.Board.{Board, Valid, namesFit}
+use Rattle.rules.specs.Board.{Board, Valid, namesFit, standing}
 
 -- "A word is 16 bits, two bytes, low byte first"
 abbrev pub words : List ℕ → List ℕ
@@ -170,7 +170,7 @@ layoutOf b =
     record {
       benches = b .benches;
       jobs = length (b .named);
-      standing = length (keep (λ names. not (empty names)) (b .named));
+      standing = standing b;
       spare = 0;
       heads = map (λ x. firstHeld 1 x (b .holders)) (rising 1 (b .benches));
       entries = entriesFrom 1 (b .named) (b .holders);

@@ -1,9 +1,11 @@
 -- 01, "The tally".
 use Prim.Native.Nat.{ℕ, _+_}
 use mathlib.Core.Bool.{Bool, cond, _&&_}
+use mathlib.Core.List.{List, [], _∷_}
 use mathlib.Core.Option.{Option, none, some}
+use mathlib.Core.Path.{_≡_}
 use lib.Dec.{leb}
-use Rattle.rules.specs.Answers.{Refusal, Answer, countFull}
+use Rattle.rules.specs.Answers.{Refusal, Answer, Outcome, countFull}
 use Rattle.rules.specs.Answers.{refused, blanked, arrived, closed, loadIs, heaviestIs, tightSetIs, isSound, levelYes, levelNo, levelled, stopped}
 
 -- "Three 32-bit counts: arrivals, closings, jobs moved"
@@ -55,3 +57,13 @@ noted t levelYes = unchanged t
 noted t levelNo = unchanged t
 noted t (levelled paths) = unchanged t
 noted t (stopped paths) = unchanged t
+
+-- "each answer is noted once"
+abbrev pub tallyAfter : Tally → List Outcome → Tally
+tallyAfter t [] = t
+tallyAfter t (o ∷ os) = tallyAfter ((noted t (o .answer)) .tally) os
+
+-- "without a 9"
+abbrev pub NoNine : Tally → List Outcome → Type 0
+NoNine t [] = Unit {0}
+NoNine t (o ∷ os) = ((noted t (o .answer)) .refusal ≡ none) × NoNine ((noted t (o .answer)) .tally) os

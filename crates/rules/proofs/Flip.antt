@@ -1,0 +1,175 @@
+-- Turning a path: the first bench's load falls by one and the last one's rises, and only the path's jobs change holder.
+use Prim.Native.Nat.{ℕ, zero, suc, _+_, _≤_}
+use native.Mathlib.Omega.{arith}
+use native.Mathlib.Decide.{decLt}
+use mathlib.Core.Path.{_≡_, refl, sym, ap, _∙_}
+use mathlib.Core.Logic.{inl, inr, _≢_}
+use mathlib.Core.Bool.{not}
+use mathlib.Core.List.{List, [], _∷_}
+use lib.Dec.{T, not-T, eqb}
+use lib.ListN.{length, length-set, List·getD-eq-default}
+use lib.Seq.{set-getD}
+use Rattle.rules.specs.Lists.{bit, within, member, different, all, In, empty, nth, change}
+use Rattle.rules.specs.Board.{Board, Valid, namesOf, holderOf, stands, load, mayHold, Shares, namesFit}
+use Rattle.rules.specs.Paths.{Step, steps, BenchPath, endOf, last, jobs, Walk, IsPath, handOver, flip}
+use Rattle.rules.proofs.Basics.{true→T, both, left, T-eqb, within-low, within-high, within-both, all-in, each-nth, empty-in, map-in, in-member, not-member, different-head, different-tail, nth-change-same, nth-change-other, length-shares}
+use Rattle.rules.proofs.Counting.{count-change}
+use Rattle.rules.proofs.Paths.{step-is, benchesOf, shares-nth, held-named}
+use Rattle.rules.proofs.Distances.{jobsOf}
+
+-- writing a job's names and its bench anew leaves a sharing ..
+pub shares-written : (named : List (List ℕ)) (holders : List ℕ) (j : ℕ) (names : List ℕ) (a : ℕ) → Shares named holders → T (mayHold names a) → Shares (change named j names) (change holders j a)
+shares-written named holders zero names a s t = s
+shares-written [] [] (suc i) names a s t = tt
+shares-written [] (h ∷ holders) (suc i) names a s t = absurd s
+shares-written (n ∷ named) [] (suc i) names a s t = absurd s
+shares-written (n ∷ named) (h ∷ holders) (suc zero) names a s t = (t, s .1)
+shares-written (n ∷ named) (h ∷ holders) (suc (suc i)) names a s t = (s .0, shares-written named holders (suc i) names a (s .1) t)
+
+-- .. and so does giving the job to a bench that it names
+pub shares-given : (named : List (List ℕ)) (holders : List ℕ) (j a : ℕ) → Shares named holders → T (mayHold (nth named j []) a) → Shares named (change holders j a)
+shares-given named holders zero a s t = s
+shares-given named holders (suc i) a s t =
+    let w = shares-written named holders (suc i) (nth named (suc i) []) a s t in
+    rw (set-getD named i []) at w
+
+-- a standing job's number is one of 1 to J
+pub stands-within : (b : Board) (j : ℕ) → T (stands b j) → T (within 1 (length (b .named)) j)
+stands-within b zero t = absurd t
+stands-within b (suc i) t =
+    elim (decLt i (length (b .named))) [ yes h ↦ within-both 1 (length (b .named)) (suc i) (omega arith) h | no h ↦ absurd (let e = List·getD-eq-default (b .named) [] {n = i} (omega arith) in rw e at t) ]
+
+-- a job that names a bench stands, and may be held by that bench
+named-stands : (b : Board) (j y : ℕ) → In y (namesOf b j) → T (stands b j)
+named-stands b j y i = not-T (empty (namesOf b j)) (λ t. empty-in y (namesOf b j) t i)
+
+named-may : (names : List ℕ) (y : ℕ) → In y names → T (mayHold names y)
+named-may [] y i = absurd i
+named-may (x ∷ names) y i = in-member y (x ∷ names) i
+
+-- names that are not empty have a bench
+names-some : (names : List ℕ) → T (not (empty names)) → (y : ℕ) × In y names
+names-some [] t = absurd t
+names-some (x ∷ names) t = (x, inl refl)
+
+-- a standing job's holder is a bench of 1 to B
+pub holder-bench : (b : Board) → Valid b → (j : ℕ) → T (stands b j) → T (within 1 (b .benches) (holderOf b j))
+holder-bench b v j t =
+    let names = namesOf b j in
+    let inside = within 1 (b .benches) in
+    let fit : T (namesFit (b .benches) names) = each-nth (λ names. T (namesFit (b .benches) names)) (b .named) j [] tt (v .names) in
+    let y = names-some names t in
+    all-in inside (holderOf b j) names (left (all inside names) (different names) fit) (held-named names (holderOf b j) (y .0) (y .1) (shares-nth b v j))
+
+-- where no job stands the holder is 0
+pub holder-none : (b : Board) → Valid b → (j : ℕ) → namesOf b j ≡ [] → holderOf b j ≡ 0
+holder-none b v j e = let t = shares-nth b v j in T-eqb (holderOf b j) 0 (rw e at t)
+
+-- a job that is not on the route stays where it is ..
+handOver-keeps : (holders : List ℕ) (r : List Step) (i : ℕ) → (In i (jobsOf r) → ⊥) → nth (handOver holders r) i 0 ≡ nth holders i 0
+handOver-keeps holders [] i k = refl
+handOver-keeps holders (s ∷ r) i k =
+    handOver-keeps (change holders (s .job) (s .to)) r i (λ m. k (inr m)) ∙ nth-change-other holders (s .job) i (s .to) 0 (λ e. k (inl e))
+
+length-change : (l : List ℕ) (j a : ℕ) → length (change l j a) ≡ length l
+length-change l zero a = refl
+length-change l (suc i) a = length-set l i a
+
+-- .. and one that is on it once goes where its step leads
+handOver-gives : (holders : List ℕ) (r : List Step) (s : Step) → In s r → T (different (jobsOf r)) → 1 ≤ s .job → s .job ≤ length holders → nth (handOver holders r) (s .job) 0 ≡ s .to
+handOver-gives holders [] s i d l u = absurd i
+handOver-gives holders (t ∷ r) s (inl e) d l u =
+    rw e (handOver-keeps (change holders (t .job) (t .to)) r (t .job) (different-head (t .job) (jobsOf r) d) ∙ nth-change-same holders (t .job) (t .to) 0 (rw e at l) (rw e at u))
+handOver-gives holders (t ∷ r) s (inr i) d l u =
+    handOver-gives (change holders (t .job) (t .to)) r s i (different-tail (t .job) (jobsOf r) d) l (omega (arith, length-change holders (t .job) (t .to)))
+
+-- a sharing stays one if each step of the route leads to a bench that its job names
+handOver-shares : (named : List (List ℕ)) (holders : List ℕ) (r : List Step) → Shares named holders → ((s : Step) → In s r → T (mayHold (nth named (s .job) []) (s .to))) → Shares named (handOver holders r)
+handOver-shares named holders [] k f = k
+handOver-shares named holders (s ∷ r) k f =
+    handOver-shares named (change holders (s .job) (s .to)) r (shares-given named holders (s .job) (s .to) k (f s (inl refl))) (λ t i. f t (inr i))
+
+-- a step of a walk is a step from some bench
+walk-step : (out : ℕ → List Step) (x : ℕ) (r : List Step) → Walk out x r → (s : Step) → In s r → (y : ℕ) × In s (out y)
+walk-step out x [] w s i = absurd i
+walk-step out x (t ∷ r) w s (inl e) = (x, rw e (w .0))
+walk-step out x (t ∷ r) w s (inr i) = walk-step out (t .to) r (w .1) s i
+
+-- a bench that the walk does not come to holds none of its jobs ..
+walk-leaves : (b : Board) (x : ℕ) (r : List Step) → Walk (steps b) x r → (j : ℕ) → (In (holderOf b j) (x ∷ benchesOf r) → ⊥) → In j (jobsOf r) → ⊥
+walk-leaves b x [] w j f i = i
+walk-leaves b x (s ∷ r) w j f (inl e) = f (inl (ap (holderOf b) e ∙ (step-is b x s (w .0)) .0))
+walk-leaves b x (s ∷ r) w j f (inr i) = walk-leaves b (s .to) r (w .1) j (λ k. f (inr k)) i
+
+-- .. so a walk that comes to no bench twice has no job twice
+walk-jobs : (b : Board) (x : ℕ) (r : List Step) → Walk (steps b) x r → T (different (x ∷ benchesOf r)) → T (different (jobsOf r))
+walk-jobs b x [] w d = tt
+walk-jobs b x (s ∷ r) w d =
+    let e = (step-is b x s (w .0)) .0 in
+    let f = walk-leaves b (s .to) r (w .1) (s .job) (rw e (different-head x (benchesOf (s ∷ r)) d)) in
+    both (not (member (s .job) (jobsOf r))) (different (jobsOf r)) (not-member (s .job) (jobsOf r) f) (walk-jobs b (s .to) r (w .1) (different-tail x (benchesOf (s ∷ r)) d))
+
+module _ (b : Board) (v : Valid b) where
+  step-within : (x : ℕ) (s : Step) → In s (steps b x) → T (within 1 (length (b .holders)) (s .job))
+  step-within x s i =
+      rw (length-shares (b .named) (b .holders) (v .shares)) (stands-within b (s .job) (named-stands b (s .job) (s .to) ((step-is b x s i) .1)))
+
+  -- loads along a walk: the holders of its jobs are the board's, the others may be changed already
+  walk-loads : (holders : List ℕ) → length holders ≡ length (b .holders) → (x : ℕ) (r : List Step) → Walk (steps b) x r → T (different (jobsOf r)) → ((i : ℕ) → In i (jobsOf r) → nth holders i 0 ≡ holderOf b i) → (y : ℕ) → load (handOver holders r) y + bit (eqb x y) ≡ load holders y + bit (eqb (endOf x r) y)
+  walk-loads holders l x [] w d same y = refl
+  walk-loads holders l x (s ∷ r) w d same y =
+      let j = s .job in
+      let next = change holders j (s .to) in
+      let long : length next ≡ length (b .holders) = length-change holders j (s .to) ∙ l in
+      let unchanged : (i : ℕ) → In i (jobsOf r) → nth next i 0 ≡ holderOf b i = λ i k. nth-change-other holders j i (s .to) 0 (λ e. different-head j (jobsOf r) d (rw (sym e) k)) ∙ same i (inr k) in
+      let ih = walk-loads next long (s .to) r (w .1) (different-tail j (jobsOf r) d) unchanged y in
+      let t = step-within x s (w .0) in
+      let one = count-change holders j (s .to) y (within-low 1 (length (b .holders)) j t) (omega (arith, within-high 1 (length (b .holders)) j t)) in
+      omega (arith, ih, one, ap (λ (z : ℕ). bit (eqb z y)) (same j (inl refl) ∙ (step-is b x s (w .0)) .0))
+
+module _ (b : Board) (v : Valid b) (p : BenchPath) (h : IsPath b p) where
+  path-step : (s : Step) → In s (p .route) → (y : ℕ) × In s (steps b y)
+  path-step s i = walk-step (steps b) (p .start) (p .route) (h .walk) s i
+
+  -- a path's jobs stand ..
+  pub path-stands : (i : ℕ) → In i (jobs p) → T (stands b i)
+  path-stands i k =
+      let m = map-in (λ (s : Step). s .job) i (p .route) k in
+      let s = m .0 in
+      let w = path-step s (m .1) in
+      rw (m .2) (named-stands b (s .job) (s .to) ((step-is b (w .0) s (w .1)) .1))
+
+  -- .. and none is on it twice
+  pub path-jobs : T (different (jobs p))
+  path-jobs = walk-jobs b (p .start) (p .route) (h .walk) (true→T (different (p .start ∷ benchesOf (p .route))) (h .once))
+
+  -- loads: one less at the path's first bench, one more at its last, none else
+  pub flip-loads : (y : ℕ) → load ((flip b p) .holders) y + bit (eqb (p .start) y) ≡ load (b .holders) y + bit (eqb (last p) y)
+  unfolding flip
+  flip-loads y = walk-loads b v (b .holders) refl (p .start) (p .route) (h .walk) path-jobs (λ i k. refl) y
+
+  -- the turned board is valid: each job of the path goes to a bench that it names
+  pub flip-valid : Valid (flip b p)
+  unfolding flip
+  flip-valid = record { names = v .names; shares = handOver-shares (b .named) (b .holders) (p .route) (v .shares) may }
+    where
+      may : (s : Step) → In s (p .route) → T (mayHold (namesOf b (s .job)) (s .to))
+      may s i = let w = path-step s i in named-may (namesOf b (s .job)) (s .to) ((step-is b (w .0) s (w .1)) .1)
+
+  -- every job of the path changes its holder ..
+  pub flip-moves : (i : ℕ) → In i (jobs p) → holderOf (flip b p) i ≢ holderOf b i
+  unfolding flip
+  flip-moves i k e =
+      let m = map-in (λ (s : Step). s .job) i (p .route) k in
+      let s = m .0 in
+      let w = path-step s (m .1) in
+      let t = step-within b v (w .0) s (w .1) in
+      let n = length (b .holders) in
+      let is = step-is b (w .0) s (w .1) in
+      let gives = handOver-gives (b .holders) (p .route) s (m .1) path-jobs (within-low 1 n (s .job) t) (within-high 1 n (s .job) t) in
+      is .2 (sym gives ∙ (rw (m .2) at e) ∙ is .0)
+
+  -- .. and no other job does
+  pub flip-keeps : (i : ℕ) → (In i (jobs p) → ⊥) → holderOf (flip b p) i ≡ holderOf b i
+  unfolding flip
+  flip-keeps i k = handOver-keeps (b .holders) (p .route) i k

@@ -1,0 +1,210 @@
+-- What a search finds is what the rules name: distances, the end bench by the rule's order, and the first list, give the chosen path.
+use Prim.Native.Nat.{ℕ, suc, _+_, _≤_, _<_}
+use native.Mathlib.Omega.{arith}
+use native.Mathlib.Decide.{decLt}
+use mathlib.Core.Path.{_≡_, refl, sym, ap, subst, _∙_}
+use mathlib.Core.Logic.{_⊎_, inl, inr}
+use mathlib.Core.Bool.{not}
+use mathlib.Core.List.{List, [], _∷_}
+use mathlib.Core.Option.{none, some}
+use lib.Dec.{T}
+use lib.ListN.{length}
+use Rattle.rules.specs.Lists.{within, member, different, dictionary, In, empty, least}
+use Rattle.rules.specs.Board.{Board, Valid, load}
+use Rattle.rules.specs.Paths.{Step, steps, BenchPath, pathBy, endOf, last, jobs, Walk, IsPath, improves, improvingFrom, improvingTo, improving}
+use Rattle.rules.specs.Sharing.{arrivalKey, closingKey, levellingKey, arrivalChoice, closingChoice, levellingChoice, level}
+use Rattle.rules.proofs.Basics.{T→true, both, T-leb, leb-T, in-empty, not-member}
+use Rattle.rules.proofs.Paths.{benchesOf, improvingFrom-only, improvingFrom-every, improves-start, improving-only, improving-every, improvingTo-only, improvingTo-every}
+use Rattle.rules.proofs.Choice.{ArrivalFirst, ClosingFirst, LevellingFirst, First, arrival-choice, closing-choice, levelling-choice}
+use Rattle.rules.proofs.Walks.{Reach, reach-join, path-reach, reach-bench}
+use Rattle.rules.proofs.Distances.{To, Away, jobsOf}
+
+-- r is a walk from x to y with d - 1 steps, and its list of jobs is the first among the walks with so many
+pub record FirstList (b : Board) (x y d : ℕ) (r : List Step) : Type 0 where
+  pub walk : Walk (steps b) x r
+  pub ends : endOf x r ≡ y
+  pub long : d ≡ suc (length r)
+  pub first : (q : List Step) → Walk (steps b) x q → endOf x q ≡ y → length q ≡ length r → T (dictionary (jobsOf r) (jobsOf q))
+
+module _ (out : ℕ → List Step) where
+  -- a walk that comes to x goes on from there to its end, with fewer steps
+  cut : (x y : ℕ) (r : List Step) → Walk out y r → In x (benchesOf r) → (q : List Step) × Walk out x q × (endOf x q ≡ endOf y r) × (length q < length r)
+  cut x y [] w i = absurd i
+  cut x y (s ∷ r) w (inl e) = (r, subst (λ (z : ℕ). Walk out z r) (sym e) (w .1), ap (λ (z : ℕ). endOf z r) e, omega arith)
+  cut x y (s ∷ r) w (inr i) = let h = cut x (s .to) r (w .1) i in (h .0, h .1, h .2, omega (arith, h .3))
+
+  -- so a walk with the fewest steps to its end comes to no bench twice
+  fewest-once : (x : ℕ) (r : List Step) → Walk out x r → ((q : List Step) → Walk out x q → endOf x q ≡ endOf x r → length r ≤ length q) → T (different (x ∷ benchesOf r))
+  fewest-once x [] w f = tt
+  fewest-once x (s ∷ r) w f =
+      both (not (member x (benchesOf (s ∷ r)))) (different (benchesOf (s ∷ r)))
+      (not-member x (benchesOf (s ∷ r)) (λ i. let h = cut x x (s ∷ r) w i in omega (arith, h .3, f (h .0) (h .1) (h .2))))
+      (fewest-once (s .to) r (w .1) (λ q u e. omega (arith, f (s ∷ q) (w .0, u) e)))
+
+-- an order of ends by distance is one of paths by length: m and n are the distances, r and k the lengths
+by-length : {A E D : Type 0} (m n r k y z : ℕ) → m ≡ suc r → n ≤ suc k → (r ≡ k → y ≡ z → D) → A ⊎ (E × ((m < n) ⊎ ((m ≡ n) × (y ≤ z)))) → A ⊎ (E × ((r < k) ⊎ ((r ≡ k) × ((y < z) ⊎ ((y ≡ z) × D)))))
+by-length m n r k y z s t d (inl a) = inl a
+by-length m n r k y z s t d (inr (e, inl h)) = inr (e, inl (omega arith))
+by-length {A} {E} {D} m n r k y z s t d (inr (e, inr (h, l))) = inr (e, go (decLt r k) (decLt y z))
+  where
+    go : Dec (r < k) → Dec (y < z) → (r < k) ⊎ ((r ≡ k) × ((y < z) ⊎ ((y ≡ z) × D)))
+    go (yes i) c = inl i
+    go (no i) (yes j) = inr (omega arith, inl j)
+    go (no i) (no j) = inr (omega arith, inr (omega arith, d (omega arith) (omega arith)))
+
+-- nothing is chosen from nothing
+least-empty : {A : Type 0} (key : A → List ℕ) (l : List A) → T (empty l) → least key l ≡ none
+least-empty key [] t = refl
+least-empty key (a ∷ l) t = absurd t
+
+module _ (b : Board) where
+  -- what improving says of the loads, and back
+  improves-loads : (p : BenchPath) → T (improves b p) → load (b .holders) (last p) + 2 ≤ load (b .holders) (p .start)
+  unfolding improves
+  improves-loads p t = T-leb (load (b .holders) (last p) + 2) (load (b .holders) (p .start)) t
+
+  loads-improve : (p : BenchPath) → load (b .holders) (last p) + 2 ≤ load (b .holders) (p .start) → T (improves b p)
+  unfolding improves
+  loads-improve p h = leb-T (load (b .holders) (last p) + 2) (load (b .holders) (p .start)) h
+
+  -- the steps of a path from x are a walk from x with the same end
+  walk-from : (x : ℕ) (q : BenchPath) → IsPath b q → q .start ≡ x → Walk (steps b) x (q .route) × (endOf x (q .route) ≡ last q)
+  walk-from x q h s = (subst (λ (z : ℕ). Walk (steps b) z (q .route)) s (h .walk), ap (λ (z : ℕ). endOf z (q .route)) (sym s))
+
+  -- a first list is a path where no walk to its end has fewer steps
+  first-path : (x y d : ℕ) (r : List Step) → FirstList b x y d r → ((q : List Step) → Walk (steps b) x q → endOf x q ≡ y → d ≤ suc (length q)) → IsPath b (pathBy x r)
+  first-path x y d r l f =
+      let o = fewest-once (steps b) x r (l .walk) (λ q w e. omega (arith, l .long, f q w (e ∙ l .ends))) in
+      record { walk = l .walk; once = T→true (different (x ∷ benchesOf r)) o }
+
+  -- and its list comes first to that of a path between the same benches with as many steps
+  first-jobs : (x y d : ℕ) (r : List Step) → FirstList b x y d r → (q : BenchPath) → IsPath b q → q .start ≡ x → last q ≡ y → length r ≡ length (q .route) → T (dictionary (jobsOf r) (jobs q))
+  first-jobs x y d r l q h s e n = let w = walk-from x q h s in l .first (q .route) (w .0) (w .1 ∙ e) (sym n)
+
+module _ (b : Board) (v : Valid b) where
+  -- y is a bench where an improving path from x may end: f are the distances from x
+  pub record Lower (x : ℕ) (f : ℕ → ℕ) (y : ℕ) : Type 0 where
+    pub bench : T (within 1 (b .benches) y)
+    pub reached : 1 ≤ f y
+    pub lower : load (b .holders) y + 2 ≤ load (b .holders) x
+
+  -- "lowest last load, then fewest jobs, then lowest last bench"
+  pub record ArrivalEnd (x : ℕ) (f : ℕ → ℕ) (y : ℕ) : Type 0 where
+    pub is : Lower x f y
+    pub first : (z : ℕ) → Lower x f z → (load (b .holders) y < load (b .holders) z) ⊎ ((load (b .holders) y ≡ load (b .holders) z) × ((f y < f z) ⊎ ((f y ≡ f z) × (y ≤ z))))
+
+  -- an improving path from x ends there
+  lower-end : (x : ℕ) (f : ℕ → ℕ) → Away (b .benches) (steps b) x f → (q : BenchPath) → In q (improvingFrom b x) → Lower x f (last q) × (f (last q) ≤ suc (length (q .route)))
+  lower-end x f a q i =
+      let h = improvingFrom-only b x q i in
+      let w = reach-bench b v (q .start) (last q) (improves-start b v q (h .0) (h .2)) (path-reach b q (h .0)) in
+      let u = walk-from b x q (h .0) (h .1) in
+      let s = a .short (last q) (q .route) w (u .0) (u .1) in
+      (record { bench = w; reached = s .0; lower = omega (arith, improves-loads b q (h .2), ap (load (b .holders)) (h .1)) }, s .1)
+
+  -- an arrival at x chooses the first list to that end ..
+  pub arrival-found : (x y : ℕ) (f : ℕ → ℕ) (r : List Step) → Away (b .benches) (steps b) x f → ArrivalEnd x f y → FirstList b x y (f y) r → arrivalChoice b x ≡ some (pathBy x r)
+  arrival-found x y f r a e l = (arrival-choice b x (pathBy x r)) .1 (record { listed-is = listed; before = before })
+    where
+      path : IsPath b (pathBy x r)
+      path = first-path b x y (f y) r l (λ q w d. (a .short y q (e .is .bench) w d) .1)
+
+      listed : In (pathBy x r) (improvingFrom b x)
+      listed = improvingFrom-every b v (pathBy x r) path (loads-improve b (pathBy x r) (rw (l .ends) (e .is .lower)))
+
+      before : (q : BenchPath) → In q (improvingFrom b x) → ArrivalFirst b (pathBy x r) q
+      before q i =
+          let h = improvingFrom-only b x q i in
+          let z = lower-end x f a q i in
+          rw (l .ends)
+          (by-length (f y) (f (last q)) (length r) (length (q .route)) y (last q) (l .long) (z .1)
+          (λ n d. first-jobs b x y (f y) r l q (h .0) (h .1) (sym d) n)
+          (e .first (last q) (z .0)))
+
+  -- .. and nothing where there is none
+  pub arrival-not-found : (x : ℕ) (f : ℕ → ℕ) → T (within 1 (b .benches) x) → Away (b .benches) (steps b) x f → ((z : ℕ) → Lower x f z → ⊥) → arrivalChoice b x ≡ none
+  unfolding arrivalChoice
+  arrival-not-found x f w a n = least-empty (arrivalKey b) (improvingFrom b x) (in-empty (improvingFrom b x) (λ q i. n (last q) (lower-end x f a q i .0)))
+
+  -- z is a bench where an improving path to x may start: d are the distances to x
+  pub record Higher (x : ℕ) (d : ℕ → ℕ) (z : ℕ) : Type 0 where
+    pub bench : T (within 1 (b .benches) z)
+    pub reaches : 1 ≤ d z
+    pub higher : load (b .holders) x + 2 ≤ load (b .holders) z
+
+  -- "greatest first load, then fewest jobs, lowest first bench"
+  pub record ClosingStart (x : ℕ) (d : ℕ → ℕ) (z : ℕ) : Type 0 where
+    pub is : Higher x d z
+    pub first : (w : ℕ) → Higher x d w → (load (b .holders) w < load (b .holders) z) ⊎ ((load (b .holders) z ≡ load (b .holders) w) × ((d z < d w) ⊎ ((d z ≡ d w) × (z ≤ w))))
+
+  -- an improving path to x starts there
+  higher-start : (x : ℕ) (d : ℕ → ℕ) → To (b .benches) (steps b) x d → (q : BenchPath) → In q (improvingTo b x) → Higher x d (q .start) × (d (q .start) ≤ suc (length (q .route)))
+  higher-start x d t q i =
+      let h = improvingTo-only b x q i in
+      let s = t .short (q .start) (q .route) (h .1) (h .0 .walk) (h .2) in
+      (record { bench = h .1; reaches = s .0; higher = omega (arith, improves-loads b q (h .3), ap (load (b .holders)) (h .2)) }, s .1)
+
+  -- a closing at x chooses the first list from that start ..
+  pub closing-found : (x z : ℕ) (d : ℕ → ℕ) (r : List Step) → To (b .benches) (steps b) x d → ClosingStart x d z → FirstList b z x (d z) r → closingChoice b x ≡ some (pathBy z r)
+  closing-found x z d r t s l = (closing-choice b x (pathBy z r)) .1 (record { listed-is = listed; before = before })
+    where
+      path : IsPath b (pathBy z r)
+      path = first-path b z x (d z) r l (λ q w e. (t .short z q (s .is .bench) w e) .1)
+
+      listed : In (pathBy z r) (improvingTo b x)
+      listed =
+          subst (λ (y : ℕ). In (pathBy z r) (improvingTo b y)) (l .ends)
+          (improvingTo-every b v (pathBy z r) path (loads-improve b (pathBy z r) (rw (l .ends) (s .is .higher))))
+
+      before : (q : BenchPath) → In q (improvingTo b x) → ClosingFirst b (pathBy z r) q
+      before q i =
+          let h = improvingTo-only b x q i in
+          let w = higher-start x d t q i in
+          by-length (d z) (d (q .start)) (length r) (length (q .route)) z (q .start) (l .long) (w .1)
+          (λ n e. first-jobs b z x (d z) r l q (h .0) (sym e) (h .2) n)
+          (s .first (q .start) (w .0))
+
+  -- .. and nothing where there is none
+  pub closing-not-found : (x : ℕ) (d : ℕ → ℕ) → To (b .benches) (steps b) x d → ((z : ℕ) → Higher x d z → ⊥) → closingChoice b x ≡ none
+  unfolding closingChoice
+  closing-not-found x d t n = least-empty (closingKey b) (improvingTo b x) (in-empty (improvingTo b x) (λ q i. n (q .start) (higher-start x d t q i .0)))
+
+  -- bench x starts an improving path
+  abbrev pub StartsOne : ℕ → Type 0
+  StartsOne x = (y : ℕ) × Reach (steps b) x y × (load (b .holders) y + 2 ≤ load (b .holders) x)
+
+  -- levelling turns what an arrival at z would, if z has the greatest load and then the lowest number among those that start one
+  pub levelling-found : (z : ℕ) (p : BenchPath) → arrivalChoice b z ≡ some p → ((w : ℕ) → T (within 1 (b .benches) w) → StartsOne w → (load (b .holders) w < load (b .holders) z) ⊎ ((load (b .holders) z ≡ load (b .holders) w) × (z ≤ w))) → levellingChoice b ≡ some p
+  levelling-found z p e first = (levelling-choice b p) .1 (record { listed-is = improving-every b v p (h .0) (h .2); before = before })
+    where
+      chosen : First (improvingFrom b z) (ArrivalFirst b) p
+      chosen = (arrival-choice b z p) .0 e
+
+      h : IsPath b p × (p .start ≡ z) × T (improves b p)
+      h = improvingFrom-only b z p (chosen .listed-is)
+
+      before : (q : BenchPath) → In q (improving b) → LevellingFirst b p q
+      before q i = go (first (q .start) (k .1) (last q, path-reach b q (k .0), improves-loads b q (k .2)))
+        where
+          k : IsPath b q × T (within 1 (b .benches) (q .start)) × T (improves b q)
+          k = improving-only b q i
+
+          own : z ≡ q .start → ArrivalFirst b p q
+          own d = chosen .before q (subst (λ (y : ℕ). In q (improvingFrom b y)) (sym d) (improvingFrom-every b v q (k .0) (k .2)))
+
+          tie : z ≤ q .start → Dec (p .start < q .start) → (p .start < q .start) ⊎ ((p .start ≡ q .start) × ArrivalFirst b p q)
+          tie m (yes n) = inl n
+          tie m (no n) = let d : z ≡ q .start = omega (arith, h .1) in inr (h .1 ∙ d, own d)
+
+          go : (load (b .holders) (q .start) < load (b .holders) z) ⊎ ((load (b .holders) z ≡ load (b .holders) (q .start)) × (z ≤ q .start)) → LevellingFirst b p q
+          go (inl l) = inl (omega (arith, ap (load (b .holders)) (h .1)))
+          go (inr (l, m)) = inr (ap (load (b .holders)) (h .1) ∙ l, tie m (decLt (p .start) (q .start)))
+
+  -- and nothing on a level board
+  pub levelling-not-found : T (level b) → levellingChoice b ≡ none
+  unfolding level levellingChoice
+  levelling-not-found l = least-empty (levellingKey b) (improving b) l
+
+  -- a bench that is no heavier than one that reaches it, where that one starts no improving path, starts none either: it need not be searched
+  pub searched : (x y : ℕ) → Reach (steps b) x y → load (b .holders) y ≤ load (b .holders) x → (StartsOne x → ⊥) → StartsOne y → ⊥
+  searched x y w l n s = n (s .0, reach-join (steps b) x y (s .0) w (s .1), omega (arith, s .2))

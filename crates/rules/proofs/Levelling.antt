@@ -1,0 +1,230 @@
+-- Levelling: its steps, its count, and that it comes to an end.
+use Prim.Native.Nat.{ℕ, zero, suc, _+_, _-_, _≤_, _<_}
+use native.Mathlib.Omega.{arith}
+use native.Mathlib.Decide.{decLt}
+use mathlib.Core.Path.{_≡_, refl, sym, ap}
+use mathlib.Core.Logic.{_↔_, inl, _≢_}
+use mathlib.Core.Bool.{Bool, true, false, cond, not}
+use mathlib.Core.List.{List, [], _∷_}
+use mathlib.Core.Option.{Option, none, some}
+use lib.Dec.{T, not-T, eqb}
+use lib.ListN.{length}
+use borrow.Author.Tests.{ne-eqb}
+use Rattle.rules.specs.Lists.{bit, within, total, In, empty, least}
+use Rattle.rules.specs.Board.{Board, Valid, load}
+use Rattle.rules.specs.Table.{Storable}
+use Rattle.rules.specs.Paths.{BenchPath, last, IsPath, improves, improving, flip}
+use Rattle.rules.specs.Sharing.{level, levellingKey, levellingChoice, Levelled, relevel}
+use Rattle.rules.specs.Answers.{levelled, stopped}
+use Rattle.rules.specs.Calls.{levellingOutcome}
+use Rattle.rules.proofs.Basics.{true→T, Compared, same, other, compared, eqb-refl, T-leb, within-low, within-high, length-shares}
+use Rattle.rules.proofs.Counting.{bit-same, bit-other, total-but-one, total-count-le}
+use Rattle.rules.proofs.Paths.{improves-start, improving-only, level-exact}
+use Rattle.rules.proofs.Walks.{path-reach, reach-bench}
+use Rattle.rules.proofs.Choice.{levelling-choice, levelling-none}
+use Rattle.rules.proofs.Flip.{flip-loads, flip-valid}
+
+-- n steps of the rule lead from one board to another: each turns the path that the rule names
+pub data Turns : ℕ → Board → Board → Type 0 where
+  rest : (b : Board) → Turns 0 b b
+  turn : (n : ℕ) (b c : Board) (p : BenchPath) → levellingChoice b ≡ some p → Turns n (flip b p) c → Turns (suc n) b c
+
+-- what levelling does to a valid board
+pub record Relevels (allowance : ℕ) (b : Board) (r : Levelled) : Type 0 where
+  pub valid : Valid (r .board)
+  -- no job and no named bench changes
+  pub benches : (r .board) .benches ≡ b .benches
+  pub named : (r .board) .named ≡ b .named
+  -- the count is the number of steps of the rule, at most the allowance ..
+  pub steps : Turns (r .paths) b (r .board)
+  pub allowed : r .paths ≤ allowance
+  -- .. and with allowance left no improving path is
+  pub done : r .paths < allowance → T (level (r .board))
+
+-- the path that the rule names improves
+choice-improves : (b : Board) (p : BenchPath) → levellingChoice b ≡ some p → IsPath b p × T (improves b p)
+choice-improves b p e = let h = improving-only b p (((levelling-choice b p) .0 e) .listed-is) in (h .0, h .2)
+
+-- where it names none the board is level ..
+choice-level : (b : Board) → levellingChoice b ≡ none → T (level b)
+unfolding level
+choice-level b e = rw (levelling-none b e) tt
+
+-- .. and on a level board it names none
+level-choice : (b : Board) → T (level b) → levellingChoice b ≡ none
+unfolding level levellingChoice
+level-choice b l = go (improving b) l
+  where
+    go : (l : List BenchPath) → T (empty l) → least (levellingKey b) l ≡ none
+    go [] t = refl
+    go (p ∷ l) t = absurd t
+
+-- levelling from the path that the rule names on
+abbrev turned : ℕ → Board → Option BenchPath → Levelled
+turned n b o =
+    elim o [
+      | none ↦ record { paths = 0; board = b }
+      | some p ↦ let r = relevel n (flip b p) in record { paths = suc (r .paths); board = r .board }
+    ]
+
+-- levelling does all of that
+pub levelling-does : (allowance : ℕ) (b : Board) → Valid b → Relevels allowance b (relevel allowance b)
+unfolding flip
+levelling-does zero b v =
+    record { valid = v; benches = refl; named = refl; steps = rest b; allowed = omega arith; done = λ h. absurd (omega arith) }
+levelling-does (suc n) b v = go (levellingChoice b) refl (λ p w. levelling-does n (flip b p) w)
+  where
+    go : (o : Option BenchPath) → levellingChoice b ≡ o → ((p : BenchPath) → Valid (flip b p) → Relevels n (flip b p) (relevel n (flip b p))) → Relevels (suc n) b (turned n b o)
+    go none e ih =
+        record { valid = v; benches = refl; named = refl; steps = rest b; allowed = omega arith; done = λ h. choice-level b e }
+    go (some p) e ih =
+        let r = relevel n (flip b p) in
+        let i = ih p (flip-valid b v p ((choice-improves b p e) .0)) in
+        record {
+          valid = i .valid;
+          benches = i .benches;
+          named = i .named;
+          steps = turn (r .paths) b (r .board) p e (i .steps);
+          allowed = omega (arith, i .allowed);
+          done = λ h. i .done (omega arith);
+        }
+
+-- what is reported, by the test
+says-level : (n : ℕ) (z : Bool) → (cond z (levelled n) (stopped n) ≡ levelled n) ↔ T z
+says-level n true = (λ e. tt, λ t. refl)
+says-level n false = (λ e. true→T false cc, λ t. absurd t)
+
+says-stopped : (n : ℕ) (z : Bool) → (cond z (levelled n) (stopped n) ≡ stopped n) ↔ T (not z)
+says-stopped n true = (λ e. true→T false cc, λ t. absurd t)
+says-stopped n false = (λ e. tt, λ t. refl)
+
+-- a board that is not level has an improving path
+unlevel-improves : (b : Board) → T (not (level b)) → (p : BenchPath) × IsPath b p × T (improves b p)
+unfolding level
+unlevel-improves b t = go (improving b) (λ p i. improving-only b p i) t
+  where
+    go : (l : List BenchPath) → ((p : BenchPath) → In p l → IsPath b p × T (within 1 (b .benches) (p .start)) × T (improves b p)) → T (not (empty l)) → (p : BenchPath) × IsPath b p × T (improves b p)
+    go [] f t = absurd t
+    go (p ∷ l) f t = let h = f p (inl refl) in (p, h .0, h .2)
+
+-- "It reports the paths turned, and "level" if no improving path is left, else "stopped"."
+pub levelling-says-level : (r : Levelled) → Valid (r .board) → ((levellingOutcome r) .answer ≡ levelled (r .paths)) ↔ ((p : BenchPath) → IsPath (r .board) p → T (improves (r .board) p) → ⊥)
+unfolding levellingOutcome
+levelling-says-level r v =
+    let s = says-level (r .paths) (level (r .board)) in
+    let l = level-exact (r .board) v in
+    (λ e. l .0 (s .0 e), λ f. s .1 (l .1 f))
+
+pub levelling-says-stopped : (r : Levelled) → Valid (r .board) → ((levellingOutcome r) .answer ≡ stopped (r .paths)) ↔ ((p : BenchPath) × IsPath (r .board) p × T (improves (r .board) p))
+unfolding levellingOutcome
+levelling-says-stopped r v =
+    let s = says-stopped (r .paths) (level (r .board)) in
+    let l = level-exact (r .board) v in
+    (λ e. unlevel-improves (r .board) (s .0 e), λ q. s .1 (not-T (level (r .board)) (λ t. l .0 t (q .0) (q .1) (q .2))))
+
+-- on a level board nothing moves
+pub level-rests : (allowance : ℕ) (b : Board) → T (level b) → relevel allowance b ≡ record { paths = 0; board = b }
+level-rests zero b l = refl
+level-rests (suc n) b l = ap (turned n b) (level-choice b l)
+
+-- the waits of a bench with n jobs, each waiting for those before it: n × (n - 1) / 2
+abbrev pub waits : ℕ → ℕ
+waits zero = 0
+waits (suc n) = waits n + n
+
+-- added up over all benches
+abbrev pub waiting : Board → ℕ
+waiting b = total (b .benches) (λ x. waits (load (b .holders) x))
+
+-- one job goes from bench x to bench z, whose load is smaller by two or more
+module _ (n : ℕ) (old new : ℕ → ℕ) (x z : ℕ) (loads : (y : ℕ) → new y + bit (eqb x y) ≡ old y + bit (eqb z y)) (less : old z + 2 ≤ old x) where
+  -- the waits when the job has left x, and has not come to z
+  abbrev between : ℕ → ℕ
+  between y = cond (eqb x y) (waits (new y)) (waits (old y))
+
+  apart : z ≢ x
+  apart e = omega (arith, ap old e)
+
+  between-new : (y : ℕ) → y ≢ z → waits (new y) ≡ between y
+  between-new y d = go (compared x y)
+    where
+      go : {t : Bool} → Compared x y t → waits (new y) ≡ cond t (waits (new y)) (waits (old y))
+      go (same e) = refl
+      go (other c) =
+          let e : new y ≡ old y = omega (arith, loads y, bit-other x y c, bit-other z y (λ e. d (sym e))) in
+          ap waits e
+
+  between-old : (y : ℕ) → y ≢ x → between y ≡ waits (old y)
+  between-old y d = rw (ne-eqb x y (λ e. d (sym e))) refl
+
+  waits-fall : T (within 1 n x) → T (within 1 n z) → total n (λ y. waits (new y)) < total n (λ y. waits (old y))
+  waits-fall s t =
+      let falls : old x ≡ suc (new x) = omega (arith, loads x, bit-same x x refl, bit-other z x apart) in
+      let rises : new z ≡ suc (old z) = omega (arith, loads z, bit-same z z refl, bit-other x z (λ e. apart (sym e))) in
+      let e : between x ≡ waits (new x) = rw (eqb-refl x) refl in
+      omega (
+        arith,
+        total-but-one n (λ y. waits (new y)) between z (within-low 1 n z t) (within-high 1 n z t) (λ y l u. between-new y),
+        total-but-one n between (λ y. waits (old y)) x (within-low 1 n x s) (within-high 1 n x s) (λ y l u. between-old y),
+        between-old z apart,
+        ap waits falls,
+        ap waits rises,
+      )
+
+-- turning an improving path lowers it ..
+pub turn-lowers : (b : Board) → Valid b → (p : BenchPath) → IsPath b p → T (improves b p) → waiting (flip b p) < waiting b
+unfolding flip improves
+turn-lowers b v p h t =
+    let old = load (b .holders) in
+    let s = improves-start b v p h t in
+    let l = reach-bench b v (p .start) (last p) s (path-reach b p h) in
+    waits-fall (b .benches) old (load ((flip b p) .holders)) (p .start) (last p) (flip-loads b v p h) (T-leb (old (last p) + 2) (old (p .start)) t) s l
+
+-- .. by one or more for each path turned
+turns-lower : (n : ℕ) (b c : Board) → Valid b → Turns n b c → n + waiting c ≤ waiting b
+turns-lower n b c v (rest _) = omega arith
+turns-lower n b c v (turn m _ _ p e s) =
+    let h = choice-improves b p e in
+    omega (arith, turn-lowers b v p (h .0) (h .1), turns-lower m (flip b p) c (flip-valid b v p (h .0)) s)
+
+-- .. so an allowance of that many always ends in "level" ..
+pub levelling-ends : (allowance : ℕ) (b : Board) → Valid b → waiting b ≤ allowance → T (level ((relevel allowance b) .board))
+levelling-ends allowance b v l =
+    let r = relevel allowance b in
+    let d = levelling-does allowance b v in
+    let w = turns-lower (r .paths) b (r .board) v (d .steps) in
+    elim (decLt (r .paths) allowance) [
+      | yes h ↦ d .done h
+      | no h ↦ (level-exact (r .board) (d .valid)) .1 (λ p q t. omega (arith, turn-lowers (r .board) (d .valid) p q t))
+    ]
+
+-- jobs on one bench wait at least as long as on two
+waits-join : (m n : ℕ) → waits m + waits n ≤ waits (m + n)
+waits-join m zero = let e : m + 0 ≡ m = omega arith in omega (arith, ap waits e)
+waits-join m (suc n) = let e : m + suc n ≡ suc (m + n) = omega arith in omega (arith, waits-join m n, ap waits e)
+
+waits-more : (m n : ℕ) → m ≤ n → waits m ≤ waits n
+waits-more m n h = let e : m + (n - m) ≡ n = omega arith in omega (arith, waits-join m (n - m), ap waits e)
+
+waits-total : (n : ℕ) (f : ℕ → ℕ) → total n (λ x. waits (f x)) ≤ waits (total n f)
+waits-total zero f = omega arith
+waits-total (suc n) f = omega (arith, waits-total n f, waits-join (total n f) (f (suc n)))
+
+-- .. which n job numbers bring to n × (n - 1) / 2 at most ..
+pub waiting-most : (b : Board) → Valid b → waiting b ≤ waits (length (b .named))
+waiting-most b v =
+    let loads = load (b .holders) in
+    let e = length-shares (b .named) (b .holders) (v .shares) in
+    let h = waits-more (total (b .benches) loads) (length (b .named)) (omega (arith, total-count-le (b .benches) (b .holders))) in
+    omega (arith, waits-total (b .benches) loads)
+
+-- 4,000 jobs on one bench
+waits-4000 : waits 4000 ≡ 7998000
+waits-4000 = refl
+
+-- .. and a table's board to 4,000 × 3,999 / 2
+pub enough-allowance : (b : Board) → Storable b → (allowance : ℕ) → 7998000 ≤ allowance → T (level ((relevel allowance b) .board))
+enough-allowance b s allowance l =
+    let n = length (b .named) in
+    let h = waits-more n 4000 (within-high 1 4000 n (s .jobs)) in
+    levelling-ends allowance b (s .valid) (omega (arith, waiting-most b (s .valid), waits-4000))

@@ -1,0 +1,214 @@
+-- What an accepted arrival, closing or levelling leaves of a sound table: a sound table again, of the board that the rule names.
+use Prim.Native.Nat.{ℕ}
+use mathlib.Core.Path.{_≡_, refl, sym, ap, subst, _∙_}
+use mathlib.Core.Logic.{inl, inr}
+use mathlib.Core.Bool.{Bool, true, false, cond, not, _&&_, _||_, false≢true}
+use mathlib.Core.List.{List, [], _∷_}
+use mathlib.Core.Option.{Option, none, some}
+use lib.Dec.{T, eqb}
+use lib.ListN.{length}
+use borrow.Author.Tests.{eqb-false}
+use Rattle.rules.specs.Lists.{within, Each, In, empty, change}
+use Rattle.rules.specs.Board.{Board, Valid, stands, namesFit}
+use Rattle.rules.specs.Table.{mostBenches, mostJobs, sound, decode, encode, Storable}
+use Rattle.rules.specs.Sharing.{Change, arrive, close, Levelled, relevel, level}
+use Rattle.rules.specs.Answers.{Refusal, Answer, Outcome, firstHolding, isRefused, settled}
+use Rattle.rules.specs.Answers.{refused, blanked, arrived, closed, loadIs, heaviestIs, tightSetIs, isSound, levelYes, levelNo, levelled, stopped}
+use Rattle.rules.specs.Calls.{Call, arrival, closing, levelling, loadOf, heaviestLoad, tightSetOf, formCheck, levelCheck, noBench, conditions, lentList, accepted, outcome, arrivalOutcome, closingOutcome, levellingOutcome, tightSetOutcome}
+use Rattle.rules.specs.JobBook.{Book, entered, OneMore}
+use Rattle.rules.proofs.Basics.{false→not, both, not-member, length-change, each-change}
+use Rattle.rules.proofs.Refusals.{accepted-by, accepted-answers, isQuestion, question-leaves}
+use Rattle.rules.proofs.JobBook.{refused-enters, question-enters}
+use Rattle.rules.proofs.ChainOrder.{sound-outcome}
+use Rattle.rules.proofs.Sound.{sound-storable}
+use Rattle.rules.proofs.Encode.{encode-sound, decode-encode}
+use Rattle.rules.proofs.Changes.{Does, arrival-does, closing-does}
+use Rattle.rules.proofs.Levelling.{Relevels, levelling-does}
+
+-- a board with the sizes of a storable one, valid and with two benches for each job, is storable
+resized : (b c : Board) → Storable b → Valid c → c .benches ≡ b .benches → length (c .named) ≡ length (b .named) → Each (λ names. T (empty names || eqb (length names) 2)) (c .named) → Storable c
+resized b c s v e l p =
+    record {
+      valid = v;
+      benches = subst (λ (n : ℕ). T (within 1 mostBenches n)) (sym e) (s .benches);
+      jobs = subst (λ (n : ℕ). T (within 1 mostJobs n)) (sym l) (s .jobs);
+      pairs = p;
+    }
+
+-- so is one in which job j was taken to these names
+changed-storable : (b : Board) (j : ℕ) (names : List ℕ) (c : Change) → Storable b → T (empty names || eqb (length names) 2) → Does b j names c → Storable (c .board)
+changed-storable b j names c s p d =
+    resized b (c .board) s (d .valid) (d .benches) (ap length (d .named) ∙ length-change (b .named) j names)
+    (subst (Each (λ names. T (empty names || eqb (length names) 2))) (sym (d .named)) (each-change (λ names. T (empty names || eqb (length names) 2)) (b .named) j names p (s .pairs)))
+
+-- a table that a change writes: sound, and of that board
+pub record Written (u : List ℕ) (b : Board) : Type 0 where
+  pub sound : T (sound u)
+  pub board : decode u ≡ b
+
+written-as : {u : List ℕ} (b : Board) → Storable b → u ≡ encode b → Written u b
+written-as b s e =
+    subst (λ (u : List ℕ). Written u b) (sym e) (record { sound = encode-sound b s; board = decode-encode b s })
+
+-- what lets an arrival of job j for benches x and y through
+pub record MayArrive (b : Board) (j x y : ℕ) : Type 0 where
+  pub number : T (within 1 (length (b .named)) j)
+  pub free : T (not (stands b j))
+  pub fit : T (namesFit (b .benches) (x ∷ y ∷ []))
+
+-- a condition that does not hold: what it denies does, and of two neither holds
+holds : (z : Bool) → not z ≡ false → T z
+holds true e = tt
+holds false e = absurd (false≢true (sym e))
+
+neither : (y z : Bool) → (y || z) ≡ false → (y ≡ false) × (z ≡ false)
+neither true z e = absurd (false≢true (sym e))
+neither false z e = (refl, e)
+
+may-arrive : (b : Board) (j x y : ℕ) → Each (λ k. k .holds ≡ false) (conditions (arrival j x y) b) → MayArrive b j x y
+unfolding conditions
+may-arrive b j x y e =
+    let f = neither (noBench b x || noBench b y) (eqb x y) (e .1 .0) in
+    let g = neither (noBench b x) (noBench b y) (f .0) in
+    let wx = within 1 (b .benches) x in
+    let wy = within 1 (b .benches) y in
+    let apart : T (not (eqb y x || false)) = not-member x (y ∷ []) (λ i. different i (eqb-false x y (f .1))) in
+    record {
+      number = holds (within 1 (length (b .named)) j) (e .0);
+      free = false→not (stands b j) (e .1 .1 .0);
+      fit = both (wx && (wy && true)) (not (eqb y x || false) && true) (both wx (wy && true) (holds wx (g .0)) (both wy true (holds wy (g .1)) tt)) (both (not (eqb y x || false)) true apart tt);
+    }
+  where
+    different : In x (y ∷ []) → (x ≡ y → ⊥) → ⊥
+    different (inl e) n = n e
+    different (inr i) n = i
+
+may-close : (b : Board) (j : ℕ) → Each (λ k. k .holds ≡ false) (conditions (closing j) b) → T (stands b j)
+unfolding conditions
+may-close b j e = holds (stands b j) (e .1 .0)
+
+-- what an accepted arrival leaves of a sound table: one bench's load rose by one, the one in the answer, and the number of moved jobs is true
+pub record Arrives (t : List ℕ) (j x y : ℕ) (c : Change) : Type 0 where
+  pub may : MayArrive (decode t) j x y
+  pub is : outcome (arrival j x y) t ≡ arrivalOutcome j c
+  pub writes : Written ((outcome (arrival j x y) t) .table) (c .board)
+  pub does : Does (decode t) j (x ∷ y ∷ []) c
+  pub rose : OneMore ((decode t) .benches) ((decode t) .holders) ((c .board) .holders) (c .bench)
+
+pub arrival-accepted : (t : List ℕ) → T (sound t) → (j x y : ℕ) → isRefused ((outcome (arrival j x y) t) .answer) ≡ false → Arrives t j x y (arrive (decode t) j (x ∷ y ∷ []))
+unfolding accepted arrivalOutcome
+arrival-accepted t s j x y n =
+    let a = accepted-by (arrival j x y) t n in
+    let st = sound-storable t s in
+    let m = may-arrive (decode t) j x y (a .0 .1 .1) in
+    let c = arrive (decode t) j (x ∷ y ∷ []) in
+    let d = arrival-does (decode t) (st .valid) j (x ∷ y ∷ []) (m .number) (m .free) tt (m .fit) in
+    record {
+      may = m;
+      is = a .1;
+      writes = written-as (c .board) (changed-storable (decode t) j (x ∷ y ∷ []) c st tt (d .0)) (ap (λ o. o .table) (a .1));
+      does = d .0;
+      rose = d .1;
+    }
+
+-- what an accepted closing leaves: one bench's load fell by one
+pub record Closes (t : List ℕ) (j : ℕ) (c : Change) : Type 0 where
+  pub stood : T (stands (decode t) j)
+  pub is : outcome (closing j) t ≡ closingOutcome c
+  pub writes : Written ((outcome (closing j) t) .table) (c .board)
+  pub does : Does (decode t) j [] c
+  pub fell : OneMore ((decode t) .benches) ((c .board) .holders) ((decode t) .holders) (c .bench)
+
+pub closing-accepted : (t : List ℕ) → T (sound t) → (j : ℕ) → isRefused ((outcome (closing j) t) .answer) ≡ false → Closes t j (close (decode t) j)
+unfolding accepted closingOutcome
+closing-accepted t s j n =
+    let a = accepted-by (closing j) t n in
+    let st = sound-storable t s in
+    let m = may-close (decode t) j (a .0 .1 .1) in
+    let c = close (decode t) j in
+    let d = closing-does (decode t) (st .valid) j m in
+    record {
+      stood = m;
+      is = a .1;
+      writes = written-as (c .board) (changed-storable (decode t) j [] c st tt (d .0)) (ap (λ o. o .table) (a .1));
+      does = d .0;
+      fell = d .1;
+    }
+
+-- what a levelling leaves of a sound table; nothing but its form refuses it
+pub record Levels (t : List ℕ) (allowance : ℕ) (r : Levelled) : Type 0 where
+  pub is : outcome (levelling allowance) t ≡ levellingOutcome r
+  pub writes : Written ((outcome (levelling allowance) t) .table) (r .board)
+  pub does : Relevels allowance (decode t) r
+
+pub levelling-accepted : (t : List ℕ) → T (sound t) → (allowance : ℕ) → Levels t allowance (relevel allowance (decode t))
+unfolding conditions accepted levellingOutcome
+levelling-accepted t s allowance =
+    let e = sound-outcome (levelling allowance) t s in
+    let st = sound-storable t s in
+    let r = relevel allowance (decode t) in
+    let d = levelling-does allowance (decode t) (st .valid) in
+    let p = subst (Each (λ names. T (empty names || eqb (length names) 2))) (sym (d .named)) (st .pairs) in
+    record { is = e; writes = written-as (r .board) (resized (decode t) (r .board) st (d .valid) (d .benches) (ap length (d .named)) p) (ap (λ o. o .table) e); does = d }
+
+-- an answer of an accepted arrival or closing
+abbrev pub isChange : Answer → Bool
+isChange (arrived holder rose moved) = true
+isChange (closed fell moved) = true
+isChange (refused r) = false
+isChange blanked = false
+isChange (loadIs n) = false
+isChange (heaviestIs n) = false
+isChange (tightSetIs benches inside) = false
+isChange isSound = false
+isChange levelYes = false
+isChange levelNo = false
+isChange (levelled paths) = false
+isChange (stopped paths) = false
+
+-- a levelling's answer is none
+pub levelling-quiet : (r : Levelled) → isChange ((levellingOutcome r) .answer) ≡ false
+unfolding levellingOutcome
+levelling-quiet r = go (level (r .board))
+  where
+    go : (z : Bool) → isChange (cond z (levelled (r .paths)) (stopped (r .paths))) ≡ false
+    go true = refl
+    go false = refl
+
+-- a call that leaves the table: a refused one, or a question
+pub record Left (t : List ℕ) (c : Call) (o : Outcome) : Type 0 where
+  pub table : o .table ≡ t
+  pub quiet : isChange (o .answer) ≡ false
+  pub book : (k : Book) → entered c (isRefused (o .answer)) k ≡ k
+
+-- every call on a sound table is one of four: an accepted arrival, an accepted closing, a levelling, or one that leaves the table
+module _ (t : List ℕ) (s : T (sound t)) (P : Call → Type 0) (arrives : (j x y : ℕ) → Arrives t j x y (arrive (decode t) j (x ∷ y ∷ [])) → P (arrival j x y)) (closes : (j : ℕ) → Closes t j (close (decode t) j) → P (closing j)) (levels : (allowance : ℕ) → Levels t allowance (relevel allowance (decode t)) → P (levelling allowance)) (leaves : (c : Call) → Left t c (outcome c t) → P c) where
+  asked : (c : Call) → T (isQuestion c) → outcome c t ≡ accepted c t (decode t) → isChange ((accepted c t (decode t)) .answer) ≡ false → P c
+  asked c q e n =
+      leaves c (record { table = question-leaves c t q; quiet = ap (λ o. isChange (o .answer)) e ∙ n; book = λ k. question-enters c (isRefused ((outcome c t) .answer)) k q })
+
+  by-accepted : (c : Call) → outcome c t ≡ accepted c t (decode t) → P c
+  unfolding accepted tightSetOutcome
+  by-accepted (arrival j x y) e = arrives j x y (arrival-accepted t s j x y (ap (λ o. isRefused (o .answer)) e ∙ accepted-answers (arrival j x y) t (decode t)))
+  by-accepted (closing j) e = closes j (closing-accepted t s j (ap (λ o. isRefused (o .answer)) e ∙ accepted-answers (closing j) t (decode t)))
+  by-accepted (levelling allowance) e = levels allowance (levelling-accepted t s allowance)
+  by-accepted (loadOf x) e = asked (loadOf x) tt e refl
+  by-accepted heaviestLoad e = asked heaviestLoad tt e refl
+  by-accepted (tightSetOf h list) e = asked (tightSetOf h list) tt e refl
+  by-accepted formCheck e = asked formCheck tt e refl
+  by-accepted levelCheck e = asked levelCheck tt e (go (level (decode t)))
+    where
+      go : (z : Bool) → isChange (cond z levelYes levelNo) ≡ false
+      go true = refl
+      go false = refl
+
+  pub by-call : (c : Call) → P c
+  by-call c = go (firstHolding (conditions c (decode t))) refl
+    where
+      is : (o : Option Refusal) → firstHolding (conditions c (decode t)) ≡ o → outcome c t ≡ settled o t (lentList c) (accepted c t (decode t))
+      is o e = sound-outcome c t s ∙ ap (λ o. settled o t (lentList c) (accepted c t (decode t))) e
+
+      go : (o : Option Refusal) → firstHolding (conditions c (decode t)) ≡ o → P c
+      go none e = by-accepted c (is none e)
+      go (some r) e =
+          leaves c (subst (Left t c) (sym (is (some r) e)) (record { table = refl; quiet = refl; book = refused-enters c }))

@@ -1,0 +1,217 @@
+-- The closure that tight sets are: which benches are in it.
+use Prim.Native.Nat.{ℕ, zero, suc, _+_, _≤_}
+use native.Mathlib.Omega.{arith}
+use mathlib.Core.Path.{_≡_, refl, sym, subst}
+use mathlib.Core.Logic.{_⊎_, inl, inr, _↔_}
+use mathlib.Core.Bool.{Bool, true, false, cond, not, _||_}
+use mathlib.Core.List.{List, [], _∷_, flatMap}
+use lib.Dec.{T, eqb, leb}
+use lib.ListN.{length}
+use borrow.Author.Tests.{eqb-true, eqb-false}
+use Rattle.rules.specs.Lists.{within, member, different, rising, keep, In}
+use Rattle.rules.specs.Board.{Board, Valid, load}
+use Rattle.rules.specs.Paths.{Step, BenchPath, steps, last, IsPath}
+use Rattle.rules.specs.Sharing.{widen, widest, tightSet}
+use Rattle.rules.proofs.Basics.{both, either, or-left, or-right, T-leb, leb-T, within-low, within-high, within-both, in-keep, keep-in, in-map, map-in, in-flatMap, flatMap-in, member-in, in-member, not-member, in-rising, rising-low, rising-high, length-keep, length-rising, different-head, different-tail}
+use Rattle.rules.proofs.Paths.{benchesOf, step-bench}
+use Rattle.rules.proofs.Walks.{Reach, reach-here, reach-more, reach-all, reach-path, path-reach}
+
+-- the benches that those which pass the test bring in, themselves among them
+abbrev pub broughtIn : Board → (ℕ → Bool) → List ℕ
+broughtIn b p = widest b (b .benches) (keep p (rising 1 (b .benches)))
+
+module _ {A : Type 0} (p q : A → Bool) where
+  -- a test that passes more keeps more ..
+  keep-more : (l : List A) → ((a : A) → In a l → T (p a) → T (q a)) → length (keep p l) ≤ length (keep q l)
+  keep-more [] f = omega arith
+  keep-more (x ∷ l) f = go (p x) (q x) (f x (inl refl)) (keep-more l (λ a i. f a (inr i)))
+    where
+      go : (y z : Bool) → (T y → T z) → length (keep p l) ≤ length (keep q l) → length (cond y (x ∷ keep p l) (keep p l)) ≤ length (cond z (x ∷ keep q l) (keep q l))
+      go true true g h = omega arith
+      go true false g h = absurd (g tt)
+      go false true g h = omega arith
+      go false false g h = h
+
+  -- .. and if it keeps as many, it passes the same
+  keep-back : (l : List A) → ((a : A) → In a l → T (p a) → T (q a)) → length (keep q l) ≤ length (keep p l) → (a : A) → In a l → T (q a) → T (p a)
+  keep-back [] f h a i t = absurd i
+  keep-back (x ∷ l) f h a i t = rest (go (p x) (q x) (f x (inl refl)) h) (λ k j. keep-back l (λ c m. f c (inr m)) k a j t) i
+    where
+      more : length (keep p l) ≤ length (keep q l)
+      more = keep-more l (λ c m. f c (inr m))
+
+      go : (y z : Bool) → (T y → T z) → length (cond z (x ∷ keep q l) (keep q l)) ≤ length (cond y (x ∷ keep p l) (keep p l)) → (T z → T y) × (length (keep q l) ≤ length (keep p l))
+      go true true g k = (λ u. tt, omega arith)
+      go true false g k = absurd (g tt)
+      go false true g k = absurd (omega (arith, more))
+      go false false g k = (λ u. u, k)
+
+      rest : (T (q x) → T (p x)) × (length (keep q l) ≤ length (keep p l)) → (length (keep q l) ≤ length (keep p l) → In a l → T (p a)) → In a (x ∷ l) → T (p a)
+      rest r ih (inl e) = subst (λ (c : A). T (p c)) (sym e) (r .0 (subst (λ (c : A). T (q c)) e t))
+      rest r ih (inr j) = ih (r .1) j
+
+keep-different : (p : ℕ → Bool) (l : List ℕ) → T (different l) → T (different (keep p l))
+keep-different p [] t = tt
+keep-different p (x ∷ l) t = go (p x) (keep-different p l (different-tail x l t))
+  where
+    go : (z : Bool) → T (different (keep p l)) → T (different (cond z (x ∷ keep p l) (keep p l)))
+    go true u = both (not (member x (keep p l))) (different (keep p l)) (not-member x (keep p l) (λ i. different-head x l t (keep-in p x l i .0))) u
+    go false u = u
+
+rising-different : (i n : ℕ) → T (different (rising i n))
+rising-different i zero = tt
+rising-different i (suc n) =
+    let l = rising (suc i) n in
+    both (not (member i l)) (different l) (not-member i l (λ j. let h = rising-low i (suc i) n j in omega arith)) (rising-different (suc i) n)
+
+bench-listed : (n x : ℕ) → T (within 1 n x) → In x (rising 1 n)
+bench-listed n x t = let h = within-high 1 n x t in in-rising x 1 n (within-low 1 n x t) (omega arith)
+
+listed-bench : (n x : ℕ) → In x (rising 1 n) → T (within 1 n x)
+listed-bench n x i = let h = rising-high x 1 n i in within-both 1 n x (rising-low x 1 n i) (omega arith)
+
+module _ (b : Board) where
+  -- bench y is in the set, or a step from a bench of the set leads to it
+  abbrev Brings : List ℕ → ℕ → Type 0
+  Brings set y = In y set ⊎ ((z : ℕ) × (s : Step) × In z set × In s (steps b z) × (y ≡ s .to))
+
+  -- the test of a round
+  abbrev comes : List ℕ → ℕ → Bool
+  comes set y = member y set || member y (benchesOf (flatMap (steps b) set))
+
+  comes-brings : (set : List ℕ) (y : ℕ) → T (comes set y) → Brings set y
+  comes-brings set y t = go (either (member y set) (member y (benchesOf ways)) t)
+    where
+      ways : List Step
+      ways = flatMap (steps b) set
+
+      go : T (member y set) ⊎ T (member y (benchesOf ways)) → Brings set y
+      go (inl u) = inl (member-in y set u)
+      go (inr u) =
+          let m = map-in (λ (s : Step). s .to) y ways (member-in y (benchesOf ways) u) in
+          let f = flatMap-in (steps b) (m .0) set (m .1) in
+          inr (f .0, m .0, f .1, f .2, m .2)
+
+  brings-comes : (set : List ℕ) (y : ℕ) → Brings set y → T (comes set y)
+  brings-comes set y (inl i) = or-left (member y set) (member y (benchesOf (flatMap (steps b) set))) (in-member y set i)
+  brings-comes set y (inr (z, s, i, j, e)) =
+      let ways = flatMap (steps b) set in
+      or-right (member y set) (member y (benchesOf ways)) (in-member y (benchesOf ways) (rw e (in-map (λ (s : Step). s .to) s ways (in-flatMap (steps b) s z set i j))))
+
+  -- a round brings in what it is to bring in
+  widen-in : (set : List ℕ) (y : ℕ) → In y (widen b set) → T (within 1 (b .benches) y) × Brings set y
+  unfolding widen
+  widen-in set y i =
+      let k = keep-in (comes set) y (rising 1 (b .benches)) i in
+      (listed-bench (b .benches) y (k .0), comes-brings set y (k .1))
+
+  in-widen : (set : List ℕ) (y : ℕ) → T (within 1 (b .benches) y) → Brings set y → In y (widen b set)
+  unfolding widen
+  in-widen set y t r = in-keep (comes set) y (rising 1 (b .benches)) (bench-listed (b .benches) y t) (brings-comes set y r)
+
+  widen-once : (set : List ℕ) → T (different (widen b set))
+  unfolding widen
+  widen-once set = keep-different (comes set) (rising 1 (b .benches)) (rising-different 1 (b .benches))
+
+  -- what a round keeps up holds of the last set if it holds of the first
+  widest-keeps : (Q : List ℕ → Type 0) → ((set : List ℕ) → Q set → Q (widen b set)) → (k : ℕ) (set : List ℕ) → Q set → Q (widest b k set)
+  widest-keeps Q next zero set q = q
+  widest-keeps Q next (suc k) set q = go (eqb (length (widen b set)) (length set)) (widest-keeps Q next k (widen b set) (next set q))
+    where
+      go : (z : Bool) → Q (widest b k (widen b set)) → Q (cond z set (widest b k (widen b set)))
+      go true r = q
+      go false r = r
+
+  -- no step leads out of the set
+  abbrev Closed : List ℕ → Type 0
+  Closed set = (z : ℕ) (s : Step) → In z set → In s (steps b z) → In (s .to) set
+
+  -- the benches of 1 to B that pass the test
+  abbrev kept : (ℕ → Bool) → List ℕ
+  kept q = keep q (rising 1 (b .benches))
+
+  -- a bench that passes comes in
+  passes-comes : (q : ℕ → Bool) (y : ℕ) → In y (rising 1 (b .benches)) → T (q y) → T (comes (kept q) y)
+  passes-comes q y i t = brings-comes (kept q) y (inl (in-keep q y (rising 1 (b .benches)) i t))
+
+  widen-more : (q : ℕ → Bool) → length (kept q) ≤ length (widen b (kept q))
+  unfolding widen
+  widen-more q = keep-more q (comes (kept q)) (rising 1 (b .benches)) (passes-comes q)
+
+  widen-most : (set : List ℕ) → length (widen b set) ≤ b .benches
+  unfolding widen
+  widen-most set = omega (arith, length-keep (comes set) (rising 1 (b .benches)), length-rising 1 (b .benches))
+
+  -- a set that a round does not make longer is closed ..
+  still-closed : Valid b → (q : ℕ → Bool) → length (widen b (kept q)) ≤ length (kept q) → Closed (kept q)
+  unfolding widen
+  still-closed v q h z s i j =
+      let l = bench-listed (b .benches) (s .to) (step-bench b v z s j) in
+      let t = brings-comes (kept q) (s .to) (inr (z, s, i, j, refl)) in
+      in-keep q (s .to) (rising 1 (b .benches)) l (keep-back q (comes (kept q)) (rising 1 (b .benches)) (passes-comes q) h (s .to) l t)
+
+  -- .. and before the fuel is used up there is such a set, as each round before made it longer
+  widest-closed : Valid b → (k : ℕ) (q : ℕ → Bool) → b .benches ≤ k + length (kept q) → Closed (widest b k (kept q))
+  unfolding widen
+  widest-closed v zero q h = still-closed v q (omega (arith, widen-most (kept q)))
+  widest-closed v (suc k) q h = go (eqb (length wider) (length (kept q))) refl (λ l. widest-closed v k (comes (kept q)) l)
+    where
+      wider : List ℕ
+      wider = widen b (kept q)
+
+      go : (z : Bool) → eqb (length wider) (length (kept q)) ≡ z → (b .benches ≤ k + length wider → Closed (widest b k wider)) → Closed (cond z (kept q) (widest b k wider))
+      go true e ih = still-closed v q (omega (arith, eqb-true (length wider) (length (kept q)) e))
+      go false e ih = ih (omega (arith, widen-more q, eqb-false (length wider) (length (kept q)) e))
+
+module _ (b : Board) (p : ℕ → Bool) where
+  -- every bench in it is reached from one that passes ..
+  pub brought-only : (y : ℕ) → In y (broughtIn b p) → (x : ℕ) × T (within 1 (b .benches) x) × T (p x) × Reach (steps b) x y
+  brought-only y i = widest-keeps b (λ set. (y : ℕ) → In y set → From y) next (b .benches) (kept b p) first y i
+    where
+      From : ℕ → Type 0
+      From y = (x : ℕ) × T (within 1 (b .benches) x) × T (p x) × Reach (steps b) x y
+
+      first : (y : ℕ) → In y (kept b p) → From y
+      first y i =
+          let k = keep-in p y (rising 1 (b .benches)) i in
+          (y, listed-bench (b .benches) y (k .0), k .1, reach-here (steps b) y)
+
+      next : (set : List ℕ) → ((y : ℕ) → In y set → From y) → (y : ℕ) → In y (widen b set) → From y
+      next set f y i = go (widen-in b set y i .1)
+        where
+          go : Brings b set y → From y
+          go (inl j) = f y j
+          go (inr (z, s, j, k, e)) = let r = f z j in rw e (r .0, r .1, r .2, reach-more (steps b) (r .0) z s (r .3) k)
+
+  -- .. and is one of 1 to B
+  pub brought-bench : (y : ℕ) → In y (broughtIn b p) → T (within 1 (b .benches) y)
+  brought-bench y i =
+      widest-keeps b (λ set. (y : ℕ) → In y set → T (within 1 (b .benches) y)) (λ set f y i. widen-in b set y i .0) (b .benches) (kept b p) (λ y i. listed-bench (b .benches) y (keep-in p y (rising 1 (b .benches)) i .0)) y i
+
+  -- every bench that one which passes reaches is in it
+  pub brought-every : Valid b → (x y : ℕ) → T (within 1 (b .benches) x) → T (p x) → Reach (steps b) x y → In y (broughtIn b p)
+  brought-every v x y t u w =
+      let seed = in-keep p x (rising 1 (b .benches)) (bench-listed (b .benches) x t) u in
+      let start = widest-keeps b (In x) (λ set i. in-widen b set x t (inl i)) (b .benches) (kept b p) seed in
+      reach-all (steps b) (λ z. In z (broughtIn b p)) (widest-closed b v (b .benches) p (omega arith)) x y start w
+
+  -- none is in it twice
+  pub brought-once : T (different (broughtIn b p))
+  brought-once =
+      widest-keeps b (λ set. T (different set)) (λ set t. widen-once b set) (b .benches) (kept b p) (keep-different p (rising 1 (b .benches)) (rising-different 1 (b .benches)))
+
+-- a bench is in the tight set exactly if a path leads to it from a bench with load h or more
+pub tight-set : (b : Board) → Valid b → (h y : ℕ) → In y (tightSet b h) ↔ ((p : BenchPath) × IsPath b p × T (within 1 (b .benches) (p .start)) × (h ≤ load (b .holders) (p .start)) × (last p ≡ y))
+unfolding tightSet
+tight-set b v h y = (λ i. forth (brought-only b high y i), λ r. back r)
+  where
+    high : ℕ → Bool
+    high x = leb h (load (b .holders) x)
+
+    forth : (x : ℕ) × T (within 1 (b .benches) x) × T (high x) × Reach (steps b) x y → (p : BenchPath) × IsPath b p × T (within 1 (b .benches) (p .start)) × (h ≤ load (b .holders) (p .start)) × (last p ≡ y)
+    forth (x, t, u, w) =
+        let r = reach-path b x y w in
+        (r .0, r .1, rw (r .2) t, rw (r .2) (T-leb h (load (b .holders) x) u), r .3)
+
+    back : (p : BenchPath) × IsPath b p × T (within 1 (b .benches) (p .start)) × (h ≤ load (b .holders) (p .start)) × (last p ≡ y) → In y (broughtIn b high)
+    back (p, w, t, u, e) = subst (λ (z : ℕ). In z (broughtIn b high)) e (brought-every b high v (p .start) (last p) t (leb-T h (load (b .holders) (p .start)) u) (path-reach b p w))
