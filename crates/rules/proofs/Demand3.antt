@@ -7,19 +7,20 @@ use mathlib.Core.List.{List, [], _∷_}
 use lib.Dec.{T}
 use lib.ListN.{replicate}
 use Rattle.rules.specs.Board.{Board, Valid, Shares, load, excess}
-use Rattle.rules.specs.Table.{sizesFit, lengthFor, sound, decode, blankTable}
+use Rattle.rules.specs.Table.{sizesFit, lengthFor, sound, decode}
 use Rattle.rules.specs.Paths.{improves, last}
 use Rattle.rules.specs.Sharing.{arrive, close, level, Levelled, relevel}
 use Rattle.rules.specs.Answers.{Answer, Outcome, isRefused}
 use Rattle.rules.specs.Answers.{refused, blanked, arrived, closed, loadIs, heaviestIs, tightSetIs, isSound, levelYes, levelNo, levelled, stopped}
 use Rattle.rules.specs.Calls.{Call, arrival, closing, levelling, outcome, arrivalOutcome, closingOutcome, levellingOutcome}
-use Rattle.rules.specs.JobBook.{Book, entered, tableAfter, OneLoad, Runs, AsDefined, fromBlank, fromLevel, Claim, Demand3}
+use Rattle.rules.specs.Least.{Demand2}
+use Rattle.rules.specs.JobBook.{Book, entered, tableAfter, OneLoad, Runs, AsDefined, Start, fromBlank, fromLevel, Claim, Demand3}
 use Rattle.rules.proofs.Basics.{true→T, T-leb, within-low}
 use Rattle.rules.proofs.Counting.{bit-other}
 use Rattle.rules.proofs.Paths.{improves-start, level-exact}
 use Rattle.rules.proofs.Sound.{sized, sound-storable}
 use Rattle.rules.proofs.Blanking.{emptyBoard, storable-empty, blank-sound, blank-decodes}
-use Rattle.rules.proofs.Levels.{level-least}
+use Rattle.rules.proofs.Levels.{level-least, level-demand2}
 use Rattle.rules.proofs.KeepsLevel.{arrival-keeps-level, closing-keeps-level}
 use Rattle.rules.proofs.Levelling.{level-rests}
 use Rattle.rules.proofs.Outcomes.{Written, Arrives, Closes, Levels, Left, isChange, levelling-quiet, by-call}
@@ -140,11 +141,33 @@ empty-level benches jobs v =
     let i = T-leb (load (replicate jobs 0) (last p) + 2) (load (replicate jobs 0) (p .start)) t in
     omega (arith, load-none jobs (p .start) (within-low 1 benches (p .start) w)))
 
-pub demand-3 : Demand3
-demand-3 Does meets t k (fromBlank benches jobs e) cs os r =
+-- every start is a sound level table, and the book has its jobs
+started : (t : List ℕ) (k : Book) → Start t k → T (sound t) × T (level (decode t)) × ((decode t) .named ≡ k)
+started t k (fromBlank benches jobs e) =
     let z = sized (lengthFor benches jobs) benches jobs (true→T (sizesFit (lengthFor benches jobs) benches jobs) e) in
     let d = blank-decodes benches jobs (z .benches-within) (z .jobs-within) in
     let v = (storable-empty benches jobs (z .benches-within) (z .jobs-within)) .valid in
-    claim (blankTable benches jobs) (replicate jobs []) (blank-sound benches jobs (z .benches-within) (z .jobs-within)) (subst (λ (b : Board). T (level b)) (sym d) (empty-level benches jobs v)) (ap (λ (b : Board). b .named) d) cs os (as-defined Does meets (blankTable benches jobs) cs os r)
-demand-3 Does meets t k (fromLevel u s l) cs os r =
-    claim u ((decode u) .named) (true→T (sound u) s) (true→T (level (decode u)) l) refl cs os (as-defined Does meets u cs os r)
+    (blank-sound benches jobs (z .benches-within) (z .jobs-within), subst (λ (b : Board). T (level b)) (sym d) (empty-level benches jobs v), ap (λ (b : Board). b .named) d)
+started t k (fromLevel u s l) = (true→T (sound u) s, true→T (level (decode u)) l, refl)
+
+-- demand 3, whole
+pub demand-3 : Demand3
+demand-3 Does meets t k start cs os r =
+    let s = started t k start in
+    claim t k (s .0) (s .1) (s .2) cs os (as-defined Does meets t cs os r)
+
+-- so after every list of calls the table is sound and level ..
+pub level-after : (t : List ℕ) (k : Book) → Start t k → (cs : List Call) (os : List Outcome) → Runs AsDefined t cs os → T (sound (tableAfter t os)) × T (level (decode (tableAfter t os)))
+level-after t k start = let s = started t k start in go t (s .0) (s .1)
+  where
+    go : (t : List ℕ) → T (sound t) → T (level (decode t)) → (cs : List Call) (os : List Outcome) → Runs AsDefined t cs os → T (sound (tableAfter t os)) × T (level (decode (tableAfter t os)))
+    go t s l [] [] r = (s, l)
+    go t s l [] (o ∷ os) r = absurd r
+    go t s l (c ∷ cs) [] r = absurd r
+    go t s l (c ∷ cs) (o ∷ os) r = let d = subst (Carried c t) (sym (r .0)) (carried t s l c) in go (o .table) (d .form) (d .flat) cs os (r .1)
+
+-- .. and demand 2 holds of it: its heaviest load is least, and its tight set proves it
+pub demand-2-after : (t : List ℕ) (k : Book) → Start t k → (cs : List Call) (os : List Outcome) → Runs AsDefined t cs os → Demand2 (decode (tableAfter t os))
+demand-2-after t k start cs os r =
+    let e = level-after t k start cs os r in
+    level-demand2 (decode (tableAfter t os)) ((sound-storable (tableAfter t os) (e .0)) .valid) (e .1)

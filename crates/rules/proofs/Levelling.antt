@@ -99,7 +99,7 @@ says-stopped n true = (λ e. true→T false cc, λ t. absurd t)
 says-stopped n false = (λ e. tt, λ t. refl)
 
 -- a board that is not level has an improving path
-unlevel-improves : (b : Board) → T (not (level b)) → (p : BenchPath) × IsPath b p × T (improves b p)
+pub unlevel-improves : (b : Board) → T (not (level b)) → (p : BenchPath) × IsPath b p × T (improves b p)
 unfolding level
 unlevel-improves b t = go (improving b) (λ p i. improving-only b p i) t
   where

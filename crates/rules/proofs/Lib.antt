@@ -28,6 +28,7 @@ pub mod KeepsLevel
 pub mod Levelling
 pub mod Distances
 pub mod Found
+pub mod Search
 pub mod Outcomes
 pub mod Demand3
 pub mod TallyRun

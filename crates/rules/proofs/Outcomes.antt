@@ -1,5 +1,5 @@
 -- What an accepted arrival, closing or levelling leaves of a sound table: a sound table again, of the board that the rule names.
-use Prim.Native.Nat.{ℕ}
+use Prim.Native.Nat.{ℕ, _≤_}
 use mathlib.Core.Path.{_≡_, refl, sym, ap, subst, _∙_}
 use mathlib.Core.Logic.{inl, inr}
 use mathlib.Core.Bool.{Bool, true, false, cond, not, _&&_, _||_, false≢true}
@@ -23,7 +23,8 @@ use Rattle.rules.proofs.ChainOrder.{sound-outcome}
 use Rattle.rules.proofs.Sound.{sound-storable}
 use Rattle.rules.proofs.Encode.{encode-sound, decode-encode}
 use Rattle.rules.proofs.Changes.{Does, arrival-does, closing-does}
-use Rattle.rules.proofs.Levelling.{Relevels, levelling-does}
+use Rattle.rules.proofs.Levelling.{Relevels, levelling-does, levelling-says-level, enough-allowance}
+use Rattle.rules.proofs.Paths.{level-exact}
 
 -- a board with the sizes of a storable one, valid and with two benches for each job, is storable
 resized : (b c : Board) → Storable b → Valid c → c .benches ≡ b .benches → length (c .named) ≡ length (b .named) → Each (λ names. T (empty names || eqb (length names) 2)) (c .named) → Storable c
@@ -61,7 +62,7 @@ holds : (z : Bool) → not z ≡ false → T z
 holds true e = tt
 holds false e = absurd (false≢true (sym e))
 
-neither : (y z : Bool) → (y || z) ≡ false → (y ≡ false) × (z ≡ false)
+pub neither : (y z : Bool) → (y || z) ≡ false → (y ≡ false) × (z ≡ false)
 neither true z e = absurd (false≢true (sym e))
 neither false z e = (refl, e)
 
@@ -150,6 +151,14 @@ levelling-accepted t s allowance =
     let d = levelling-does allowance (decode t) (st .valid) in
     let p = subst (Each (λ names. T (empty names || eqb (length names) 2))) (sym (d .named)) (st .pairs) in
     record { is = e; writes = written-as (r .board) (resized (decode t) (r .board) st (d .valid) (d .benches) (ap length (d .named)) p) (ap (λ o. o .table) e); does = d }
+
+-- "level" is answered, whatever the board, from an allowance of 7,998,000 on
+pub levelling-enough : (t : List ℕ) → T (sound t) → (allowance : ℕ) → 7998000 ≤ allowance → (outcome (levelling allowance) t) .answer ≡ levelled ((relevel allowance (decode t)) .paths)
+levelling-enough t s allowance l =
+    let a = levelling-accepted t s allowance in
+    let v = a .does .valid in
+    let e = enough-allowance (decode t) (sound-storable t s) allowance l in
+    ap (λ o. o .answer) (a .is) ∙ (levelling-says-level (relevel allowance (decode t)) v) .1 ((level-exact ((relevel allowance (decode t)) .board) v) .0 e)
 
 -- an answer of an accepted arrival or closing
 abbrev pub isChange : Answer → Bool

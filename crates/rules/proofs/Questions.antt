@@ -1,18 +1,27 @@
--- Load and tight set on a sound table: when they are refused, and what they answer else.
-use Prim.Native.Nat.{ℕ, _*_, _≤_, _<_}
+-- The questions: what they answer, and when they are refused.
+use Prim.Native.Nat.{ℕ, _+_, _-_, _*_, _≤_, _<_}
 use native.Mathlib.Omega.{arith}
-use mathlib.Core.Path.{_≡_, ap, _∙_}
-use mathlib.Core.Bool.{true, false}
-use mathlib.Core.List.{List}
-use lib.Dec.{T}
+use mathlib.Core.Path.{_≡_, refl, sym, ap, _∙_}
+use mathlib.Core.Logic.{_↔_}
+use mathlib.Core.Bool.{Bool, true, false, cond, not}
+use mathlib.Core.List.{List, [], _∷_}
+use lib.Dec.{T, not-T, eqb, ltb}
 use lib.ListN.{length}
-use borrow.Author.Tests.{ne-eqb, lt-ltb, le-ltb}
+use borrow.Author.Tests.{eqb-false, ltb-false, ne-eqb, lt-ltb, le-ltb}
 use Rattle.rules.specs.Lists.{within}
-use Rattle.rules.specs.Board.{load, heaviest}
-use Rattle.rules.specs.Table.{sound, decode}
-use Rattle.rules.specs.Sharing.{tightSet}
-use Rattle.rules.specs.Answers.{refused, benchNumber, listTooShort, loadIs}
-use Rattle.rules.specs.Calls.{loadOf, tightSetOf, conditions, accepted, outcome, tightSetOutcome}
+use Rattle.rules.specs.Board.{load, heaviest, excess}
+use Rattle.rules.specs.Table.{fits, sound, decode}
+use Rattle.rules.specs.Paths.{BenchPath, IsPath, improves}
+use Rattle.rules.specs.Sharing.{level, tightSet, inside}
+use Rattle.rules.specs.Answers.{firstHolding, isRefused, refuse, settled, refused, sizes, unsound, benchNumber, listTooShort, loadIs, heaviestIs, tightSetIs, isSound, levelYes, levelNo}
+use Rattle.rules.specs.Calls.{loadOf, heaviestLoad, tightSetOf, formCheck, levelCheck, conditions, answering, accepted, outcome, tightSetOutcome}
+use Rattle.rules.proofs.Basics.{true→T, T→true, not→false}
+use Rattle.rules.proofs.Sound.{sound-storable}
+use Rattle.rules.proofs.Paths.{level-exact}
+use Rattle.rules.proofs.Levelling.{unlevel-improves}
+use Rattle.rules.proofs.Levels.{level-demand2}
+use Rattle.rules.proofs.Refusals.{accepted-by}
+use Rattle.rules.proofs.Outcomes.{neither}
 use Rattle.rules.proofs.ChainOrder.{sound-outcome}
 
 module _ (t : List ℕ) (s : T (sound t)) where
@@ -39,3 +48,59 @@ module _ (t : List ℕ) (s : T (sound t)) where
   tight-list-refused h list l u r =
       ap (λ o. o .answer) (sound-outcome (tightSetOf h list) t s)
       ∙ rw (ne-eqb h 0 (λ e. omega arith), le-ltb (heaviest (decode t)) h u, lt-ltb (length list) (2 * length (tightSet (decode t) h)) r)
+
+  -- "On a level table, inside jobs less (h − 1) × benches is the overhang above h − 1."
+  pub tight-overhang : T (level (decode t)) → (h : ℕ) (list : List ℕ) (n i : ℕ) → (outcome (tightSetOf h list) t) .answer ≡ tightSetIs n i → i ≡ (h - 1) * n + excess ((decode t) .benches) ((decode t) .holders) (h - 1)
+  unfolding conditions accepted tightSetOutcome
+  tight-overhang l h list n i e =
+      let b = decode t in
+      let a = accepted-by (tightSetOf h list) t (ap isRefused e) in
+      let r = neither (eqb h 0) (ltb (heaviest b) h) (a .0 .1 .1 .0) in
+      let d : tightSetIs (length (tightSet b h)) (inside (tightSet b h) (b .named)) ≡ tightSetIs n i = ap (λ o. o .answer) (sym (a .1)) ∙ e in
+      let m : length (tightSet b h) ≡ n = cc in
+      let j : inside (tightSet b h) (b .named) ≡ i = cc in
+      let low = eqb-false h 0 (r .0) in
+      rw (sym m, sym j) ((level-demand2 b ((sound-storable t s) .valid) l) .overhang h (positive h low) (ltb-false (heaviest b) h (r .1)))
+    where
+      positive : (h : ℕ) → (h ≡ 0 → ⊥) → 1 ≤ h
+      positive h f = omega arith
+
+  -- the heaviest load
+  pub heaviest-answered : (outcome heaviestLoad t) .answer ≡ heaviestIs (heaviest (decode t))
+  unfolding conditions accepted
+  heaviest-answered = ap (λ o. o .answer) (sound-outcome heaviestLoad t s)
+
+  level-answered : (outcome levelCheck t) .answer ≡ cond (level (decode t)) levelYes levelNo
+  unfolding conditions accepted
+  level-answered = ap (λ o. o .answer) (sound-outcome levelCheck t s)
+
+  -- the level check says yes exactly if no improving path exists ..
+  pub level-check-yes : ((outcome levelCheck t) .answer ≡ levelYes) ↔ ((p : BenchPath) → IsPath (decode t) p → T (improves (decode t) p) → ⊥)
+  level-check-yes =
+      let v = (sound-storable t s) .valid in
+      (λ e. level-exact (decode t) v .0 (says (level (decode t)) (sym level-answered ∙ e)), λ f. level-answered ∙ rw (T→true (level (decode t)) (level-exact (decode t) v .1 f)))
+    where
+      says : (z : Bool) → cond z levelYes levelNo ≡ levelYes → T z
+      says true e = tt
+      says false e = true→T false cc
+
+  -- .. and no exactly if one does
+  pub level-check-no : ((outcome levelCheck t) .answer ≡ levelNo) ↔ ((p : BenchPath) × IsPath (decode t) p × T (improves (decode t) p))
+  level-check-no =
+      let v = (sound-storable t s) .valid in
+      (λ e. unlevel-improves (decode t) (says (level (decode t)) (sym level-answered ∙ e)), λ q. level-answered ∙ rw (not→false (level (decode t)) (not-T (level (decode t)) (λ l. level-exact (decode t) v .0 l (q .0) (q .1) (q .2)))))
+    where
+      says : (z : Bool) → cond z levelYes levelNo ≡ levelNo → T (not z)
+      says true e = true→T false cc
+      says false e = tt
+
+-- "The form check returns 1, 2 or sound", for any bytes
+pub form-check : (t : List ℕ) → (outcome formCheck t) .answer ≡ cond (fits t) (cond (sound t) isSound (refused unsound)) (refused sizes)
+unfolding outcome conditions accepted
+form-check t = go (fits t) (sound t)
+  where
+    go : (f z : Bool) → (settled (firstHolding (refuse sizes (not f) ∷ refuse unsound (not z) ∷ [])) t [] (answering t isSound)) .answer ≡ cond f (cond z isSound (refused unsound)) (refused sizes)
+    go true true = refl
+    go true false = refl
+    go false true = refl
+    go false false = refl

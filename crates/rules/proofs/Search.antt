@@ -1,0 +1,129 @@
+-- What a search has to leave in its array, bench by bench, and that this is enough: the array then holds the distances, and the
+-- end bench by the rule's order with the greedy route to it is the path that the rule names.
+use Prim.Native.Nat.{ℕ, zero, suc, _+_, _≤_}
+use native.Mathlib.Omega.{arith}
+use mathlib.Core.Path.{_≡_, refl, sym, ap, subst, _∙_}
+use mathlib.Core.List.{List, [], _∷_, _++_}
+use mathlib.Core.Option.{some}
+use lib.Dec.{T}
+use lib.ListN.{length}
+use Rattle.rules.specs.Lists.{within, In}
+use Rattle.rules.specs.Board.{Board, Valid}
+use Rattle.rules.specs.Paths.{Step, steps, pathBy, endOf, Walk}
+use Rattle.rules.specs.Sharing.{arrivalChoice, closingChoice}
+use Rattle.rules.proofs.Paths.{step-bench}
+use Rattle.rules.proofs.Distances.{To, Away, Stays, Greedy, Smallest, OneOther, greedy-walk, smallest-first, greedy-smallest}
+use Rattle.rules.proofs.Found.{FirstList, ArrivalEnd, ClosingStart, arrival-found, closing-found}
+
+module _ (benches : ℕ) (out : ℕ → List Step) (stays : Stays benches out) where
+  -- numbers away from v: v alone has 1, each higher one comes by a step from one lower, and no step leads from a numbered bench to one
+  -- without a number or more than one higher
+  pub record NumberedAway (v : ℕ) (f : ℕ → ℕ) : Type 0 where
+    pub here : T (within 1 benches v) × (f v ≡ 1)
+    pub only : (y : ℕ) → T (within 1 benches y) → f y ≡ 1 → y ≡ v
+    pub from : (y n : ℕ) → T (within 1 benches y) → f y ≡ suc (suc n) → (z : ℕ) × (s : Step) × T (within 1 benches z) × In s (out z) × (s .to ≡ y) × (f z ≡ suc n)
+    pub on : (z : ℕ) (s : Step) → T (within 1 benches z) → 1 ≤ f z → In s (out z) → (1 ≤ f (s .to)) × (f (s .to) ≤ suc (f z))
+
+  walk-on : (x : ℕ) (r : List Step) (s : Step) → Walk out x r → In s (out (endOf x r)) → Walk out x (r ++ (s ∷ [])) × (endOf x (r ++ (s ∷ [])) ≡ s .to) × (length (r ++ (s ∷ [])) ≡ suc (length r))
+  walk-on x [] s w i = ((i, tt), refl, refl)
+  walk-on x (q ∷ r) s w i = let h = walk-on (q .to) r s (w .1) i in ((w .0, h .0), h .1, ap suc (h .2))
+
+  module _ (v : ℕ) (f : ℕ → ℕ) (a : NumberedAway v f) where
+    away-walk : (n y : ℕ) → T (within 1 benches y) → f y ≡ suc n → (r : List Step) × Walk out v r × (endOf v r ≡ y) × (length r ≡ n)
+    away-walk zero y w e = ([], tt, sym (a .only y w e), refl)
+    away-walk (suc n) y w e =
+        let (z, s, u, i, k, m) = a .from y n w e in
+        let h = away-walk n z u m in
+        let j = walk-on v (h .0) s (h .1) (subst (λ (x : ℕ). In s (out x)) (sym (h .2)) i) in
+        (h .0 ++ (s ∷ []), j .0, j .1 ∙ k, j .2 ∙ ap suc (h .3))
+
+    -- along a walk the numbers rise by one a step at most
+    away-rises : (z : ℕ) (r : List Step) → T (within 1 benches z) → 1 ≤ f z → Walk out z r → (1 ≤ f (endOf z r)) × (f (endOf z r) ≤ f z + length r)
+    away-rises z [] u l w = (l, omega arith)
+    away-rises z (s ∷ r) u l w =
+        let o = a .on z s u l (w .0) in
+        let h = away-rises (s .to) r (stays z s (w .0)) (o .0) (w .1) in
+        (h .0, omega (arith, h .1, o .1))
+
+    -- such numbers are the distances from v
+    pub numbered-away : Away benches out v f
+    numbered-away =
+        record {
+          walk = λ y n w e. away-walk n y w e;
+          short = λ y r w k e.
+              let h = away-rises v r (a .here .0) (omega (arith, a .here .1)) k in
+              (subst (λ (x : ℕ). 1 ≤ f x) e (h .0), omega (arith, h .1, ap f e, a .here .1));
+        }
+
+  -- numbers towards t: the same with the steps taken backwards
+  pub record NumberedTo (t : ℕ) (d : ℕ → ℕ) : Type 0 where
+    pub here : d t ≡ 1
+    pub only : (x : ℕ) → T (within 1 benches x) → d x ≡ 1 → x ≡ t
+    pub from : (x n : ℕ) → T (within 1 benches x) → d x ≡ suc (suc n) → (s : Step) × In s (out x) × (d (s .to) ≡ suc n)
+    pub on : (x : ℕ) (s : Step) → T (within 1 benches x) → In s (out x) → 1 ≤ d (s .to) → (1 ≤ d x) × (d x ≤ suc (d (s .to)))
+
+  module _ (t : ℕ) (d : ℕ → ℕ) (a : NumberedTo t d) where
+    to-walk : (n x : ℕ) → T (within 1 benches x) → d x ≡ suc n → (r : List Step) × Walk out x r × (endOf x r ≡ t) × (length r ≡ n)
+    to-walk zero x w e = ([], tt, a .only x w e, refl)
+    to-walk (suc n) x w e =
+        let (s, i, k) = a .from x n w e in
+        let h = to-walk n (s .to) (stays x s i) k in
+        (s ∷ h .0, (i, h .1), h .2, ap suc (h .3))
+
+    to-short : (x : ℕ) (r : List Step) → T (within 1 benches x) → Walk out x r → endOf x r ≡ t → (1 ≤ d x) × (d x ≤ suc (length r))
+    to-short x [] w k e = (omega (arith, ap d e, a .here), omega (arith, ap d e, a .here))
+    to-short x (s ∷ r) w k e =
+        let h = to-short (s .to) r (stays x s (k .0)) (k .1) e in
+        let o = a .on x s w (k .0) (h .0) in
+        (o .0, omega (arith, o .1, h .1))
+
+    -- such numbers are the distances to t
+    pub numbered-to : To benches out t d
+    numbered-to = record { walk = λ x n w e. to-walk n x w e; short = to-short }
+
+module _ (b : Board) (v : Valid b) where
+  stays-here : Stays (b .benches) (steps b)
+  stays-here = step-bench b v
+
+  -- smallest jobs make a first list ..
+  pub smallest-list : (x y : ℕ) (d : ℕ → ℕ) (r : List Step) → T (within 1 (b .benches) x) → To (b .benches) (steps b) y d → d x ≡ suc (length r) → Walk (steps b) x r → endOf x r ≡ y → Smallest (b .benches) (steps b) d (λ z. z ≡ x) r → FirstList b x y (d x) r
+  smallest-list x y d r w t l k e g =
+      record {
+        walk = k;
+        ends = e;
+        long = l;
+        first = λ q m f n. smallest-first (b .benches) (steps b) stays-here y d t (λ z. z ≡ x) r q x (λ z i. rw i (w, l)) g refl m f n;
+      }
+
+  -- .. and so does the greedy route, where each job leads to one bench only
+  pub greedy-list : OneOther (b .benches) (steps b) → (x y : ℕ) (d : ℕ → ℕ) (r : List Step) → T (within 1 (b .benches) x) → To (b .benches) (steps b) y d → d x ≡ suc (length r) → Greedy (b .benches) (steps b) d x r → FirstList b x y (d x) r
+  greedy-list one x y d r w t l g =
+      let k = greedy-walk (b .benches) (steps b) stays-here y d t x r w l g in
+      smallest-list x y d r w t l (k .0) (k .1) (greedy-smallest (b .benches) (steps b) stays-here y d t one x r g)
+
+  -- distances from x and distances to y agree on the way from x to y
+  pub away-to : (x y : ℕ) (f d : ℕ → ℕ) → T (within 1 (b .benches) x) → T (within 1 (b .benches) y) → Away (b .benches) (steps b) x f → To (b .benches) (steps b) y d → f y ≡ d x
+  away-to x y f d w u a t = go (f y) (d x) refl refl
+    where
+      go : (m n : ℕ) → f y ≡ m → d x ≡ n → f y ≡ d x
+      go zero zero e k = omega arith
+      go zero (suc n) e k =
+          let h = t .walk x n w k in
+          absurd (omega (arith, (a .short y (h .0) u (h .1) (h .2)) .0))
+      go (suc m) zero e k =
+          let h = a .walk y m u e in
+          absurd (omega (arith, (t .short x (h .0) w (h .1) (h .2)) .0))
+      go (suc m) (suc n) e k =
+          let h = t .walk x n w k in
+          let i = a .walk y m u e in
+          omega (arith, (a .short y (h .0) u (h .1) (h .2)) .1, (t .short x (i .0) w (i .1) (i .2)) .1, h .3, i .3)
+
+  -- an arrival: search from x, the end bench y by the rule's order, search to y, the greedy route
+  pub arrival-search : OneOther (b .benches) (steps b) → (x y : ℕ) (f d : ℕ → ℕ) (r : List Step) → T (within 1 (b .benches) x) → Away (b .benches) (steps b) x f → ArrivalEnd b v x f y → To (b .benches) (steps b) y d → d x ≡ suc (length r) → Greedy (b .benches) (steps b) d x r → arrivalChoice b x ≡ some (pathBy x r)
+  arrival-search one x y f d r w a e t l g =
+      let far = away-to x y f d w (e .is .bench) a t in
+      arrival-found b v x y f r a e (subst (λ (n : ℕ). FirstList b x y n r) (sym far) (greedy-list one x y d r w t l g))
+
+  -- a closing: search to x, the first bench z by the rule's order, the greedy route
+  pub closing-search : OneOther (b .benches) (steps b) → (x z : ℕ) (d : ℕ → ℕ) (r : List Step) → To (b .benches) (steps b) x d → ClosingStart b v x d z → d z ≡ suc (length r) → Greedy (b .benches) (steps b) d z r → closingChoice b x ≡ some (pathBy z r)
+  closing-search one x z d r t s l g = closing-found b v x z d r t s (greedy-list one z x d r (s .is .bench) t l g)
