@@ -1,15 +1,15 @@
 -- Small facts about tests and lists that the laws share.
 use Prim.Native.Nat.{ℕ, zero, suc, _+_, _≤_, _<_}
 use native.Mathlib.Omega.{arith}
-use mathlib.Core.Path.{_≡_, refl, sym, ap, subst}
-use mathlib.Core.Logic.{_⊎_, inl, inr, _≢_}
+use mathlib.Core.Path.{_≡_, refl, sym, ap, subst, _∙_}
+use mathlib.Core.Logic.{_⊎_, inl, inr, _≢_, _↔_}
 use mathlib.Core.Bool.{Bool, true, false, cond, not, _&&_, _||_}
 use mathlib.Core.List.{List, [], _∷_, _++_, map, flatMap}
 use lib.Dec.{T, T-not, not-T, eqb, leb}
 use lib.ListN.{length, getD, set, length-set}
-use lib.Seq.{getD-set-same, getD-set-other}
+use lib.Seq.{getD-set-same, getD-set-other, set-set, set-getD}
 use borrow.Author.Tests.{eqb-true, eqb-false, eq-eqb, leb-true, le-leb}
-use Rattle.rules.specs.Board.{Shares}
+use Rattle.rules.specs.Board.{Shares, namesFit}
 use Rattle.rules.specs.Lists.{within, member, different, rising, keep, all, Each, In, empty, nth, change, numbered}
 
 -- tests
@@ -53,6 +53,13 @@ pub or-right : (a b : Bool) → T b → T (a || b)
 or-right true b t = tt
 or-right false b t = t
 
+-- two tests that hold together are equal
+pub tests-same : (a b : Bool) → T a ↔ T b → a ≡ b
+tests-same true true f = refl
+tests-same true false f = absurd (f .0 tt)
+tests-same false true f = absurd (f .1 tt)
+tests-same false false f = refl
+
 -- a test, with the equation that it decides
 pub data Compared (x y : ℕ) : Bool → Type 0 where
   same : x ≡ y → Compared x y true
@@ -73,6 +80,10 @@ T-eqb x y t = eqb-true x y (T→true (eqb x y) t)
 
 pub eqb-T : (x y : ℕ) → x ≡ y → T (eqb x y)
 eqb-T x y e = true→T (eqb x y) (eq-eqb x y e)
+
+-- two numbers differ exactly if the test says so
+pub differ : (x y : ℕ) → (x ≢ y) ↔ T (not (eqb x y))
+differ x y = (λ d. not-T (eqb x y) (λ t. d (T-eqb x y t)), λ t e. T-not (eqb x y) t (eqb-T x y e))
 
 pub T-leb : (x y : ℕ) → T (leb x y) → x ≤ y
 T-leb x y t = leb-true x y (T→true (leb x y) t)
@@ -132,6 +143,14 @@ module _ {A : Type 0} where
       go true e ih (inr j) = later (ih j)
       go false e ih j = later (ih j)
 
+  -- tests that say the same of every element keep the same
+  pub keep-same : (p q : A → Bool) (l : List A) → ((a : A) → In a l → p a ≡ q a) → keep p l ≡ keep q l
+  keep-same p q [] f = refl
+  keep-same p q (x ∷ l) f =
+      let e = f x (inl refl) in
+      let r = keep-same p q l (λ a i. f a (inr i)) in
+      rw (e, r) refl
+
   pub all-in : (p : A → Bool) (a : A) (l : List A) → T (all p l) → In a l → T (p a)
   all-in p a [] t i = absurd i
   all-in p a (x ∷ l) t (inl e) = subst (λ (y : A). T (p y)) (sym e) (left (p x) (all p l) t)
@@ -158,6 +177,20 @@ module _ {A : Type 0} where
   pub in-empty : (l : List A) → ((a : A) → In a l → ⊥) → T (empty l)
   in-empty [] f = tt
   in-empty (x ∷ l) f = f x (inl refl)
+
+  -- a list other than [] passes the test "not empty", and one that does not pass is []
+  pub not-empty : (l : List A) → l ≢ [] → T (not (empty l))
+  not-empty [] d = absurd (d refl)
+  not-empty (x ∷ l) d = tt
+
+  pub is-empty : (l : List A) → T (not (not (empty l))) → l ≡ []
+  is-empty [] t = refl
+  is-empty (x ∷ l) t = absurd t
+
+  -- a list that is not empty has an element
+  pub some-in : (l : List A) → T (not (empty l)) → (a : A) × In a l
+  some-in [] t = absurd t
+  some-in (x ∷ l) t = (x, inl refl)
 
   pub each-append : (P : A → Type 0) (k l : List A) → Each P k → Each P l → Each P (k ++ l)
   each-append P [] l p q = q
@@ -194,6 +227,11 @@ module _ {A : Type 0} where
   pub length-change : (l : List A) (j : ℕ) (a : A) → length (change l j a) ≡ length l
   length-change l zero a = refl
   length-change l (suc i) a = length-set l i a
+
+  -- writing back what stood at a place undoes a writing
+  pub change-back : (l : List A) (j : ℕ) (a d : A) → change (change l j a) j (nth l j d) ≡ l
+  change-back l zero a d = refl
+  change-back l (suc i) a d = set-set l i a _ ∙ set-getD l i d
 
   each-set : (P : A → Type 0) (l : List A) (i : ℕ) (a : A) → P a → Each P l → Each P (set l i a)
   each-set P [] i a p e = tt
@@ -297,6 +335,13 @@ rising-high x i zero j = absurd j
 rising-high x i (suc n) (inl e) = omega arith
 rising-high x i (suc n) (inr j) = let h = rising-high x (suc i) n j in omega arith
 
+-- the numbers from 1 to n, as a test and as a list
+pub bench-listed : (n x : ℕ) → T (within 1 n x) → In x (rising 1 n)
+bench-listed n x t = let h = within-high 1 n x t in in-rising x 1 n (within-low 1 n x t) (omega arith)
+
+pub listed-bench : (n x : ℕ) → In x (rising 1 n) → T (within 1 n x)
+listed-bench n x i = let h = rising-high x 1 n i in within-both 1 n x (rising-low x 1 n i) (omega arith)
+
 pub length-rising : (i n : ℕ) → length (rising i n) ≡ n
 length-rising i zero = refl
 length-rising i (suc n) = ap suc (length-rising (suc i) n)
@@ -307,11 +352,49 @@ not-member x l f = not-T (member x l) (λ t. f (member-in x l t))
 pub member-not : (x : ℕ) (l : List ℕ) → T (not (member x l)) → In x l → ⊥
 member-not x l t i = T-not (member x l) t (in-member x l i)
 
+-- whether x stands in a list, with what the test says of it
+pub data Member (x : ℕ) (l : List ℕ) : Bool → Type 0 where
+  is-in : In x l → Member x l true
+  not-in : (In x l → ⊥) → Member x l false
+
+pub membered : (x : ℕ) (l : List ℕ) → Member x l (member x l)
+membered x l = go (member x l) refl
+  where
+    go : (b : Bool) → member x l ≡ b → Member x l b
+    go true e = is-in (member-in x l (true→T (member x l) e))
+    go false e = not-in (member-not x l (false→not (member x l) e))
+
 pub different-head : (x : ℕ) (l : List ℕ) → T (different (x ∷ l)) → In x l → ⊥
 different-head x l t = member-not x l (left (not (member x l)) (different l) t)
 
 pub different-tail : (x : ℕ) (l : List ℕ) → T (different (x ∷ l)) → T (different l)
 different-tail x l t = right (not (member x l)) (different l) t
+
+-- nothing is kept twice if nothing stands in the list twice
+pub keep-different : (p : ℕ → Bool) (l : List ℕ) → T (different l) → T (different (keep p l))
+keep-different p [] t = tt
+keep-different p (x ∷ l) t = go (p x) (keep-different p l (different-tail x l t))
+  where
+    go : (z : Bool) → T (different (keep p l)) → T (different (cond z (x ∷ keep p l) (keep p l)))
+    go true u = both (not (member x (keep p l))) (different (keep p l)) (not-member x (keep p l) (λ i. different-head x l t (keep-in p x l i .0))) u
+    go false u = u
+
+-- what is kept is the list of its own elements, in the order of the list
+pub keep-own : (p : ℕ → Bool) (l : List ℕ) → keep p l ≡ keep (λ x. member x (keep p l)) l
+keep-own p l =
+    keep-same p (λ x. member x (keep p l)) l (λ x i. tests-same (p x) (member x (keep p l)) (λ t. in-member x (keep p l) (in-keep p x l i t), λ t. keep-in p x l (member-in x (keep p l) t) .1))
+
+pub rising-different : (i n : ℕ) → T (different (rising i n))
+rising-different i zero = tt
+rising-different i (suc n) =
+    let l = rising (suc i) n in
+    both (not (member i l)) (different l) (not-member i l (λ j. let h = rising-low i (suc i) n j in omega arith)) (rising-different (suc i) n)
+
+-- the list but for j: the others in it
+pub others-in : (j : ℕ) (l : List ℕ) (i : ℕ) → In i (keep (λ k. not (eqb k j)) l) ↔ ((i ≢ j) × In i l)
+others-in j l i =
+    let rest : ℕ → Bool = λ k. not (eqb k j) in
+    (λ m. let r = keep-in rest i l m in ((differ i j) .1 (r .1), r .0), λ d. in-keep rest i l (d .1) ((differ i j) .0 (d .0)))
 
 -- sharings
 
@@ -321,3 +404,7 @@ length-shares [] [] s = refl
 length-shares [] (h ∷ holders) s = absurd s
 length-shares (names ∷ named) [] s = absurd s
 length-shares (names ∷ named) (h ∷ holders) s = ap suc (length-shares named holders (s .1))
+
+-- names that fit are benches of 1 to B
+pub fit-bench : (benches : ℕ) (names : List ℕ) (x : ℕ) → T (namesFit benches names) → In x names → T (within 1 benches x)
+fit-bench benches names x f = all-in (within 1 benches) x names (left (all (within 1 benches) names) (different names) f)

@@ -2,71 +2,29 @@
 use Prim.Native.Nat.{ℕ, zero, suc, _+_, _-_, _*_, _≤_, _<_}
 use native.Mathlib.Omega.{arith}
 use native.Mathlib.Decide.{decLt}
-use native.Mathlib.Nat.{mul-add, mul-le-mul-left}
+use native.Mathlib.Nat.{mul-le-mul-left}
 use mathlib.Core.Path.{_≡_, refl, sym, ap}
-use mathlib.Core.Bool.{Bool, true, false, _||_}
+use mathlib.Core.Bool.{Bool, true, false}
 use mathlib.Core.List.{List, [], _∷_}
-use lib.Dec.{T, eqb}
+use lib.Dec.{T}
 use lib.ListN.{length, getD}
-use Rattle.rules.specs.Lists.{bit, within, count, member, different, total, greatest, all, Each, In}
+use Rattle.rules.specs.Lists.{bit, within, member, different, total, greatest, all, Each, In}
 use Rattle.rules.specs.Board.{Board, Valid, load, excess, Shares, namesFit}
 use Rattle.rules.specs.Paths.{Step, stepBy, steps}
 use Rattle.rules.specs.Sharing.{inside, density}
-use Rattle.rules.proofs.Basics.{true→T, false→not, left, Compared, same, other, compared, T-eqb, within-low, within-high, within-both, all-in, in-each, member-in, member-not, length-shares}
-use Rattle.rules.proofs.Counting.{bit-same, bit-other, count-none, different-count, total-add, total-same, total-le, total-but-one, total-count, total-count-le}
+use Rattle.rules.proofs.Basics.{true→T, Compared, same, other, compared, T-eqb, within-low, within-high, within-both, all-in, in-each, member-in, Member, is-in, not-in, membered, length-shares, fit-bench}
+use Rattle.rules.proofs.Counting.{bit-same, bit-other, total-add, total-times, total-same, total-le, total-but-one, size, size-le, size-once, greatest-above}
 use Rattle.rules.proofs.Paths.{is-step}
-use Rattle.rules.proofs.Choice.{greatest-above}
 use Rattle.rules.proofs.Sets.{density-least, inside-skips, inside-counts}
 use Rattle.rules.proofs.JobBook.{excess-none}
 
--- a multiple's total
-total-times : (n h : ℕ) (f : ℕ → ℕ) → total n (λ x. h * f x) ≡ h * total n f
-total-times zero h f = omega arith
-total-times (suc n) h f = omega (arith, total-times n h f, mul-add h (total n f) (f (suc n)))
-
--- a test, with what it says of x and the set
-data Inside (x : ℕ) (set : List ℕ) : Bool → Type 0 where
-  in-set : In x set → Inside x set true
-  out-of : (In x set → ⊥) → Inside x set false
-
-tested : (x : ℕ) (set : List ℕ) → Inside x set (member x set)
-tested x set = go (member x set) refl
-  where
-    go : (z : Bool) → member x set ≡ z → Inside x set z
-    go true e = in-set (member-in x set (true→T (member x set) e))
-    go false e = out-of (member-not x set (false→not (member x set) e))
-
--- the number of benches of 1 to n in the set
-abbrev size : ℕ → List ℕ → ℕ
-size n set = total n (λ x. bit (member x set))
-
-member-count : (x : ℕ) (set : List ℕ) → bit (member x set) ≤ count x set
-member-count x [] = omega arith
-member-count x (y ∷ set) = go (eqb y x) (member-count x set)
-  where
-    go : (z : Bool) → bit (member x set) ≤ count x set → bit (z || member x set) ≤ bit z + count x set
-    go true ih = omega arith
-    go false ih = omega arith
-
-size-le : (n : ℕ) (set : List ℕ) → size n set ≤ length set
-size-le n set =
-    omega (arith, total-le n (λ x. bit (member x set)) (λ x. count x set) (λ x l u. member-count x set), total-count-le n set)
-
-size-once : (n : ℕ) (set : List ℕ) → T (different set) → ((x : ℕ) → In x set → T (within 1 n x)) → size n set ≡ length set
-size-once n set t w =
-    omega (arith, total-same n (λ x. bit (member x set)) (λ x. count x set) (λ x l u. go x (tested x set) (member-count x set)), total-count n set (in-each (λ x. T (within 1 n x)) set w))
-  where
-    go : (x : ℕ) {z : Bool} → Inside x set z → bit z ≤ count x set → bit z ≡ count x set
-    go x (in-set i) l = omega (arith, different-count set t x)
-    go x (out-of f) l = omega (arith, count-none x set f)
-
 -- the load of a bench of the set, 0 for other benches
-abbrev heldBy : List ℕ → List ℕ → ℕ → ℕ
-heldBy set holders x = bit (member x set) * load holders x
+abbrev loadIn : List ℕ → List ℕ → ℕ → ℕ
+loadIn set holders x = bit (member x set) * load holders x
 
 -- the loads of the set's benches of 1 to n, added up: the jobs held in the set
 abbrev heldIn : ℕ → List ℕ → List ℕ → ℕ
-heldIn n set holders = total n (heldBy set holders)
+heldIn n set holders = total n (loadIn set holders)
 
 heldIn-none : (n : ℕ) (set : List ℕ) → heldIn n set [] ≡ 0
 heldIn-none zero set = refl
@@ -84,28 +42,28 @@ total-heights n set holders h =
 module _ (n : ℕ) (set : List ℕ) (h : ℕ) (holders : List ℕ) where
   heldIn-le : heldIn n set holders ≤ heldIn n set (h ∷ holders)
   heldIn-le =
-      total-le n (heldBy set holders) (heldBy set (h ∷ holders)) (λ x l u. mul-le-mul-left (bit (member x set)) (omega arith))
+      total-le n (loadIn set holders) (loadIn set (h ∷ holders)) (λ x l u. mul-le-mul-left (bit (member x set)) (omega arith))
 
   -- a job held outside the set is not counted ..
   heldIn-skips : (In h set → ⊥) → heldIn n set (h ∷ holders) ≡ heldIn n set holders
   heldIn-skips out =
-      total-same n (heldBy set (h ∷ holders)) (heldBy set holders) (λ x l u. go x (tested x set))
+      total-same n (loadIn set (h ∷ holders)) (loadIn set holders) (λ x l u. go x (membered x set))
     where
-      go : (x : ℕ) {z : Bool} → Inside x set z → bit z * load (h ∷ holders) x ≡ bit z * load holders x
-      go x (in-set i) = omega (arith, bit-other h x (λ e. out (rw e i)))
-      go x (out-of f) = omega arith
+      go : (x : ℕ) {z : Bool} → Member x set z → bit z * load (h ∷ holders) x ≡ bit z * load holders x
+      go x (is-in i) = omega (arith, bit-other h x (λ e. out (rw e i)))
+      go x (not-in f) = omega arith
 
   -- .. and one held by a bench of the set is counted once
   heldIn-counts : T (within 1 n h) → In h set → heldIn n set (h ∷ holders) ≡ suc (heldIn n set holders)
-  heldIn-counts t i = go (tested h set) changed
+  heldIn-counts t i = go (membered h set) changed
     where
-      changed : heldIn n set (h ∷ holders) + heldBy set holders h ≡ heldIn n set holders + heldBy set (h ∷ holders) h
+      changed : heldIn n set (h ∷ holders) + loadIn set holders h ≡ heldIn n set holders + loadIn set (h ∷ holders) h
       changed =
-          total-but-one n (heldBy set (h ∷ holders)) (heldBy set holders) h (within-low 1 n h t) (within-high 1 n h t) (λ y l u d. ap (λ (k : ℕ). bit (member y set) * k) (omega (arith, bit-other h y (λ e. d (sym e)))))
+          total-but-one n (loadIn set (h ∷ holders)) (loadIn set holders) h (within-low 1 n h t) (within-high 1 n h t) (λ y l u d. ap (λ (k : ℕ). bit (member y set) * k) (omega (arith, bit-other h y (λ e. d (sym e)))))
 
-      go : {z : Bool} → Inside h set z → heldIn n set (h ∷ holders) + bit z * load holders h ≡ heldIn n set holders + bit z * load (h ∷ holders) h → heldIn n set (h ∷ holders) ≡ suc (heldIn n set holders)
-      go (in-set j) e = omega (arith, bit-same h h refl)
-      go (out-of f) e = absurd (f i)
+      go : {z : Bool} → Member h set z → heldIn n set (h ∷ holders) + bit z * load holders h ≡ heldIn n set holders + bit z * load (h ∷ holders) h → heldIn n set (h ∷ holders) ≡ suc (heldIn n set holders)
+      go (is-in j) e = omega (arith, bit-same h h refl)
+      go (not-in f) e = absurd (f i)
 
 -- the jobs inside a set are held in it, whatever the sharing
 inside-held : (n : ℕ) (set : List ℕ) (named : List (List ℕ)) → Each (λ names. T (namesFit n names)) named → (holders : List ℕ) → Shares named holders → inside set named ≤ heldIn n set holders
@@ -122,7 +80,7 @@ inside-held n set ((x ∷ names) ∷ named) fit (h ∷ holders) s =
 
     go : (z : Bool) → all (λ y. member y set) (x ∷ names) ≡ z → inside set named ≤ heldIn n set holders → bit z + inside set named ≤ heldIn n set (h ∷ holders)
     go true e ih =
-        let w = all-in (within 1 n) h (x ∷ names) (left (all (within 1 n) (x ∷ names)) (different (x ∷ names)) (fit .0)) i in
+        let w = fit-bench n (x ∷ names) h (fit .0) i in
         let k = member-in h set (all-in (λ y. member y set) h (x ∷ names) (true→T (all (λ y. member y set) (x ∷ names)) e) i) in
         omega (arith, heldIn-counts n set h holders w k)
     go false e ih = omega (arith, heldIn-le n set h holders)
@@ -130,7 +88,7 @@ inside-held n set ((x ∷ names) ∷ named) fit (h ∷ holders) s =
 -- what is held in the set is not above the height times its benches and the overhang
 held-height : (n : ℕ) (set holders : List ℕ) (h : ℕ) → heldIn n set holders ≤ h * size n set + excess n holders h
 held-height n set holders h =
-    omega (arith, total-le n (heldBy set holders) (heightAt set holders h) (λ x l u. go (member x set) (load holders x)), total-heights n set holders h)
+    omega (arith, total-le n (loadIn set holders) (heightAt set holders h) (λ x l u. go (member x set) (load holders x)), total-heights n set holders h)
   where
     go : (z : Bool) (k : ℕ) → bit z * k ≤ h * bit z + (k - h)
     go true k = omega arith
@@ -165,25 +123,25 @@ inside-is-held n set w ([] ∷ named) (h ∷ holders) s f =
     let out : In h set → ⊥ = λ i. let l = within-low 1 n h (w h i) in omega (arith, T-eqb h 0 (s .0)) in
     omega (arith, inside-is-held n set w named holders (s .1) (λ i. f (suc i)), heldIn-skips n set h holders out)
 inside-is-held n set w ((x ∷ names) ∷ named) (h ∷ holders) s f =
-    go (tested h set) (inside-is-held n set w named holders (s .1) (λ i. f (suc i)))
+    go (membered h set) (inside-is-held n set w named holders (s .1) (λ i. f (suc i)))
   where
     row : List ℕ
     row = x ∷ names
 
-    go : {z : Bool} → Inside h set z → inside set named ≡ heldIn n set holders → inside set (row ∷ named) ≡ heldIn n set (h ∷ holders)
-    go (in-set i) ih =
+    go : {z : Bool} → Member h set z → inside set named ≡ heldIn n set holders → inside set (row ∷ named) ≡ heldIn n set (h ∷ holders)
+    go (is-in i) ih =
         omega (arith, inside-counts set row named refl (in-each (λ y. In y set) row (λ y j. f 0 y i j)), heldIn-counts n set h holders (w h i) i)
-    go (out-of out) ih =
+    go (not-in out) ih =
         omega (arith, inside-skips set row named h (member-in h row (s .0)) out, heldIn-skips n set h holders out)
 
 -- the loads in a proving set are not below the height, and the others not above it
 held-exact : (b : Board) (set : List ℕ) (h : ℕ) → Proves b set h → heldIn (b .benches) set (b .holders) ≡ h * size (b .benches) set + excess (b .benches) (b .holders) h
 held-exact b set h p =
-    omega (arith, total-same (b .benches) (heldBy set (b .holders)) (heightAt set (b .holders) h) (λ x l u. go x l u (tested x set)), total-heights (b .benches) set (b .holders) h)
+    omega (arith, total-same (b .benches) (loadIn set (b .holders)) (heightAt set (b .holders) h) (λ x l u. go x l u (membered x set)), total-heights (b .benches) set (b .holders) h)
   where
-    go : (x : ℕ) → 1 ≤ x → x ≤ b .benches → {z : Bool} → Inside x set z → bit z * load (b .holders) x ≡ h * bit z + (load (b .holders) x - h)
-    go x l u (in-set i) = omega (arith, p .full x i)
-    go x l u (out-of f) =
+    go : (x : ℕ) → 1 ≤ x → x ≤ b .benches → {z : Bool} → Member x set z → bit z * load (b .holders) x ≡ h * bit z + (load (b .holders) x - h)
+    go x l u (is-in i) = omega (arith, p .full x i)
+    go x l u (not-in f) =
         elim (decLt h (load (b .holders) x)) [
           | yes k ↦ absurd (f (p .above x (within-both 1 (b .benches) x l u) k))
           | no k ↦ omega arith

@@ -1,78 +1,27 @@
 -- What an arrival and a closing do to any valid board.
-use Prim.Native.Nat.{ℕ, zero, suc, _≤_}
+use Prim.Native.Nat.{ℕ, _≤_}
 use native.Mathlib.Omega.{arith}
 use mathlib.Core.Path.{_≡_, refl, sym, ap, subst, _∙_}
-use mathlib.Core.Logic.{inl, inr, _≢_, _↔_}
-use mathlib.Core.Bool.{Bool, true, false, cond, not, _&&_}
-use mathlib.Core.List.{List, [], _∷_}
+use mathlib.Core.Logic.{_≢_, _↔_}
+use mathlib.Core.Bool.{Bool, not, _&&_}
+use mathlib.Core.List.{List, []}
 use mathlib.Core.Option.{Option, none, some}
-use lib.Dec.{T, T-not, not-T, eqb}
-use lib.ListN.{length, set}
-use Rattle.rules.specs.Lists.{bit, within, count, member, different, total, keep, all, Each, In, empty, nth, change}
-use Rattle.rules.specs.Board.{Board, Valid, namesOf, holderOf, stands, put, mayHold, namesFit}
+use lib.Dec.{T, eqb}
+use lib.ListN.{length}
+use Rattle.rules.specs.Lists.{within, different, keep, In, empty, nth, change}
+use Rattle.rules.specs.Board.{Board, Valid, namesOf, holderOf, stands, put, namesFit}
 use Rattle.rules.specs.Paths.{BenchPath, last, jobs, IsPath, flip}
 use Rattle.rules.specs.Sharing.{Change, getter, arrivalChoice, closingChoice, afterArrival, afterClosing, arrive, close}
 use Rattle.rules.specs.Least.{handed}
 use Rattle.rules.specs.JobBook.{OneMore}
-use Rattle.rules.proofs.Basics.{both, left, right, T-eqb, eqb-T, within-low, within-high, within-both, keep-in, in-keep, all-in, in-each, nth-change-same, nth-change-other, member-in, in-member, not-member, different-head, different-tail, length-shares}
-use Rattle.rules.proofs.Counting.{bit-same, count-none, different-count, total-same, total-count}
-use Rattle.rules.proofs.Paths.{improvingFrom-only, improvingTo-only}
-use Rattle.rules.proofs.Walks.{path-reach, reach-bench}
-use Rattle.rules.proofs.Flip.{shares-written, stands-within, holder-bench, holder-none, path-stands, path-jobs, flip-loads, flip-valid, flip-moves, flip-keeps}
-use Rattle.rules.proofs.OneLoad.{one-more, more-load, given-one, taken-one}
+use Rattle.rules.proofs.Basics.{both, left, right, differ, within-low, within-high, within-both, not-empty, is-empty, nth-change-same, nth-change-other, Member, is-in, not-in, membered, keep-different, others-in, length-shares, fit-bench}
+use Rattle.rules.proofs.Counting.{total-tested}
+use Rattle.rules.proofs.Paths.{stands-within, named-may, holder-bench, holder-none, improvingFrom-only, improvingTo-only}
 use Rattle.rules.proofs.Choice.{arrival-choice, closing-choice}
-use Rattle.rules.proofs.Sets.{lightest-in}
-
--- lists
-
-each-set : {A : Type 0} (P : A → Type 0) (l : List A) (i : ℕ) (a : A) → Each P l → P a → Each P (set l i a)
-each-set P [] i a e p = tt
-each-set P (x ∷ l) zero a e p = (p, e .1)
-each-set P (x ∷ l) (suc i) a e p = (e .0, each-set P l i a (e .1) p)
-
-each-change : {A : Type 0} (P : A → Type 0) (l : List A) (j : ℕ) (a : A) → Each P l → P a → Each P (change l j a)
-each-change P l zero a e p = e
-each-change P l (suc i) a e p = each-set P l i a e p
-
-different-keep : (p : ℕ → Bool) (l : List ℕ) → T (different l) → T (different (keep p l))
-different-keep p [] t = tt
-different-keep p (x ∷ l) t = go (p x) (different-keep p l (different-tail x l t))
-  where
-    go : (z : Bool) → T (different (keep p l)) → T (different (cond z (x ∷ keep p l) (keep p l)))
-    go true ih = both (not (member x (keep p l))) (different (keep p l)) (not-member x (keep p l) (λ i. different-head x l t ((keep-in p x l i) .0))) ih
-    go false ih = ih
-
-in-count : (x : ℕ) (l : List ℕ) → In x l → 1 ≤ count x l
-in-count x [] i = absurd i
-in-count x (y ∷ l) (inl e) = omega (arith, bit-same y x (sym e))
-in-count x (y ∷ l) (inr i) = omega (arith, in-count x l i)
-
--- different numbers of 1 to n are as many as pass the test that tells them
-tested : (n : ℕ) (l : List ℕ) (test : ℕ → Bool) → T (different l) → ((x : ℕ) → In x l → T (within 1 n x)) → ((x : ℕ) → In x l ↔ T (test x)) → length l ≡ total n (λ x. bit (test x))
-tested n l test t w f =
-    sym (total-count n l (in-each (λ x. T (within 1 n x)) l w)) ∙
-    total-same n (λ x. count x l) (λ x. bit (test x)) (λ x i u. once x (test x) (f x))
-  where
-    once : (x : ℕ) (z : Bool) → In x l ↔ T z → count x l ≡ bit z
-    once x true g = omega (arith, different-count l t x, in-count x l (g .1 tt))
-    once x false g = count-none x l (g .0)
-
-not-empty : {A : Type 0} (l : List A) → l ≢ [] → T (not (empty l))
-not-empty [] d = absurd (d refl)
-not-empty (x ∷ l) d = tt
-
-is-empty : {A : Type 0} (l : List A) → T (not (not (empty l))) → l ≡ []
-is-empty [] t = refl
-is-empty (x ∷ l) t = absurd t
-
-differ : (x y : ℕ) → (x ≢ y) ↔ T (not (eqb x y))
-differ x y = (λ d. not-T (eqb x y) (λ t. d (T-eqb x y t)), λ t e. T-not (eqb x y) t (eqb-T x y e))
-
--- the list but for j
-others-in : (j : ℕ) (l : List ℕ) (i : ℕ) → In i (keep (λ k. not (eqb k j)) l) ↔ ((i ≢ j) × In i l)
-others-in j l i =
-    let rest : ℕ → Bool = λ k. not (eqb k j) in
-    (λ m. let r = keep-in rest i l m in ((differ i j) .1 (r .1), r .0), λ d. in-keep rest i l (d .1) ((differ i j) .0 (d .0)))
+use Rattle.rules.proofs.Sets.{getter-in}
+use Rattle.rules.proofs.Walks.{path-reach, reach-bench}
+use Rattle.rules.proofs.Flip.{put-valid, path-stands, path-jobs, flip-loads, flip-valid, flip-moves, flip-keeps}
+use Rattle.rules.proofs.OneLoad.{one-more, more-load, given-one, taken-one}
 
 -- "the number of other jobs that changed holder": the new job is not among them
 pub moved-others : (b : Board) (j : ℕ) (names : List ℕ) (i : ℕ) → In i ((arrive b j names) .moved) → i ≢ j
@@ -103,7 +52,7 @@ pub record Does (b : Board) (j : ℕ) (names : List ℕ) (c : Change) : Type 0 w
 -- the number follows from the rest: a job whose holder changed stands
 does : (b : Board) → Valid b → (j : ℕ) (names : List ℕ) (c : Change) → Valid (c .board) → (c .board) .benches ≡ b .benches → (c .board) .named ≡ change (b .named) j names → ((i : ℕ) → In i (c .moved) ↔ ((i ≢ j) × (holderOf (c .board) i ≢ holderOf b i))) → T (different (c .moved)) → Does b j names c
 does b v j names c vc eb en m o =
-    let number = tested (length (b .named)) (c .moved) (λ i. not (eqb i j) && not (eqb (holderOf after i) (holderOf b i))) o (λ i k. stands-within b i (stood i ((m i) .0 k))) test in
+    let number = total-tested (length (b .named)) (c .moved) (λ i. not (eqb i j) && not (eqb (holderOf after i) (holderOf b i))) o (λ i k. stands-within b i (stood i ((m i) .0 k))) test in
     record { valid = vc; benches = eb; named = en; moved = m; once = o; number = number }
   where
     after : Board
@@ -122,20 +71,17 @@ does b v j names c vc eb en m o =
         let g = differ (holderOf after i) (holderOf b i) in
         (λ k. let d = (m i) .0 k in both y z (f .0 (d .0)) (g .0 (d .1)), λ t. (m i) .1 (f .1 (left y z t), g .1 (right y z t)))
 
--- job j written anew, for a bench that may hold it
-module _ (b : Board) (v : Valid b) (j : ℕ) (names : List ℕ) (x : ℕ) (f : T (namesFit (b .benches) names)) (t : T (mayHold names x)) where
-  put-valid : Valid (put b j names x)
-  put-valid = record { names = each-change (λ l. T (namesFit (b .benches) l)) (b .named) j names (v .names) f; shares = shares-written (b .named) (b .holders) j names x (v .shares) t }
-
+-- job j written anew
+module _ (b : Board) (v : Valid b) (j : ℕ) (names : List ℕ) (x : ℕ) (w : Valid (put b j names x)) where
   -- no path is turned: no other job moves
   does-put : (y : ℕ) → Does b j names (record { board = put b j names x; bench = y; moved = [] })
   does-put y =
-      does b v j names (record { board = put b j names x; bench = y; moved = [] }) put-valid refl refl (λ i. (λ k. absurd k, λ d. d .1 (nth-change-other (b .holders) j i x 0 (d .0)))) tt
+      does b v j names (record { board = put b j names x; bench = y; moved = [] }) w refl refl (λ i. (λ k. absurd k, λ d. d .1 (nth-change-other (b .holders) j i x 0 (d .0)))) tt
 
   -- a path is turned: its jobs move, but for j
   does-flip : (p : BenchPath) → IsPath (put b j names x) p → (y : ℕ) (m : List ℕ) → ((i : ℕ) → In i m ↔ ((i ≢ j) × In i (jobs p))) → T (different m) → Does b j names (record { board = flip (put b j names x) p; bench = y; moved = m })
   unfolding flip
-  does-flip p h y m g o = does b v j names (record { board = flip c p; bench = y; moved = m }) (flip-valid c put-valid p h) refl refl (λ i. (there i, back i)) o
+  does-flip p h y m g o = does b v j names (record { board = flip c p; bench = y; moved = m }) (flip-valid c w p h) refl refl (λ i. (there i, back i)) o
     where
       c : Board
       c = put b j names x
@@ -144,14 +90,14 @@ module _ (b : Board) (v : Valid b) (j : ℕ) (names : List ℕ) (x : ℕ) (f : T
       kept i d = nth-change-other (b .holders) j i x 0 d
 
       there : (i : ℕ) → In i m → (i ≢ j) × (holderOf (flip c p) i ≢ holderOf b i)
-      there i k = let d = (g i) .0 k in (d .0, λ e. flip-moves c put-valid p h i (d .1) (e ∙ sym (kept i (d .0))))
+      there i k = let d = (g i) .0 k in (d .0, λ e. flip-moves c w p h i (d .1) (e ∙ sym (kept i (d .0))))
 
       back : (i : ℕ) → (i ≢ j) × (holderOf (flip c p) i ≢ holderOf b i) → In i m
-      back i d = go (member i (jobs p)) refl
+      back i d = go (membered i (jobs p))
         where
-          go : (z : Bool) → member i (jobs p) ≡ z → In i m
-          go true e = (g i) .1 (d .0, member-in i (jobs p) (subst T (sym e) tt))
-          go false e = absurd (d .1 (flip-keeps c put-valid p h i (λ k. subst T e (in-member i (jobs p) k)) ∙ kept i (d .0)))
+          go : {z : Bool} → Member i (jobs p) z → In i m
+          go (is-in k) = (g i) .1 (d .0, k)
+          go (not-in f) = absurd (d .1 (flip-keeps c w p h i f ∙ kept i (d .0)))
 
 -- turning a path hands one load more on from its first bench to its last
 module _ (c : Board) (v : Valid c) (p : BenchPath) (h : IsPath c p) where
@@ -164,13 +110,18 @@ module _ (c : Board) (v : Valid c) (p : BenchPath) (h : IsPath c p) where
   less-turned more w o =
       one-more (c .benches) ((flip c p) .holders) more (p .start) w (λ y l u. omega (arith, flip-loads c v p h y, more-load (c .benches) (c .holders) more (last p) o y l u))
 
-getter-in : (holders names : List ℕ) → T (not (empty names)) → In (getter holders names) names
-getter-in holders [] e = absurd e
-getter-in holders (x ∷ others) e = lightest-in holders x others
+-- giving a job that does not stand to bench x adds one to its load ..
+pub put-rises : (b : Board) → Valid b → (j : ℕ) (names : List ℕ) (x : ℕ) → T (within 1 (length (b .named)) j) → T (not (stands b j)) → T (within 1 (b .benches) x) → OneMore (b .benches) (b .holders) ((put b j names x) .holders) x
+put-rises b v j names x w n t =
+    let high : j ≤ length (b .holders) = omega (arith, within-high 1 (length (b .named)) j w, length-shares (b .named) (b .holders) (v .shares)) in
+    given-one (b .benches) (b .holders) j x (within-low 1 (length (b .named)) j w) high (holder-none b v j (is-empty (namesOf b j) n)) t
 
-may-hold : (names : List ℕ) (h : ℕ) → In h names → T (mayHold names h)
-may-hold [] h i = absurd i
-may-hold (x ∷ names) h i = in-member h (x ∷ names) i
+-- .. and taking away a job that stands takes one from the load of its holder
+pub put-falls : (b : Board) → Valid b → (j : ℕ) → T (stands b j) → OneMore (b .benches) ((put b j [] 0) .holders) (b .holders) (holderOf b j)
+put-falls b v j s =
+    let w = stands-within b j s in
+    let high : j ≤ length (b .holders) = omega (arith, within-high 1 (length (b .named)) j w, length-shares (b .named) (b .holders) (v .shares)) in
+    taken-one (b .benches) (b .holders) j (within-low 1 (length (b .named)) j w) high (holder-bench b v j s)
 
 -- an arrival on any valid board: one load rises by one, that of the bench in the result
 pub arrival-does : (b : Board) → Valid b → (j : ℕ) (names : List ℕ) → T (within 1 (length (b .named)) j) → T (not (stands b j)) → T (not (empty names)) → T (namesFit (b .benches) names) → Does b j names (arrive b j names) × OneMore (b .benches) (b .holders) (((arrive b j names) .board) .holders) ((arrive b j names) .bench)
@@ -186,22 +137,24 @@ arrival-does b v j names w n e f = go (arrivalChoice c x) refl
     i : In x names
     i = getter-in (b .holders) names e
 
-    t : T (mayHold names x)
-    t = may-hold names x i
-
-    within-x : T (within 1 (b .benches) x)
-    within-x = all-in (within 1 (b .benches)) x names (left (all (within 1 (b .benches)) names) (different names) f) i
+    vc : Valid c
+    vc = put-valid b v j names x f (named-may names x i)
 
     one : OneMore (b .benches) (b .holders) (c .holders) x
-    one =
-        given-one (b .benches) (b .holders) j x (within-low 1 (length (b .named)) j w) (omega (arith, within-high 1 (length (b .named)) j w, length-shares (b .named) (b .holders) (v .shares))) (holder-none b v j (is-empty (namesOf b j) n)) within-x
+    one = put-rises b v j names x w n (fit-bench (b .benches) names x f i)
 
     go : (o : Option BenchPath) → arrivalChoice c x ≡ o → Does b j names (afterArrival c j x o) × OneMore (b .benches) (b .holders) (((afterArrival c j x o) .board) .holders) ((afterArrival c j x o) .bench)
-    go none q = (does-put b v j names x f t x, one)
+    go none q = (does-put b v j names x vc x, one)
     go (some p) q =
         let only = improvingFrom-only c x p (((arrival-choice c x p) .0 q) .listed-is) in
-        let vc = put-valid b v j names x f t in
-        (does-flip b v j names x f t p (only .0) (last p) (keep (λ k. not (eqb k j)) (jobs p)) (others-in j (jobs p)) (different-keep (λ k. not (eqb k j)) (jobs p) (path-jobs c vc p (only .0))), more-turned c vc p (only .0) (b .holders) (subst (OneMore (b .benches) (b .holders) (c .holders)) (sym (only .1)) one))
+        let rest : ℕ → Bool = λ k. not (eqb k j) in
+        (does-flip b v j names x vc p (only .0) (last p) (keep rest (jobs p)) (others-in j (jobs p)) (keep-different rest (jobs p) (path-jobs c vc p (only .0))), more-turned c vc p (only .0) (b .holders) (subst (OneMore (b .benches) (b .holders) (c .holders)) (sym (only .1)) one))
+
+-- a job that was taken away names nothing
+pub taken-names : (b : Board) (j : ℕ) → T (stands b j) → namesOf (put b j [] 0) j ≡ []
+taken-names b j s =
+    let w = stands-within b j s in
+    nth-change-same (b .named) j [] [] (within-low 1 (length (b .named)) j w) (within-high 1 (length (b .named)) j w)
 
 -- a closing on any valid board: one load falls by one
 pub closing-does : (b : Board) → Valid b → (j : ℕ) → T (stands b j) → Does b j [] (close b j) × OneMore (b .benches) (((close b j) .board) .holders) (b .holders) ((close b j) .bench)
@@ -217,23 +170,14 @@ closing-does b v j s = go (closingChoice c x) refl
     vc : Valid c
     vc = put-valid b v j [] 0 tt tt
 
-    low : 1 ≤ j
-    low = within-low 1 (length (b .named)) j (stands-within b j s)
-
-    high : j ≤ length (b .named)
-    high = within-high 1 (length (b .named)) j (stands-within b j s)
-
-    one : OneMore (b .benches) (c .holders) (b .holders) x
-    one = taken-one (b .benches) (b .holders) j low (omega (arith, high, length-shares (b .named) (b .holders) (v .shares))) (holder-bench b v j s)
-
     -- the closed job stands no more, so it is on no path
     gone : (p : BenchPath) → IsPath c p → (k : ℕ) → In k (jobs p) → k ≢ j
     gone p h k m d =
-        let e : namesOf c k ≡ [] = rw d (nth-change-same (b .named) j [] [] low high) in
+        let e : namesOf c k ≡ [] = rw d (taken-names b j s) in
         subst (λ (l : List ℕ). T (not (empty l))) e (path-stands c vc p h k m)
 
     go : (o : Option BenchPath) → closingChoice c x ≡ o → Does b j [] (afterClosing c x o) × OneMore (b .benches) (((afterClosing c x o) .board) .holders) (b .holders) ((afterClosing c x o) .bench)
-    go none q = (does-put b v j [] 0 tt tt x, one)
+    go none q = (does-put b v j [] 0 vc x, put-falls b v j s)
     go (some p) q =
         let only = improvingTo-only c x p (((closing-choice c x p) .0 q) .listed-is) in
-        (does-flip b v j [] 0 tt tt p (only .0) (p .start) (jobs p) (λ k. (λ m. (gone p (only .0) k m, m), λ d. d .1)) (path-jobs c vc p (only .0)), less-turned c vc p (only .0) (b .holders) (only .1) (subst (OneMore (b .benches) (c .holders) (b .holders)) (sym (only .2)) one))
+        (does-flip b v j [] 0 vc p (only .0) (p .start) (jobs p) (λ k. (λ m. (gone p (only .0) k m, m), λ d. d .1)) (path-jobs c vc p (only .0)), less-turned c vc p (only .0) (b .holders) (only .1) (subst (OneMore (b .benches) (c .holders) (b .holders)) (sym (only .2)) (put-falls b v j s)))

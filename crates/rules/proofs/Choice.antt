@@ -1,20 +1,21 @@
 -- The choice of a path: the dictionary order, the least by key, and the three orders of 01 in their own words.
-use Prim.Native.Nat.{ℕ, zero, suc, _≤_, _<_}
+use Prim.Native.Nat.{ℕ, _≤_, _<_}
 use native.Mathlib.Omega.{arith}
 use native.Mathlib.Decide.{decLt}
 use mathlib.Core.Path.{_≡_, refl, sym, ap, ap₂, subst, _∙_}
 use mathlib.Core.Logic.{_⊎_, inl, inr, _↔_, Iff·rfl}
 use mathlib.Core.Bool.{Bool, true, false, cond, _&&_}
-use mathlib.Core.List.{List, [], _∷_, map}
+use mathlib.Core.List.{List, [], _∷_}
 use mathlib.Core.Option.{Option, none, some}
 use lib.Dec.{T, eqb, ltb, ltb→lt, lt→ltb}
 use lib.ListN.{length}
-use Rattle.rules.specs.Lists.{within, greatest, dictionary, In, better, least}
+use Rattle.rules.specs.Lists.{within, dictionary, In, empty, better, least}
 use Rattle.rules.specs.Board.{Board, holderOf, load, heaviest}
-use Rattle.rules.specs.Paths.{Step, steps, BenchPath, endOf, last, jobs, Walk, IsPath, improvingFrom, improving, improvingTo}
-use Rattle.rules.specs.Sharing.{below, arrivalKey, closingKey, levellingKey, arrivalChoice, closingChoice, levellingChoice}
+use Rattle.rules.specs.Paths.{Step, steps, BenchPath, endOf, last, jobs, Walk, IsPath, improves, improvingFrom, improving, improvingTo}
+use Rattle.rules.specs.Sharing.{below, arrivalKey, closingKey, levellingKey, arrivalChoice, closingChoice, levellingChoice, level}
 use Rattle.rules.proofs.Basics.{true→T, both, left, right, either, or-left, or-right, T-eqb, eqb-T, within-low, within-high}
-use Rattle.rules.proofs.Paths.{step-is, improvingFrom-only, improving-only, improvingTo-only}
+use Rattle.rules.proofs.Counting.{greatest-above}
+use Rattle.rules.proofs.Paths.{step-is, jobsOf, improvingFrom-only, improving-only, improvingTo-only}
 
 -- the dictionary order
 
@@ -119,6 +120,11 @@ module _ {A : Type 0} (key : A → List ℕ) where
   pub least-none : (l : List A) → least key l ≡ none → l ≡ []
   least-none l e = subst (Chosen l) e (chosen l)
 
+  -- and from nothing nothing is chosen
+  pub least-empty : (l : List A) → T (empty l) → least key l ≡ none
+  least-empty [] t = refl
+  least-empty (a ∷ l) t = absurd t
+
   -- a listed one whose key comes first, where equal keys mean equal elements, is the chosen one
   pub least-is : (l : List A) (a : A) → In a l → ((c : A) → In c l → T (dictionary (key a) (key c))) → ((c : A) → In c l → key c ≡ key a → c ≡ a) → least key l ≡ some a
   least-is l a i f one = go (least key l) (chosen l)
@@ -131,13 +137,13 @@ module _ {A : Type 0} (key : A → List ℕ) where
 
 -- two routes with the same jobs and the same end start at the same bench and are the same: a bench that a step leaves is the
 -- holder of its job
-route-fixed : (b : Board) (x y : ℕ) (r q : List Step) → Walk (steps b) x r → Walk (steps b) y q → map (λ s. s .job) r ≡ map (λ s. s .job) q → endOf x r ≡ endOf y q → (x ≡ y) × (r ≡ q)
+route-fixed : (b : Board) (x y : ℕ) (r q : List Step) → Walk (steps b) x r → Walk (steps b) y q → jobsOf r ≡ jobsOf q → endOf x r ≡ endOf y q → (x ≡ y) × (r ≡ q)
 route-fixed b x y [] [] w v e d = (d, refl)
 route-fixed b x y [] (t ∷ q) w v e d = (cc, cc)
 route-fixed b x y (s ∷ r) [] w v e d = (cc, cc)
 route-fixed b x y (s ∷ r) (t ∷ q) w v e d =
     let f : s .job ≡ t .job = cc in
-    let g : map (λ s. s .job) r ≡ map (λ s. s .job) q = cc in
+    let g : jobsOf r ≡ jobsOf q = cc in
     let h = route-fixed b (s .to) (t .to) r q (w .1) (v .1) g d in
     let k : s ≡ t = λ i. record { job = f i; to = h .0 i } in
     (sym ((step-is b x s (w .0)) .0) ∙ ap (holderOf b) f ∙ (step-is b y t (v .0)) .0, ap₂ _∷_ k (h .1))
@@ -161,15 +167,6 @@ pub levellingKey-one : (b : Board) (p q : BenchPath) → IsPath b p → IsPath b
 levellingKey-one b p q m n e = path-fixed b p q m n (cc) (cc)
 
 -- the orders in words
-
--- f is nowhere on 1 to n above its greatest value
-pub greatest-above : (n : ℕ) (f : ℕ → ℕ) (x : ℕ) → 1 ≤ x → x ≤ n → f x ≤ greatest n f
-greatest-above zero f x l h = absurd (omega arith)
-greatest-above (suc n) f x l h = go (decLt x (suc n)) (λ i. greatest-above n f x l (omega arith))
-  where
-    go : Dec (x < suc n) → (x < suc n → f x ≤ greatest n f) → f x ≤ greatest (suc n) f
-    go (yes i) ih = omega (arith, ih i)
-    go (no i) ih = let e : f x ≡ f (suc n) = ap f (omega arith) in omega arith
 
 -- no bench is above the heaviest
 pub load-heaviest : (b : Board) (x : ℕ) → T (within 1 (b .benches) x) → load (b .holders) x ≤ heaviest b
@@ -298,3 +295,17 @@ closing-none b x = least-none (closingKey b) (improvingTo b x)
 pub levelling-none : (b : Board) → levellingChoice b ≡ none → improving b ≡ []
 unfolding levellingChoice
 levelling-none b = least-none (levellingKey b) (improving b)
+
+-- the path that levelling turns improves
+pub choice-improves : (b : Board) (p : BenchPath) → levellingChoice b ≡ some p → IsPath b p × T (improves b p)
+choice-improves b p e = let h = improving-only b p (((levelling-choice b p) .0 e) .listed-is) in (h .0, h .2)
+
+-- where it turns none the board is level ..
+pub choice-level : (b : Board) → levellingChoice b ≡ none → T (level b)
+unfolding level
+choice-level b e = rw (levelling-none b e) tt
+
+-- .. and on a level board it turns none
+pub level-choice : (b : Board) → T (level b) → levellingChoice b ≡ none
+unfolding level levellingChoice
+level-choice b l = least-empty (levellingKey b) (improving b) l

@@ -1,15 +1,17 @@
--- Counting: bits, how often a number stands in a list, totals over 1 to n.
-use Prim.Native.Nat.{ℕ, zero, suc, _+_, _≤_, _<_}
+-- Counting: bits, how often a number stands in a list, totals and greatest values over 1 to n.
+use Prim.Native.Nat.{ℕ, zero, suc, _+_, _*_, _≤_, _<_}
 use native.Mathlib.Omega.{arith}
-use mathlib.Core.Path.{_≡_, refl, sym, ap}
-use mathlib.Core.Logic.{inl, inr, _≢_}
-use mathlib.Core.Bool.{Bool, true, false, cond}
+use native.Mathlib.Nat.{mul-add}
+use native.Mathlib.Decide.{decLt, decLe}
+use mathlib.Core.Path.{_≡_, refl, sym, ap, _∙_}
+use mathlib.Core.Logic.{inl, inr, _≢_, _↔_}
+use mathlib.Core.Bool.{Bool, true, false, cond, _||_}
 use mathlib.Core.List.{List, [], _∷_}
 use lib.Dec.{T, eqb}
 use lib.ListN.{length, getD, set}
 use borrow.Author.Tests.{eq-eqb, ne-eqb}
-use Rattle.rules.specs.Lists.{bit, within, count, different, total, keep, Each, In, nth, change}
-use Rattle.rules.proofs.Basics.{Compared, same, other, compared, within-low, within-high, different-head, different-tail}
+use Rattle.rules.specs.Lists.{bit, within, count, member, different, total, greatest, keep, Each, In, nth, change}
+use Rattle.rules.proofs.Basics.{Compared, same, other, compared, within-low, within-high, in-each, member-in, in-member, different-head, different-tail}
 
 -- bits
 
@@ -29,6 +31,12 @@ pub count-none : (x : ℕ) (l : List ℕ) → (In x l → ⊥) → count x l ≡
 count-none x [] f = refl
 count-none x (y ∷ l) f = omega (arith, bit-other y x (λ e. f (inl (sym e))), count-none x l (λ i. f (inr i)))
 
+-- what stands in a list is counted
+pub count-some : (x : ℕ) (l : List ℕ) → In x l → 1 ≤ count x l
+count-some x [] i = absurd i
+count-some x (y ∷ l) (inl e) = omega (arith, bit-same y x (sym e))
+count-some x (y ∷ l) (inr i) = omega (arith, count-some x l i)
+
 pub different-count : (l : List ℕ) → T (different l) → (x : ℕ) → count x l ≤ 1
 different-count [] t x = omega arith
 different-count (y ∷ l) t x = go (different-count l (different-tail y l t) x) (compared y x)
@@ -42,6 +50,11 @@ different-count (y ∷ l) t x = go (different-count l (different-tail y l t) x) 
 pub total-add : (n : ℕ) (f g : ℕ → ℕ) → total n (λ x. f x + g x) ≡ total n f + total n g
 total-add zero f g = refl
 total-add (suc n) f g = omega (arith, total-add n f g)
+
+-- a multiple's total
+pub total-times : (n h : ℕ) (f : ℕ → ℕ) → total n (λ x. h * f x) ≡ h * total n f
+total-times zero h f = omega arith
+total-times (suc n) h f = omega (arith, total-times n h f, mul-add h (total n f) (f (suc n)))
 
 pub total-at : (n : ℕ) (f : ℕ → ℕ) (y : ℕ) → 1 ≤ y → y ≤ n → f y ≤ total n f
 total-at zero f y l h = omega arith
@@ -104,6 +117,38 @@ total-count n (y ∷ l) e =
 pub few : (n : ℕ) (l : List ℕ) → ((x : ℕ) → count x l ≤ 1) → Each (λ x. T (within 1 n x)) l → length l ≤ n
 few n l once e = omega (arith, total-count n l e, total-most n (λ x. count x l) once)
 
+-- different numbers of 1 to n are as many as pass the test that tells them
+pub total-tested : (n : ℕ) (l : List ℕ) (test : ℕ → Bool) → T (different l) → ((x : ℕ) → In x l → T (within 1 n x)) → ((x : ℕ) → In x l ↔ T (test x)) → length l ≡ total n (λ x. bit (test x))
+total-tested n l test t w f =
+    sym (total-count n l (in-each (λ x. T (within 1 n x)) l w)) ∙
+    total-same n (λ x. count x l) (λ x. bit (test x)) (λ x i u. once x (test x) (f x))
+  where
+    once : (x : ℕ) (z : Bool) → In x l ↔ T z → count x l ≡ bit z
+    once x true g = omega (arith, different-count l t x, count-some x l (g .1 tt))
+    once x false g = count-none x l (g .0)
+
+-- what stands in a list is counted once or more
+member-count : (x : ℕ) (set : List ℕ) → bit (member x set) ≤ count x set
+member-count x [] = omega arith
+member-count x (y ∷ set) = go (eqb y x) (member-count x set)
+  where
+    go : (z : Bool) → bit (member x set) ≤ count x set → bit (z || member x set) ≤ bit z + count x set
+    go true ih = omega arith
+    go false ih = omega arith
+
+-- how many numbers of 1 to n stand in the set ..
+abbrev pub size : ℕ → List ℕ → ℕ
+size n set = total n (λ x. bit (member x set))
+
+-- .. not more than the list is long ..
+pub size-le : (n : ℕ) (set : List ℕ) → size n set ≤ length set
+size-le n set =
+    omega (arith, total-le n (λ x. bit (member x set)) (λ x. count x set) (λ x l u. member-count x set), total-count-le n set)
+
+-- .. and just as many if it has only such numbers, none twice
+pub size-once : (n : ℕ) (set : List ℕ) → T (different set) → ((x : ℕ) → In x set → T (within 1 n x)) → size n set ≡ length set
+size-once n set t w = sym (total-tested n set (λ x. member x set) t w (λ x. (in-member x set, member-in x set)))
+
 -- writing at a place: the new number is counted there, and the old one no more
 pub count-change : (l : List ℕ) (j a y : ℕ) → 1 ≤ j → j ≤ length l → count y (change l j a) + bit (eqb (nth l j 0) y) ≡ count y l + bit (eqb a y)
 count-change l zero a y h u = omega arith
@@ -112,8 +157,9 @@ count-change (x ∷ l) (suc zero) a y h u = omega arith
 count-change (x ∷ l) (suc (suc i)) a y h u = omega (arith, count-change l (suc i) a y (omega arith) (omega arith))
 
 module _ {A : Type 0} (p : A → Bool) where
-  keep-more : (x : A) (l : List A) → length (keep p (x ∷ l)) ≡ bit (p x) + length (keep p l)
-  keep-more x l = go (p x)
+  -- the first element is kept or not
+  keep-counts : (x : A) (l : List A) → length (keep p (x ∷ l)) ≡ bit (p x) + length (keep p l)
+  keep-counts x l = go (p x)
     where
       go : (z : Bool) → length (cond z (x ∷ keep p l) (keep p l)) ≡ bit z + length (keep p l)
       go true = omega arith
@@ -121,10 +167,34 @@ module _ {A : Type 0} (p : A → Bool) where
 
   keep-set : (l : List A) (i : ℕ) (a d : A) → i < length l → length (keep p (set l i a)) + bit (p (getD l i d)) ≡ length (keep p l) + bit (p a)
   keep-set [] i a d u = absurd (omega arith)
-  keep-set (x ∷ l) zero a d u = omega (arith, keep-more x l, keep-more a l)
-  keep-set (x ∷ l) (suc i) a d u = omega (arith, keep-more x l, keep-more x (set l i a), keep-set l i a d (omega arith))
+  keep-set (x ∷ l) zero a d u = omega (arith, keep-counts x l, keep-counts a l)
+  keep-set (x ∷ l) (suc i) a d u = omega (arith, keep-counts x l, keep-counts x (set l i a), keep-set l i a d (omega arith))
 
   -- writing at a place: what passes a test is counted so too
   pub keep-change : (l : List A) (j : ℕ) (a d : A) → 1 ≤ j → j ≤ length l → length (keep p (change l j a)) + bit (p (nth l j d)) ≡ length (keep p l) + bit (p a)
   keep-change l zero a d h u = absurd (omega arith)
   keep-change l (suc i) a d h u = keep-set l i a d u
+
+-- the greatest value
+
+-- f is nowhere on 1 to n above its greatest value
+pub greatest-above : (n : ℕ) (f : ℕ → ℕ) (x : ℕ) → 1 ≤ x → x ≤ n → f x ≤ greatest n f
+greatest-above zero f x l h = absurd (omega arith)
+greatest-above (suc n) f x l h = go (decLt x (suc n)) (λ i. greatest-above n f x l (omega arith))
+  where
+    go : Dec (x < suc n) → (x < suc n → f x ≤ greatest n f) → f x ≤ greatest (suc n) f
+    go (yes i) ih = omega (arith, ih i)
+    go (no i) ih = let e : f x ≡ f (suc n) = ap f (omega arith) in omega arith
+
+-- what is nowhere above m has no greatest value above it
+pub greatest-most : (n : ℕ) (f : ℕ → ℕ) (m : ℕ) → ((x : ℕ) → 1 ≤ x → x ≤ n → f x ≤ m) → greatest n f ≤ m
+greatest-most zero f m h = omega arith
+greatest-most (suc n) f m h = omega (arith, greatest-most n f m (λ x l u. h x l (omega arith)), h (suc n) (omega arith) (omega arith))
+
+-- a greatest value above 0 is the value somewhere
+pub greatest-reached : (n : ℕ) (f : ℕ → ℕ) → 1 ≤ greatest n f → (x : ℕ) × (1 ≤ x) × (x ≤ n) × (f x ≡ greatest n f)
+greatest-reached zero f l = absurd (omega arith)
+greatest-reached (suc n) f l = elim (decLe (greatest n f) (f (suc n))) [
+  | yes h ↦ (suc n, omega arith, omega arith, omega arith)
+  | no h ↦ let r = greatest-reached n f (omega arith) in (r .0, r .1, omega (arith, r .2), omega (arith, r .3))
+]

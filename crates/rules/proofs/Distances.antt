@@ -4,20 +4,17 @@ use native.Mathlib.Omega.{arith}
 use native.Mathlib.Decide.{decLt}
 use mathlib.Core.Path.{_≡_, refl, sym, ap, subst, _∙_}
 use mathlib.Core.Logic.{inl, inr, _≢_}
-use mathlib.Core.Bool.{not, _||_}
-use mathlib.Core.List.{List, [], _∷_, map}
+use mathlib.Core.Bool.{_||_}
+use mathlib.Core.List.{List, [], _∷_}
 use lib.Dec.{T, eqb}
 use lib.ListN.{length}
-use Rattle.rules.specs.Lists.{within, member, different, dictionary, Each, In, empty}
+use Rattle.rules.specs.Lists.{within, different, dictionary, Each, In, empty}
 use Rattle.rules.specs.Board.{Board, Valid, namesOf, holderOf}
 use Rattle.rules.specs.Paths.{Step, steps, endOf, Walk}
-use Rattle.rules.proofs.Basics.{both, T-eqb, each-nth, not-member}
-use Rattle.rules.proofs.Paths.{step-is, benchesOf, shares-nth, held-named}
+use Rattle.rules.proofs.Basics.{T-eqb, each-nth}
+use Rattle.rules.proofs.Paths.{shares-nth, held-named, step-is, benchesOf, jobsOf}
 use Rattle.rules.proofs.Choice.{dictionary-lower, dictionary-same}
-
--- a route's jobs, in its order
-abbrev pub jobsOf : List Step → List ℕ
-jobsOf r = map (λ s. s .job) r
+use Rattle.rules.proofs.Walks.{fewest-once}
 
 module _ (benches : ℕ) (out : ℕ → List Step) where
   -- for every bench of 1 to B: one more than the steps of a shortest walk from there to t, 0 where no walk leads to t
@@ -76,19 +73,9 @@ module _ (benches : ℕ) (out : ℕ → List Step) where
         let h = to .short (s .to) r (stays x s (v .0)) (v .1) e in
         omega (arith, h .0, h .1, one-nearer x s w (v .0) (h .0))
 
-    -- so each bench that it comes to is nearer than its start
-    nearer-all : (x : ℕ) (r : List Step) → T (within 1 benches x) → Walk out x r → endOf x r ≡ t → d x ≡ suc (length r) → (y : ℕ) → In y (benchesOf r) → d y ≤ length r
-    nearer-all x [] w v e l y i = absurd i
-    nearer-all x (s ∷ r) w v e l y (inl f) = omega (arith, ap d f, falls x s r w v e l)
-    nearer-all x (s ∷ r) w v e l y (inr i) = omega (arith, nearer-all (s .to) r (stays x s (v .0)) (v .1) e (falls x s r w v e l) y i)
-
     -- a shortest walk comes to no bench twice
     pub shortest-once : (x : ℕ) (r : List Step) → T (within 1 benches x) → Walk out x r → endOf x r ≡ t → d x ≡ suc (length r) → T (different (x ∷ benchesOf r))
-    shortest-once x [] w v e l = tt
-    shortest-once x (s ∷ r) w v e l =
-        both (not (member x (benchesOf (s ∷ r)))) (different (benchesOf (s ∷ r)))
-        (not-member x (benchesOf (s ∷ r)) (λ i. omega (arith, nearer-all x (s ∷ r) w v e l x i)))
-        (shortest-once (s .to) r (stays x s (v .0)) (v .1) e (falls x s r w v e l))
+    shortest-once x r w v e l = fewest-once out x r v (λ q u f. omega (arith, (to .short x q w u (f ∙ e)) .1))
 
     -- from every bench that is not t itself a step leads nearer
     pub nearer-step : (x n : ℕ) → T (within 1 benches x) → d x ≡ suc (suc n) → (s : Step) × Nearer d x s

@@ -1,21 +1,20 @@
--- Turning a path: the first bench's load falls by one and the last one's rises, and only the path's jobs change holder.
+-- Writing a job anew keeps a board valid. Turning a path does, too: the first bench's load falls by one and the last one's rises, and
+-- only the path's jobs change holder.
 use Prim.Native.Nat.{ℕ, zero, suc, _+_, _≤_}
 use native.Mathlib.Omega.{arith}
-use native.Mathlib.Decide.{decLt}
 use mathlib.Core.Path.{_≡_, refl, sym, ap, _∙_}
 use mathlib.Core.Logic.{inl, inr, _≢_}
 use mathlib.Core.Bool.{not}
 use mathlib.Core.List.{List, [], _∷_}
-use lib.Dec.{T, not-T, eqb}
-use lib.ListN.{length, length-set, List·getD-eq-default}
+use lib.Dec.{T, eqb}
+use lib.ListN.{length}
 use lib.Seq.{set-getD}
-use Rattle.rules.specs.Lists.{bit, within, member, different, all, In, empty, nth, change}
-use Rattle.rules.specs.Board.{Board, Valid, namesOf, holderOf, stands, load, mayHold, Shares, namesFit}
+use Rattle.rules.specs.Lists.{bit, within, member, different, In, nth, change}
+use Rattle.rules.specs.Board.{Board, Valid, namesOf, holderOf, stands, put, load, mayHold, Shares, namesFit}
 use Rattle.rules.specs.Paths.{Step, steps, BenchPath, endOf, last, jobs, Walk, IsPath, handOver, flip}
-use Rattle.rules.proofs.Basics.{true→T, both, left, T-eqb, within-low, within-high, within-both, all-in, each-nth, empty-in, map-in, in-member, not-member, different-head, different-tail, nth-change-same, nth-change-other, length-shares}
+use Rattle.rules.proofs.Basics.{true→T, both, within-low, within-high, nth-change-same, nth-change-other, length-change, each-change, map-in, not-member, different-head, different-tail, length-shares}
 use Rattle.rules.proofs.Counting.{count-change}
-use Rattle.rules.proofs.Paths.{step-is, benchesOf, shares-nth, held-named}
-use Rattle.rules.proofs.Distances.{jobsOf}
+use Rattle.rules.proofs.Paths.{stands-within, named-stands, named-may, step-is, benchesOf, jobsOf}
 
 -- writing a job's names and its bench anew leaves a sharing ..
 pub shares-written : (named : List (List ℕ)) (holders : List ℕ) (j : ℕ) (names : List ℕ) (a : ℕ) → Shares named holders → T (mayHold names a) → Shares (change named j names) (change holders j a)
@@ -26,54 +25,23 @@ shares-written (n ∷ named) [] (suc i) names a s t = absurd s
 shares-written (n ∷ named) (h ∷ holders) (suc zero) names a s t = (t, s .1)
 shares-written (n ∷ named) (h ∷ holders) (suc (suc i)) names a s t = (s .0, shares-written named holders (suc i) names a (s .1) t)
 
--- .. and so does giving the job to a bench that it names
+-- .. a valid board ..
+pub put-valid : (b : Board) → Valid b → (j : ℕ) (names : List ℕ) (a : ℕ) → T (namesFit (b .benches) names) → T (mayHold names a) → Valid (put b j names a)
+put-valid b v j names a f t =
+    record { names = each-change (λ l. T (namesFit (b .benches) l)) (b .named) j names f (v .names); shares = shares-written (b .named) (b .holders) j names a (v .shares) t }
+
+-- .. and giving the job to a bench that it names leaves a sharing
 pub shares-given : (named : List (List ℕ)) (holders : List ℕ) (j a : ℕ) → Shares named holders → T (mayHold (nth named j []) a) → Shares named (change holders j a)
 shares-given named holders zero a s t = s
 shares-given named holders (suc i) a s t =
     let w = shares-written named holders (suc i) (nth named (suc i) []) a s t in
     rw (set-getD named i []) at w
 
--- a standing job's number is one of 1 to J
-pub stands-within : (b : Board) (j : ℕ) → T (stands b j) → T (within 1 (length (b .named)) j)
-stands-within b zero t = absurd t
-stands-within b (suc i) t =
-    elim (decLt i (length (b .named))) [ yes h ↦ within-both 1 (length (b .named)) (suc i) (omega arith) h | no h ↦ absurd (let e = List·getD-eq-default (b .named) [] {n = i} (omega arith) in rw e at t) ]
-
--- a job that names a bench stands, and may be held by that bench
-named-stands : (b : Board) (j y : ℕ) → In y (namesOf b j) → T (stands b j)
-named-stands b j y i = not-T (empty (namesOf b j)) (λ t. empty-in y (namesOf b j) t i)
-
-named-may : (names : List ℕ) (y : ℕ) → In y names → T (mayHold names y)
-named-may [] y i = absurd i
-named-may (x ∷ names) y i = in-member y (x ∷ names) i
-
--- names that are not empty have a bench
-names-some : (names : List ℕ) → T (not (empty names)) → (y : ℕ) × In y names
-names-some [] t = absurd t
-names-some (x ∷ names) t = (x, inl refl)
-
--- a standing job's holder is a bench of 1 to B
-pub holder-bench : (b : Board) → Valid b → (j : ℕ) → T (stands b j) → T (within 1 (b .benches) (holderOf b j))
-holder-bench b v j t =
-    let names = namesOf b j in
-    let inside = within 1 (b .benches) in
-    let fit : T (namesFit (b .benches) names) = each-nth (λ names. T (namesFit (b .benches) names)) (b .named) j [] tt (v .names) in
-    let y = names-some names t in
-    all-in inside (holderOf b j) names (left (all inside names) (different names) fit) (held-named names (holderOf b j) (y .0) (y .1) (shares-nth b v j))
-
--- where no job stands the holder is 0
-pub holder-none : (b : Board) → Valid b → (j : ℕ) → namesOf b j ≡ [] → holderOf b j ≡ 0
-holder-none b v j e = let t = shares-nth b v j in T-eqb (holderOf b j) 0 (rw e at t)
-
 -- a job that is not on the route stays where it is ..
 handOver-keeps : (holders : List ℕ) (r : List Step) (i : ℕ) → (In i (jobsOf r) → ⊥) → nth (handOver holders r) i 0 ≡ nth holders i 0
 handOver-keeps holders [] i k = refl
 handOver-keeps holders (s ∷ r) i k =
     handOver-keeps (change holders (s .job) (s .to)) r i (λ m. k (inr m)) ∙ nth-change-other holders (s .job) i (s .to) 0 (λ e. k (inl e))
-
-length-change : (l : List ℕ) (j a : ℕ) → length (change l j a) ≡ length l
-length-change l zero a = refl
-length-change l (suc i) a = length-set l i a
 
 -- .. and one that is on it once goes where its step leads
 handOver-gives : (holders : List ℕ) (r : List Step) (s : Step) → In s r → T (different (jobsOf r)) → 1 ≤ s .job → s .job ≤ length holders → nth (handOver holders r) (s .job) 0 ≡ s .to

@@ -2,22 +2,21 @@
 use Prim.Native.Nat.{ℕ, suc, _+_, _≤_, _<_}
 use native.Mathlib.Omega.{arith}
 use native.Mathlib.Decide.{decLt}
-use mathlib.Core.Path.{_≡_, refl, sym, ap, subst, _∙_}
-use mathlib.Core.Logic.{_⊎_, inl, inr}
-use mathlib.Core.Bool.{not}
-use mathlib.Core.List.{List, [], _∷_}
+use mathlib.Core.Path.{_≡_, sym, ap, subst, _∙_}
+use mathlib.Core.Logic.{_⊎_, inl, inr, _↔_}
+use mathlib.Core.List.{List, _∷_}
 use mathlib.Core.Option.{none, some}
 use lib.Dec.{T}
 use lib.ListN.{length}
-use Rattle.rules.specs.Lists.{within, member, different, dictionary, In, empty, least}
+use Rattle.rules.specs.Lists.{within, different, dictionary, In}
 use Rattle.rules.specs.Board.{Board, Valid, load}
 use Rattle.rules.specs.Paths.{Step, steps, BenchPath, pathBy, endOf, last, jobs, Walk, IsPath, improves, improvingFrom, improvingTo, improving}
-use Rattle.rules.specs.Sharing.{arrivalKey, closingKey, levellingKey, arrivalChoice, closingChoice, levellingChoice, level}
-use Rattle.rules.proofs.Basics.{T→true, both, T-leb, leb-T, in-empty, not-member}
-use Rattle.rules.proofs.Paths.{benchesOf, improvingFrom-only, improvingFrom-every, improves-start, improving-only, improving-every, improvingTo-only, improvingTo-every}
-use Rattle.rules.proofs.Choice.{ArrivalFirst, ClosingFirst, LevellingFirst, First, arrival-choice, closing-choice, levelling-choice}
-use Rattle.rules.proofs.Walks.{Reach, reach-join, path-reach, reach-bench}
-use Rattle.rules.proofs.Distances.{To, Away, jobsOf}
+use Rattle.rules.specs.Sharing.{arrivalKey, closingKey, arrivalChoice, closingChoice, levellingChoice, level}
+use Rattle.rules.proofs.Basics.{T→true, in-empty}
+use Rattle.rules.proofs.Paths.{benchesOf, jobsOf, improvingFrom-only, improvingFrom-every, improves-loads, loads-improve, improves-start, improving-only, improving-every, improvingTo-only, improvingTo-every, level-exact}
+use Rattle.rules.proofs.Choice.{least-empty, ArrivalFirst, ClosingFirst, LevellingFirst, First, arrival-choice, closing-choice, levelling-choice}
+use Rattle.rules.proofs.Walks.{Reach, reach-join, fewest-once, path-reach, reach-bench, level-reach}
+use Rattle.rules.proofs.Distances.{To, Away}
 
 -- r is a walk from x to y with d - 1 steps, and its list of jobs is the first among the walks with so many
 pub record FirstList (b : Board) (x y d : ℕ) (r : List Step) : Type 0 where
@@ -25,21 +24,6 @@ pub record FirstList (b : Board) (x y d : ℕ) (r : List Step) : Type 0 where
   pub ends : endOf x r ≡ y
   pub long : d ≡ suc (length r)
   pub first : (q : List Step) → Walk (steps b) x q → endOf x q ≡ y → length q ≡ length r → T (dictionary (jobsOf r) (jobsOf q))
-
-module _ (out : ℕ → List Step) where
-  -- a walk that comes to x goes on from there to its end, with fewer steps
-  cut : (x y : ℕ) (r : List Step) → Walk out y r → In x (benchesOf r) → (q : List Step) × Walk out x q × (endOf x q ≡ endOf y r) × (length q < length r)
-  cut x y [] w i = absurd i
-  cut x y (s ∷ r) w (inl e) = (r, subst (λ (z : ℕ). Walk out z r) (sym e) (w .1), ap (λ (z : ℕ). endOf z r) e, omega arith)
-  cut x y (s ∷ r) w (inr i) = let h = cut x (s .to) r (w .1) i in (h .0, h .1, h .2, omega (arith, h .3))
-
-  -- so a walk with the fewest steps to its end comes to no bench twice
-  fewest-once : (x : ℕ) (r : List Step) → Walk out x r → ((q : List Step) → Walk out x q → endOf x q ≡ endOf x r → length r ≤ length q) → T (different (x ∷ benchesOf r))
-  fewest-once x [] w f = tt
-  fewest-once x (s ∷ r) w f =
-      both (not (member x (benchesOf (s ∷ r)))) (different (benchesOf (s ∷ r)))
-      (not-member x (benchesOf (s ∷ r)) (λ i. let h = cut x x (s ∷ r) w i in omega (arith, h .3, f (h .0) (h .1) (h .2))))
-      (fewest-once (s .to) r (w .1) (λ q u e. omega (arith, f (s ∷ q) (w .0, u) e)))
 
 -- an order of ends by distance is one of paths by length: m and n are the distances, r and k the lengths
 by-length : {A E D : Type 0} (m n r k y z : ℕ) → m ≡ suc r → n ≤ suc k → (r ≡ k → y ≡ z → D) → A ⊎ (E × ((m < n) ⊎ ((m ≡ n) × (y ≤ z)))) → A ⊎ (E × ((r < k) ⊎ ((r ≡ k) × ((y < z) ⊎ ((y ≡ z) × D)))))
@@ -52,21 +36,7 @@ by-length {A} {E} {D} m n r k y z s t d (inr (e, inr (h, l))) = inr (e, go (decL
     go (no i) (yes j) = inr (omega arith, inl j)
     go (no i) (no j) = inr (omega arith, inr (omega arith, d (omega arith) (omega arith)))
 
--- nothing is chosen from nothing
-least-empty : {A : Type 0} (key : A → List ℕ) (l : List A) → T (empty l) → least key l ≡ none
-least-empty key [] t = refl
-least-empty key (a ∷ l) t = absurd t
-
 module _ (b : Board) where
-  -- what improving says of the loads, and back
-  improves-loads : (p : BenchPath) → T (improves b p) → load (b .holders) (last p) + 2 ≤ load (b .holders) (p .start)
-  unfolding improves
-  improves-loads p t = T-leb (load (b .holders) (last p) + 2) (load (b .holders) (p .start)) t
-
-  loads-improve : (p : BenchPath) → load (b .holders) (last p) + 2 ≤ load (b .holders) (p .start) → T (improves b p)
-  unfolding improves
-  loads-improve p h = leb-T (load (b .holders) (last p) + 2) (load (b .holders) (p .start)) h
-
   -- the steps of a path from x are a walk from x with the same end
   walk-from : (x : ℕ) (q : BenchPath) → IsPath b q → q .start ≡ x → Walk (steps b) x (q .route) × (endOf x (q .route) ≡ last q)
   walk-from x q h s = (subst (λ (z : ℕ). Walk (steps b) z (q .route)) s (h .walk), ap (λ (z : ℕ). endOf z (q .route)) (sym s))
@@ -122,9 +92,9 @@ module _ (b : Board) (v : Valid b) where
           (e .first (last q) (z .0)))
 
   -- .. and nothing where there is none
-  pub arrival-not-found : (x : ℕ) (f : ℕ → ℕ) → T (within 1 (b .benches) x) → Away (b .benches) (steps b) x f → ((z : ℕ) → Lower x f z → ⊥) → arrivalChoice b x ≡ none
+  pub arrival-not-found : (x : ℕ) (f : ℕ → ℕ) → Away (b .benches) (steps b) x f → ((z : ℕ) → Lower x f z → ⊥) → arrivalChoice b x ≡ none
   unfolding arrivalChoice
-  arrival-not-found x f w a n = least-empty (arrivalKey b) (improvingFrom b x) (in-empty (improvingFrom b x) (λ q i. n (last q) (lower-end x f a q i .0)))
+  arrival-not-found x f a n = least-empty (arrivalKey b) (improvingFrom b x) (in-empty (improvingFrom b x) (λ q i. n (last q) (lower-end x f a q i .0)))
 
   -- z is a bench where an improving path to x may start: d are the distances to x
   pub record Higher (x : ℕ) (d : ℕ → ℕ) (z : ℕ) : Type 0 where
@@ -173,7 +143,13 @@ module _ (b : Board) (v : Valid b) where
   abbrev pub StartsOne : ℕ → Type 0
   StartsOne x = (y : ℕ) × Reach (steps b) x y × (load (b .holders) y + 2 ≤ load (b .holders) x)
 
-  -- levelling turns what an arrival at z would, if z has the greatest load and then the lowest number among those that start one
+  -- a board is level exactly if no bench starts an improving path
+  pub level-starts : T (level b) ↔ ((x : ℕ) → T (within 1 (b .benches) x) → StartsOne x → ⊥)
+  level-starts =
+      (λ l x t s. omega (arith, s .2, (level-reach b v) .0 l x (s .0) (s .1)), λ f. (level-exact b v) .1 (λ p h t. f (p .start) (improves-start b v p h t) (last p, path-reach b p h, improves-loads b p t)))
+
+  -- levelling turns what an arrival at z would, if z has the greatest load and then the lowest number among those that start one;
+  -- where no bench starts one the board is level, and it turns none (level-choice)
   pub levelling-found : (z : ℕ) (p : BenchPath) → arrivalChoice b z ≡ some p → ((w : ℕ) → T (within 1 (b .benches) w) → StartsOne w → (load (b .holders) w < load (b .holders) z) ⊎ ((load (b .holders) z ≡ load (b .holders) w) × (z ≤ w))) → levellingChoice b ≡ some p
   levelling-found z p e first = (levelling-choice b p) .1 (record { listed-is = improving-every b v p (h .0) (h .2); before = before })
     where
@@ -199,11 +175,6 @@ module _ (b : Board) (v : Valid b) where
           go : (load (b .holders) (q .start) < load (b .holders) z) ⊎ ((load (b .holders) z ≡ load (b .holders) (q .start)) × (z ≤ q .start)) → LevellingFirst b p q
           go (inl l) = inl (omega (arith, ap (load (b .holders)) (h .1)))
           go (inr (l, m)) = inr (ap (load (b .holders)) (h .1) ∙ l, tie m (decLt (p .start) (q .start)))
-
-  -- and nothing on a level board
-  pub levelling-not-found : T (level b) → levellingChoice b ≡ none
-  unfolding level levellingChoice
-  levelling-not-found l = least-empty (levellingKey b) (improving b) l
 
   -- a bench that is no heavier than one that reaches it, where that one starts no improving path, starts none either: it need not be searched
   pub searched : (x y : ℕ) → Reach (steps b) x y → load (b .holders) y ≤ load (b .holders) x → (StartsOne x → ⊥) → StartsOne y → ⊥

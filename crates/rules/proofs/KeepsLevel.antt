@@ -5,29 +5,24 @@ use native.Mathlib.Decide.{decLe, ℕ-discrete}
 use mathlib.Core.Path.{_≡_, refl, sym, ap, subst, _∙_}
 use mathlib.Core.Logic.{_⊎_, inl, inr, _≢_}
 use mathlib.Core.Bool.{Bool, not, _||_}
-use mathlib.Core.List.{List, [], _∷_}
+use mathlib.Core.List.{List, []}
 use lib.Dec.{T, eqb, ltb, ltb→lt, lt→ltb}
 use lib.ListN.{length}
 use Rattle.rules.specs.Lists.{bit, within, In, empty, nth, change}
 use Rattle.rules.specs.Board.{Board, Valid, namesOf, holderOf, stands, put, load, excess, mayHold, Shares, namesFit}
 use Rattle.rules.specs.Paths.{Step, steps}
-use Rattle.rules.specs.Sharing.{lightest, getter, arrivalChoice, closingChoice, arrive, close, level}
+use Rattle.rules.specs.Sharing.{arrivalChoice, closingChoice, getter, arrive, close, level}
 use Rattle.rules.specs.JobBook.{OneMore}
-use Rattle.rules.proofs.Basics.{either, or-left, or-right, Compared, same, other, compared, T-eqb, eqb-T, within-low, within-high, within-both, nth-change-same, in-member, length-shares}
+use Rattle.rules.proofs.Basics.{either, or-left, or-right, Compared, same, other, compared, T-eqb, eqb-T, within-low, within-high, within-both, is-empty, nth-change-same, length-change, length-shares, fit-bench}
 use Rattle.rules.proofs.Counting.{bit-other}
-use Rattle.rules.proofs.Paths.{step-is, shares-nth}
-use Rattle.rules.proofs.Sets.{lightest-in}
+use Rattle.rules.proofs.Paths.{stands-within, named-may, shares-nth, holder-bench, step-is}
+use Rattle.rules.proofs.Sets.{getter-in}
 use Rattle.rules.proofs.Walks.{Reach, reach-here, reach-more, reach-all, reach-bench, level-reach}
-use Rattle.rules.proofs.Flip.{stands-within, holder-bench, holder-none}
-use Rattle.rules.proofs.OneLoad.{more-load, given-one, taken-one, excess-rises, excess-stays, excess-grows}
+use Rattle.rules.proofs.Flip.{put-valid}
+use Rattle.rules.proofs.OneLoad.{more-load, excess-rises, excess-stays, excess-grows}
 use Rattle.rules.proofs.Levels.{level-least}
-use Rattle.rules.proofs.Changes.{arrival-does, closing-does}
-use Rattle.rules.proofs.OneJob.{put-valid, same-step, shares-back, length-change, not-stands, held-by, held-valid, arrival-low, closing-high, brought-least, does-level}
-
--- the bench that gets a job may hold it
-getter-may : (holders names : List ℕ) → T (mayHold names (getter holders names))
-getter-may holders [] = tt
-getter-may holders (x ∷ others) = in-member (lightest holders x others) (x ∷ others) (lightest-in holders x others)
+use Rattle.rules.proofs.Changes.{put-rises, put-falls, arrival-does, taken-names, closing-does}
+use Rattle.rules.proofs.OneJob.{same-step, shares-back, held-by, held-valid, arrival-low, closing-high, brought-least, does-level}
 
 -- an arrival: the load of bench `risen` rises
 
@@ -40,7 +35,7 @@ module _ (b : Board) (v : Valid b) (l : T (level b)) (j : ℕ) (names : List ℕ
   got = put b j names getting
 
   got-valid : Valid got
-  got-valid = put-valid b v j names getting f (getter-may (b .holders) names)
+  got-valid = put-valid b v j names getting f (named-may names getting (getter-in (b .holders) names e))
 
   new-low : 1 ≤ j
   new-low = within-low 1 (length (b .named)) j w
@@ -52,7 +47,7 @@ module _ (b : Board) (v : Valid b) (l : T (level b)) (j : ℕ) (names : List ℕ
   got-stands = subst (λ (k : List ℕ). T (not (empty k))) (sym (nth-change-same (b .named) j names [] new-low new-high)) e
 
   none-named : namesOf b j ≡ []
-  none-named = not-stands (namesOf b j) n
+  none-named = is-empty (namesOf b j) n
 
   new-held : j ≤ length (b .holders)
   new-held = omega (arith, new-high, length-shares (b .named) (b .holders) (v .shares))
@@ -61,10 +56,10 @@ module _ (b : Board) (v : Valid b) (l : T (level b)) (j : ℕ) (names : List ℕ
   got-holder = nth-change-same (b .holders) j getting 0 new-low new-held
 
   getting-bench : T (within 1 (b .benches) getting)
-  getting-bench = subst (λ (y : ℕ). T (within 1 (b .benches) y)) got-holder (holder-bench got got-valid j got-stands)
+  getting-bench = fit-bench (b .benches) names getting f (getter-in (b .holders) names e)
 
   one-got : OneMore (b .benches) (b .holders) (got .holders) getting
-  one-got = given-one (b .benches) (b .holders) j getting new-low new-held (holder-none b v j none-named) getting-bench
+  one-got = put-rises b v j names getting w n getting-bench
 
   got-load : (y : ℕ) → T (within 1 (b .benches) y) → load (got .holders) y ≡ load (b .holders) y + bit (eqb getting y)
   got-load y t = more-load (b .benches) (b .holders) (got .holders) getting one-got y (within-low 1 (b .benches) y t) (within-high 1 (b .benches) y t)
@@ -88,8 +83,7 @@ module _ (b : Board) (v : Valid b) (l : T (level b)) (j : ℕ) (names : List ℕ
   -- without the job a sharing of the new jobs is one of the old
   arrival-above : (h : ℕ) (hs : List ℕ) → Shares (got .named) hs → excess (b .benches) (b .holders) h ≤ excess (b .benches) hs h
   arrival-above h hs s =
-      let m : j ≤ length hs = omega (arith, new-high, length-shares (got .named) hs s, length-change (b .named) j names) in
-      let o = taken-one (b .benches) hs j new-low m (holder-bench (held-by got hs) (held-valid got got-valid hs s) j got-stands) in
+      let o = put-falls (held-by got hs) (held-valid got got-valid hs s) j got-stands in
       let k : T (mayHold (namesOf b j) 0) = rw none-named tt in
       omega (arith, level-least b v l h (change hs j 0) (shares-back b v j names 0 hs k s), (excess-grows (b .benches) (change hs j 0) hs (nth hs j 0) o h) .0)
 
@@ -151,17 +145,11 @@ module _ (b : Board) (v : Valid b) (l : T (level b)) (j : ℕ) (s : T (stands b 
   lost-valid : Valid lost
   lost-valid = put-valid b v j [] 0 tt tt
 
-  old-low : 1 ≤ j
-  old-low = within-low 1 (length (b .named)) j (stands-within b j s)
-
-  old-high : j ≤ length (b .named)
-  old-high = within-high 1 (length (b .named)) j (stands-within b j s)
-
   lost-names : namesOf lost j ≡ []
-  lost-names = nth-change-same (b .named) j [] [] old-low old-high
+  lost-names = taken-names b j s
 
   one-lost : OneMore (b .benches) (lost .holders) (b .holders) losing
-  one-lost = taken-one (b .benches) (b .holders) j old-low (omega (arith, old-high, length-shares (b .named) (b .holders) (v .shares))) (holder-bench b v j s)
+  one-lost = put-falls b v j s
 
   lost-load : (y : ℕ) → T (within 1 (b .benches) y) → load (b .holders) y ≡ load (lost .holders) y + bit (eqb losing y)
   lost-load y t = more-load (b .benches) (lost .holders) (b .holders) losing one-lost y (within-low 1 (b .benches) y t) (within-high 1 (b .benches) y t)
@@ -185,8 +173,9 @@ module _ (b : Board) (v : Valid b) (l : T (level b)) (j : ℕ) (s : T (stands b 
   -- with the job given back to its bench a sharing of the new jobs is one of the old
   closing-below : (h : ℕ) (hs : List ℕ) → Shares (lost .named) hs → excess (b .benches) (b .holders) h ≤ suc (excess (b .benches) hs h)
   closing-below h hs t =
-      let m : j ≤ length hs = omega (arith, old-high, length-shares (lost .named) hs t, length-change (b .named) j []) in
-      let o = given-one (b .benches) hs j losing old-low m (holder-none (held-by lost hs) (held-valid lost lost-valid hs t) j lost-names) (holder-bench b v j s) in
+      let w : T (within 1 (length (lost .named)) j) = rw (length-change (b .named) j []) (stands-within b j s) in
+      let n : T (not (stands lost j)) = rw lost-names tt in
+      let o = put-rises (held-by lost hs) (held-valid lost lost-valid hs t) j [] losing w n (holder-bench b v j s) in
       omega (arith, level-least b v l h (change hs j losing) (shares-back b v j [] losing hs (shares-nth b v j) t), (excess-grows (b .benches) hs (change hs j losing) losing o h) .1)
 
   -- what is reached without the job was reached with it

@@ -12,11 +12,11 @@ use lib.Dec.{T, eqb}
 use lib.ListN.{length, getD, drop}
 use lib.Seq.{getD-drop, drop-drop}
 use borrow.Author.Tests.{eq-eqb, ne-eqb}
-use Rattle.rules.specs.Lists.{bit, within, count, different, rising, keep, all, Each, In, empty, nth, numbered}
+use Rattle.rules.specs.Lists.{bit, within, count, rising, keep, all, Each, In, empty, nth, numbered}
 use Rattle.rules.specs.Board.{Board, Valid, mayHold, Shares, namesFit}
 use Rattle.rules.specs.Table.{Entry, vacant, filled, holderIn, follow, chains, standingIn, entryFits, placed, onlyStanding, formed, boardOf, firstHeld, placeOf, entryFor, entriesFrom, layoutOf}
 use Rattle.rules.proofs.Counting.{bit-same, bit-other}
-use Rattle.rules.proofs.Basics.{both, left, Compared, same, other, compared, T-eqb, eqb-T, within-low, within-both, keep-in, in-all, map-in, member-in, rising-low, true→T, length-shares}
+use Rattle.rules.proofs.Basics.{true→T, both, Compared, same, other, compared, T-eqb, eqb-T, within-low, within-both, keep-in, in-all, map-in, member-in, rising-low, length-shares, fit-bench}
 
 -- the jobs from number i on that bench x holds, rising
 abbrev pub heldBy : ℕ → ℕ → List ℕ → List ℕ
@@ -65,8 +65,7 @@ found h (x ∷ names) i = go (λ j. found h names j) (compared x h) i
 filled-entry : (benches : ℕ) (names : List ℕ) (h n : ℕ) → T (namesFit benches names) → filled (entryFor names h n) ≡ not (empty names)
 filled-entry benches [] h n f = refl
 filled-entry benches (x ∷ names) h n f =
-    let t : T (within 1 benches x && all (within 1 benches) names) = left (all (within 1 benches) (x ∷ names)) (different (x ∷ names)) f in
-    let low : 1 ≤ x = within-low 1 benches x (left (within 1 benches x) (all (within 1 benches) names) t) in
+    let low : 1 ≤ x = within-low 1 benches x (fit-bench benches (x ∷ names) x f (inl refl)) in
     rw (ne-eqb x 0 (λ e. omega arith))
 
 -- the names that a record is read as are the job's
@@ -257,33 +256,50 @@ numbered-map f i zero c j = absurd j
 numbered-map f i (suc n) c (inl e) = ap (λ p. p .1) e ∙ ap (λ p. f (p .0)) (sym e)
 numbered-map f i (suc n) c (inr j) = numbered-map f (suc i) n c j
 
+-- a board's records and its chains, clause by clause
+module _ (b : Board) (v : Valid b) where
+  abbrev records : List Entry
+  records = entriesFrom 1 (b .named) (b .holders)
+
+  abbrev held : ℕ → List ℕ
+  held x = heldBy 1 x (b .holders)
+
+  record-told : (p : ℕ × Entry) → In p (standingIn records) → T (filled (p .1)) × Told (b .benches) 1 (b .holders) (p .0) (p .1)
+  record-told p i = let k = keep-in (λ q. filled (q .1)) p (numbered 1 records) i in (k .1, told 1 p (rowsOf b v) (k .0))
+
+  records-fit : (p : ℕ × Entry) → In p (standingIn records) → T (entryFits (b .benches) (p .1))
+  records-fit p i = let t = record-told p i in t .1 .fits (t .0)
+
+  -- a standing job is once on its holder's chain and on no other
+  records-placed : (p : ℕ × Entry) → In p (standingIn records) → T (placed (chains (layoutOf b)) (p .0) (holderIn (p .1)))
+  records-placed p i =
+      subst (λ (l : List (List ℕ)). T (placed l (p .0) (holderIn (p .1)))) (sym (chains-layoutOf b v))
+      (in-all (λ c. eqb (count (p .0) (c .1)) (bit (eqb (c .0) (holderIn (p .1))))) (numbered 1 (map held (rising 1 (b .benches))))
+      (λ c j. eqb-T (count (p .0) (c .1)) (bit (eqb (c .0) (holderIn (p .1)))) (ap (count (p .0)) (numbered-map held 1 (b .benches) c j) ∙ (record-told p i) .1 .once (c .0))))
+
+  chains-stand : (c : List ℕ) → In c (chains (layoutOf b)) → T (onlyStanding records c)
+  chains-stand c i =
+      let m = map-in held c (rising 1 (b .benches)) (subst (In c) (chains-layoutOf b v) i) in
+      subst (λ (l : List ℕ). T (onlyStanding records l)) (sym (m .2)) (only-held records (m .0) (rising-low (m .0) 1 (b .benches) (m .1)) 0 (rowsOf b v) refl)
+
 -- the clauses of the sound table after its sizes hold of a board's layout
 pub formed-layoutOf : (b : Board) → Valid b → T (formed (layoutOf b))
 unfolding formed layoutOf
 formed-layoutOf b v =
-    let f : T fitting = in-all (λ p. entryFits (b .benches) (p .1)) standing fits in
-    let p : T placing = in-all (λ p. placed cs (p .0) (holderIn (p .1))) standing once in
-    let o : T only = in-all (onlyStanding es) cs standing-only in
-    let c : T counting = eqb-T (length (keep (λ names. not (empty names)) (b .named))) (length standing) (sym (count-filled 1 r)) in
+    let f : T fitting = in-all (λ p. entryFits (b .benches) (p .1)) standing (records-fit b v) in
+    let p : T placing = in-all (λ p. placed cs (p .0) (holderIn (p .1))) standing (records-placed b v) in
+    let o : T only = in-all (onlyStanding es) cs (chains-stand b v) in
+    let c : T counting = eqb-T (length (keep (λ names. not (empty names)) (b .named))) (length standing) (sym (count-filled 1 (rowsOf b v))) in
     both (fitting && placing && only && counting) (eqb 0 0) (both (fitting && placing && only) counting (both (fitting && placing) only (both fitting placing f p) o) c) tt
   where
-    r : Rows (b .benches) (b .named) (b .holders)
-    r = rowsOf b v
-
     es : List Entry
-    es = entriesFrom 1 (b .named) (b .holders)
+    es = records b v
 
     standing : List (ℕ × Entry)
     standing = standingIn es
 
-    held : ℕ → List ℕ
-    held x = heldBy 1 x (b .holders)
-
     cs : List (List ℕ)
     cs = chains (layoutOf b)
-
-    rising-chains : cs ≡ map held (rising 1 (b .benches))
-    rising-chains = chains-layoutOf b v
 
     fitting : Bool
     fitting = all (λ p. entryFits (b .benches) (p .1)) standing
@@ -296,18 +312,3 @@ formed-layoutOf b v =
 
     counting : Bool
     counting = eqb (length (keep (λ names. not (empty names)) (b .named))) (length standing)
-
-    fits : (p : ℕ × Entry) → In p standing → T (entryFits (b .benches) (p .1))
-    fits p i = let k = keep-in (λ q. filled (q .1)) p (numbered 1 es) i in (told 1 p r (k .0)) .fits (k .1)
-
-    once : (p : ℕ × Entry) → In p standing → T (placed cs (p .0) (holderIn (p .1)))
-    once p i =
-        let t = told 1 p r ((keep-in (λ q. filled (q .1)) p (numbered 1 es) i) .0) in
-        subst (λ (l : List (List ℕ)). T (placed l (p .0) (holderIn (p .1)))) (sym rising-chains)
-        (in-all (λ c. eqb (count (p .0) (c .1)) (bit (eqb (c .0) (holderIn (p .1))))) (numbered 1 (map held (rising 1 (b .benches))))
-        (λ c j. eqb-T (count (p .0) (c .1)) (bit (eqb (c .0) (holderIn (p .1)))) (ap (count (p .0)) (numbered-map held 1 (b .benches) c j) ∙ t .once (c .0))))
-
-    standing-only : (c : List ℕ) → In c cs → T (onlyStanding es c)
-    standing-only c i =
-        let m = map-in held c (rising 1 (b .benches)) (subst (In c) rising-chains i) in
-        subst (λ (l : List ℕ). T (onlyStanding es l)) (sym (m .2)) (only-held es (m .0) (rising-low (m .0) 1 (b .benches) (m .1)) 0 r refl)

@@ -3,25 +3,24 @@ use Prim.Native.Nat.{ℕ, zero, suc, _+_, _-_, _≤_, _<_}
 use native.Mathlib.Omega.{arith}
 use native.Mathlib.Decide.{decLt}
 use mathlib.Core.Path.{_≡_, refl, sym, ap}
-use mathlib.Core.Logic.{_↔_, inl, _≢_}
+use mathlib.Core.Logic.{_↔_, _≢_}
 use mathlib.Core.Bool.{Bool, true, false, cond, not}
-use mathlib.Core.List.{List, [], _∷_}
 use mathlib.Core.Option.{Option, none, some}
 use lib.Dec.{T, not-T, eqb}
 use lib.ListN.{length}
 use borrow.Author.Tests.{ne-eqb}
-use Rattle.rules.specs.Lists.{bit, within, total, In, empty, least}
+use Rattle.rules.specs.Lists.{bit, within, total}
 use Rattle.rules.specs.Board.{Board, Valid, load}
 use Rattle.rules.specs.Table.{Storable}
-use Rattle.rules.specs.Paths.{BenchPath, last, IsPath, improves, improving, flip}
-use Rattle.rules.specs.Sharing.{level, levellingKey, levellingChoice, Levelled, relevel}
+use Rattle.rules.specs.Paths.{BenchPath, last, IsPath, improves, flip}
+use Rattle.rules.specs.Sharing.{levellingChoice, level, Levelled, relevel}
 use Rattle.rules.specs.Answers.{levelled, stopped}
 use Rattle.rules.specs.Calls.{levellingOutcome}
-use Rattle.rules.proofs.Basics.{true→T, Compared, same, other, compared, eqb-refl, T-leb, within-low, within-high, length-shares}
+use Rattle.rules.proofs.Basics.{true→T, Compared, same, other, compared, eqb-refl, within-low, within-high, length-shares}
 use Rattle.rules.proofs.Counting.{bit-same, bit-other, total-but-one, total-count-le}
-use Rattle.rules.proofs.Paths.{improves-start, improving-only, level-exact}
+use Rattle.rules.proofs.Paths.{improves-loads, improves-start, level-exact, unlevel-improves}
+use Rattle.rules.proofs.Choice.{choice-improves, choice-level, level-choice}
 use Rattle.rules.proofs.Walks.{path-reach, reach-bench}
-use Rattle.rules.proofs.Choice.{levelling-choice, levelling-none}
 use Rattle.rules.proofs.Flip.{flip-loads, flip-valid}
 
 -- n steps of the rule lead from one board to another: each turns the path that the rule names
@@ -40,24 +39,6 @@ pub record Relevels (allowance : ℕ) (b : Board) (r : Levelled) : Type 0 where
   pub allowed : r .paths ≤ allowance
   -- .. and with allowance left no improving path is
   pub done : r .paths < allowance → T (level (r .board))
-
--- the path that the rule names improves
-choice-improves : (b : Board) (p : BenchPath) → levellingChoice b ≡ some p → IsPath b p × T (improves b p)
-choice-improves b p e = let h = improving-only b p (((levelling-choice b p) .0 e) .listed-is) in (h .0, h .2)
-
--- where it names none the board is level ..
-choice-level : (b : Board) → levellingChoice b ≡ none → T (level b)
-unfolding level
-choice-level b e = rw (levelling-none b e) tt
-
--- .. and on a level board it names none
-level-choice : (b : Board) → T (level b) → levellingChoice b ≡ none
-unfolding level levellingChoice
-level-choice b l = go (improving b) l
-  where
-    go : (l : List BenchPath) → T (empty l) → least (levellingKey b) l ≡ none
-    go [] t = refl
-    go (p ∷ l) t = absurd t
 
 -- levelling from the path that the rule names on
 abbrev turned : ℕ → Board → Option BenchPath → Levelled
@@ -97,15 +78,6 @@ says-level n false = (λ e. true→T false cc, λ t. absurd t)
 says-stopped : (n : ℕ) (z : Bool) → (cond z (levelled n) (stopped n) ≡ stopped n) ↔ T (not z)
 says-stopped n true = (λ e. true→T false cc, λ t. absurd t)
 says-stopped n false = (λ e. tt, λ t. refl)
-
--- a board that is not level has an improving path
-pub unlevel-improves : (b : Board) → T (not (level b)) → (p : BenchPath) × IsPath b p × T (improves b p)
-unfolding level
-unlevel-improves b t = go (improving b) (λ p i. improving-only b p i) t
-  where
-    go : (l : List BenchPath) → ((p : BenchPath) → In p l → IsPath b p × T (within 1 (b .benches) (p .start)) × T (improves b p)) → T (not (empty l)) → (p : BenchPath) × IsPath b p × T (improves b p)
-    go [] f t = absurd t
-    go (p ∷ l) f t = let h = f p (inl refl) in (p, h .0, h .2)
 
 -- "It reports the paths turned, and "level" if no improving path is left, else "stopped"."
 pub levelling-says-level : (r : Levelled) → Valid (r .board) → ((levellingOutcome r) .answer ≡ levelled (r .paths)) ↔ ((p : BenchPath) → IsPath (r .board) p → T (improves (r .board) p) → ⊥)
@@ -173,12 +145,12 @@ module _ (n : ℕ) (old new : ℕ → ℕ) (x z : ℕ) (loads : (y : ℕ) → ne
 
 -- turning an improving path lowers it ..
 pub turn-lowers : (b : Board) → Valid b → (p : BenchPath) → IsPath b p → T (improves b p) → waiting (flip b p) < waiting b
-unfolding flip improves
+unfolding flip
 turn-lowers b v p h t =
     let old = load (b .holders) in
     let s = improves-start b v p h t in
     let l = reach-bench b v (p .start) (last p) s (path-reach b p h) in
-    waits-fall (b .benches) old (load ((flip b p) .holders)) (p .start) (last p) (flip-loads b v p h) (T-leb (old (last p) + 2) (old (p .start)) t) s l
+    waits-fall (b .benches) old (load ((flip b p) .holders)) (p .start) (last p) (flip-loads b v p h) (improves-loads b p t) s l
 
 -- .. by one or more for each path turned
 turns-lower : (n : ℕ) (b c : Board) → Valid b → Turns n b c → n + waiting c ≤ waiting b

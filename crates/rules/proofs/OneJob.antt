@@ -1,69 +1,36 @@
--- One job written anew: the board after it, its steps, its sharings, and the bench that an arrival or a closing chooses.
-use Prim.Native.Nat.{ℕ, zero, suc, _+_, _≤_, _<_}
+-- One job written anew: the steps and the sharings of the board after it, and the bench that an arrival or a closing chooses.
+use Prim.Native.Nat.{ℕ, _+_, _≤_, _<_}
 use native.Mathlib.Omega.{arith}
 use native.Mathlib.Decide.{decLe}
 use mathlib.Core.Path.{_≡_, refl, sym, ap, subst, _∙_}
 use mathlib.Core.Logic.{_⊎_, inl, inr, _≢_}
-use mathlib.Core.Bool.{Bool, not}
-use mathlib.Core.List.{List, [], _∷_}
+use mathlib.Core.Bool.{Bool}
+use mathlib.Core.List.{List, []}
 use mathlib.Core.Option.{Option, none, some}
 use lib.Dec.{T, eqb}
-use lib.ListN.{length, set, length-set}
-use lib.Seq.{set-set, set-getD}
-use Rattle.rules.specs.Lists.{bit, within, Each, In, empty, nth, change}
-use Rattle.rules.specs.Board.{Board, Valid, namesOf, put, load, excess, mayHold, Shares, namesFit}
-use Rattle.rules.specs.Paths.{Step, steps, BenchPath, last, IsPath, improves, improvingFrom, improvingTo}
+use Rattle.rules.specs.Lists.{bit, within, In, change}
+use Rattle.rules.specs.Board.{Board, Valid, namesOf, put, load, excess, mayHold, Shares}
+use Rattle.rules.specs.Paths.{Step, steps, BenchPath, last, IsPath, improvingFrom, improvingTo}
 use Rattle.rules.specs.Sharing.{Change, level, arrivalChoice, closingChoice, afterArrival, afterClosing}
-use Rattle.rules.proofs.Basics.{Compared, same, other, compared, T-leb, leb-T, nth-change-other, length-shares}
+use Rattle.rules.proofs.Basics.{Compared, same, other, compared, nth-change-other, change-back, length-shares}
 use Rattle.rules.proofs.Counting.{bit-same, bit-other, bit-le}
-use Rattle.rules.proofs.Paths.{step-is, is-step, improvingFrom-only, improvingFrom-every, improvingTo-only, improvingTo-every}
+use Rattle.rules.proofs.Paths.{step-is, is-step, improvingFrom-only, improvingFrom-every, improves-loads, loads-improve, improvingTo-only, improvingTo-every}
 use Rattle.rules.proofs.Choice.{ArrivalFirst, ClosingFirst, First, arrival-choice, arrival-none, closing-choice, closing-none}
-use Rattle.rules.proofs.Walks.{Reach, reach-here, reach-more, reach-path}
-use Rattle.rules.proofs.TightSet.{broughtIn, brought-only, brought-bench, brought-every, brought-once}
-use Rattle.rules.proofs.Flip.{shares-written}
+use Rattle.rules.proofs.Walks.{Reach, reach-path}
 use Rattle.rules.proofs.Certificate.{proved-least}
+use Rattle.rules.proofs.TightSet.{broughtIn, brought-proves}
+use Rattle.rules.proofs.Flip.{shares-written}
 use Rattle.rules.proofs.Levels.{least-level}
 use Rattle.rules.proofs.Changes.{Does}
 
--- one job written anew
-
--- writing back what stood at a place undoes a writing ..
-change-back : {A : Type 0} (l : List A) (j : ℕ) (a d : A) → change (change l j a) j (nth l j d) ≡ l
-change-back l zero a d = refl
-change-back l (suc i) a d = set-set l i a _ ∙ set-getD l i d
-
--- .. and the list keeps its length
-pub length-change : {A : Type 0} (l : List A) (j : ℕ) (a : A) → length (change l j a) ≡ length l
-length-change l zero a = refl
-length-change l (suc i) a = length-set l i a
-
--- a job that does not stand names nothing
-pub not-stands : (names : List ℕ) → T (not (not (empty names))) → names ≡ []
-not-stands [] t = refl
-not-stands (x ∷ names) t = absurd t
-
-each-set : {A : Type 0} (P : A → Type 0) (l : List A) (i : ℕ) (a : A) → P a → Each P l → Each P (set l i a)
-each-set P [] i a p e = tt
-each-set P (x ∷ l) zero a p e = (p, e .1)
-each-set P (x ∷ l) (suc i) a p e = (e .0, each-set P l i a p (e .1))
-
-each-change : {A : Type 0} (P : A → Type 0) (l : List A) (j : ℕ) (a : A) → P a → Each P l → Each P (change l j a)
-each-change P l zero a p e = e
-each-change P l (suc i) a p e = each-set P l i a p e
-
 module _ (b : Board) (v : Valid b) (j : ℕ) where
-  -- the board with one job written anew is valid
-  pub put-valid : (names : List ℕ) (a : ℕ) → T (namesFit (b .benches) names) → T (mayHold names a) → Valid (put b j names a)
-  put-valid names a f t =
-      record { names = each-change (λ l. T (namesFit (b .benches) l)) (b .named) j names f (v .names); shares = shares-written (b .named) (b .holders) j names a (v .shares) t }
-
-  -- its steps by other jobs are steps of the board
+  -- the steps by other jobs, after job j is written anew, are steps of the board
   pub same-step : (names : List ℕ) (a z : ℕ) (s : Step) → In s (steps (put b j names a) z) → s .job ≢ j → In s (steps b z)
   same-step names a z s i d =
       let k = step-is (put b j names a) z s i in
       is-step b z s (sym (nth-change-other (b .holders) j (s .job) a 0 d) ∙ k .0) (subst (In (s .to)) (nth-change-other (b .named) j (s .job) names [] d) (k .1)) (k .2) (sym (length-shares (b .named) (b .holders) (v .shares)))
 
-  -- a sharing of its jobs, with the one job given back, shares the board's
+  -- a sharing of the jobs after it, with job j given back, shares the board's
   pub shares-back : (names : List ℕ) (a : ℕ) (hs : List ℕ) → T (mayHold (namesOf b j) a) → Shares (change (b .named) j names) hs → Shares (b .named) (change hs j a)
   shares-back names a hs t s = subst (λ (l : List (List ℕ)). Shares l (change hs j a)) (change-back (b .named) j names []) (shares-written (change (b .named) j names) hs j (namesOf b j) a s t)
 
@@ -76,14 +43,6 @@ pub held-valid : (b : Board) → Valid b → (hs : List ℕ) → Shares (b .name
 held-valid b v hs s = record { names = v .names; shares = s }
 
 -- improving paths between two benches
-
-T-improves : (b : Board) (p : BenchPath) → T (improves b p) → load (b .holders) (last p) + 2 ≤ load (b .holders) (p .start)
-unfolding improves
-T-improves b p t = T-leb (load (b .holders) (last p) + 2) (load (b .holders) (p .start)) t
-
-improves-T : (b : Board) (p : BenchPath) → load (b .holders) (last p) + 2 ≤ load (b .holders) (p .start) → T (improves b p)
-unfolding improves
-improves-T b p h = leb-T (load (b .holders) (last p) + 2) (load (b .holders) (p .start)) h
 
 -- from x to y the load falls by one at most, or an improving path leads there
 abbrev Falls : Board → ℕ → ℕ → Type 0
@@ -98,7 +57,7 @@ reach-falls b v x y w = go (reach-path b x y w) (decLe (load (b .holders) x) (lo
     go r (yes h) = inl h
     go r (no h) =
         let q = r .0 in
-        let t = improves-T b q (omega (arith, ap (load (b .holders)) (r .2), ap (load (b .holders)) (r .3))) in
+        let t = loads-improve b q (omega (arith, ap (load (b .holders)) (r .2), ap (load (b .holders)) (r .3))) in
         inr (q, subst (λ (z : ℕ). In q (improvingFrom b z)) (r .2) (improvingFrom-every b v q (r .1) t), subst (λ (z : ℕ). In q (improvingTo b z)) (r .3) (improvingTo-every b v q (r .1) t), r .2, r .3, omega arith)
 
 module _ (b : Board) (v : Valid b) (x : ℕ) where
@@ -116,7 +75,7 @@ module _ (b : Board) (v : Valid b) (x : ℕ) where
       first = (arrival-choice b x p) .0 e
 
       down : load (b .holders) (last p) + 2 ≤ load (b .holders) x
-      down = let h = improvingFrom-only b x p (first .listed-is) in omega (arith, T-improves b p (h .2), ap (load (b .holders)) (h .1))
+      down = let h = improvingFrom-only b x p (first .listed-is) in omega (arith, improves-loads b p (h .2), ap (load (b .holders)) (h .1))
 
       lower : (q : BenchPath) → ArrivalFirst b p q → load (b .holders) (last p) ≤ load (b .holders) (last q)
       lower q (inl i) = omega arith
@@ -140,7 +99,7 @@ module _ (b : Board) (v : Valid b) (x : ℕ) where
       first = (closing-choice b x p) .0 e
 
       down : load (b .holders) x + 2 ≤ load (b .holders) (p .start)
-      down = let h = improvingTo-only b x p (first .listed-is) in omega (arith, T-improves b p (h .3), ap (load (b .holders)) (h .2))
+      down = let h = improvingTo-only b x p (first .listed-is) in omega (arith, improves-loads b p (h .3), ap (load (b .holders)) (h .2))
 
       higher : (q : BenchPath) → ClosingFirst b p q → load (b .holders) (q .start) ≤ load (b .holders) (p .start)
       higher q (inl i) = omega arith
@@ -152,13 +111,7 @@ module _ (b : Board) (v : Valid b) (x : ℕ) where
 
 -- a test that every bench above h passes, and that brings in no bench below h, proves the overhang above h
 pub brought-least : (b : Board) → Valid b → (p : ℕ → Bool) (h : ℕ) → ((x : ℕ) → T (within 1 (b .benches) x) → h < load (b .holders) x → T (p x)) → ((x y : ℕ) → T (within 1 (b .benches) x) → T (within 1 (b .benches) y) → T (p x) → Reach (steps b) x y → h ≤ load (b .holders) y) → (hs : List ℕ) → Shares (b .named) hs → excess (b .benches) (b .holders) h ≤ excess (b .benches) hs h
-brought-least b v p h above full = proved-least b v (broughtIn b p) h (record { bench = brought-bench b p; once = brought-once b p; above = λ x t i. brought-every b p v x x t (above x t i) (reach-here (steps b) x); full = full′; closed = closed′ })
-  where
-    full′ : (y : ℕ) → In y (broughtIn b p) → h ≤ load (b .holders) y
-    full′ y i = let r = brought-only b p y i in full (r .0) y (r .1) (brought-bench b p y i) (r .2) (r .3)
-
-    closed′ : (y : ℕ) (s : Step) → In y (broughtIn b p) → In s (steps b y) → In (s .to) (broughtIn b p)
-    closed′ y s i k = let r = brought-only b p y i in brought-every b p v (r .0) (s .to) (r .1) (r .2) (reach-more (steps b) (r .0) y s (r .3) k)
+brought-least b v p h above full = proved-least b v (broughtIn b p) h (brought-proves b p v h above full)
 
 -- a change of one job that leaves the overhang least leaves the board level
 pub does-level : (b : Board) (j : ℕ) (names : List ℕ) (c : Change) → Does b j names c → ((h : ℕ) (hs : List ℕ) → Shares (change (b .named) j names) hs → excess (b .benches) ((c .board) .holders) h ≤ excess (b .benches) hs h) → T (level (c .board))

@@ -8,7 +8,7 @@ use mathlib.Core.Option.{Option, none, some}
 use lib.Dec.{T, eqb}
 use lib.ListN.{length}
 use borrow.Author.Tests.{eqb-false}
-use Rattle.rules.specs.Lists.{within, Each, In, empty, change}
+use Rattle.rules.specs.Lists.{within, Each, In, empty}
 use Rattle.rules.specs.Board.{Board, Valid, stands, namesFit}
 use Rattle.rules.specs.Table.{mostBenches, mostJobs, sound, decode, encode, Storable}
 use Rattle.rules.specs.Sharing.{Change, arrive, close, Levelled, relevel, level}

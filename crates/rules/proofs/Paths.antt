@@ -1,19 +1,69 @@
--- Steps, paths and improving paths: the lists of the definitions hold exactly what they are to hold.
+-- Jobs and their benches, steps, paths and improving paths: the lists of the definitions hold exactly what they are to hold.
 use Prim.Native.Nat.{ℕ, zero, suc, _+_, _≤_}
 use native.Mathlib.Omega.{arith}
+use native.Mathlib.Decide.{decLt}
 use mathlib.Core.Path.{_≡_, refl, sym, ap, subst, _∙_}
 use mathlib.Core.Logic.{inl, inr, _≢_, _↔_}
 use mathlib.Core.Bool.{Bool, true, false, cond, not}
 use mathlib.Core.List.{List, [], _∷_, _++_, map}
-use lib.Dec.{T, eqb, T-not, not-T}
-use lib.ListN.{length, getD, length-map}
+use lib.Dec.{T, eqb, not-T}
+use lib.ListN.{length, getD, length-map, List·getD-eq-default}
 use borrow.Author.Tests.{eq-eqb}
-use Rattle.rules.specs.Lists.{within, member, different, rising, keep, all, Each, In}
-use Rattle.rules.specs.Board.{Board, Valid, namesOf, holderOf, namesFit, Shares, mayHold, load}
-use Rattle.rules.specs.Paths.{Step, stepBy, stepsFrom, steps, BenchPath, pathBy, last, Walk, IsPath, routes, pathsFrom, improves, improvingFrom, improving, improvingTo}
+use Rattle.rules.specs.Lists.{within, member, different, rising, keep, Each, In, empty}
+use Rattle.rules.specs.Board.{Board, Valid, namesOf, holderOf, stands, load, mayHold, Shares, namesFit}
+use Rattle.rules.specs.Paths.{Step, stepBy, stepsFrom, steps, BenchPath, pathBy, endOf, last, Walk, IsPath, routes, pathsFrom, improves, improvingFrom, improving, improvingTo}
 use Rattle.rules.specs.Sharing.{level}
-use Rattle.rules.proofs.Basics.{T→true, true→T, both, left, Compared, same, other, compared, T-eqb, T-leb, eqb-T, within-low, within-high, within-both, in-left, in-right, in-either, in-keep, keep-in, all-in, in-map, map-in, in-flatMap, flatMap-in, member-in, in-rising, rising-low, rising-high, empty-in, in-empty, each-nth, not-member, member-not, different-head, different-tail}
+use Rattle.rules.proofs.Basics.{true→T, T→true, both, Compared, same, other, compared, T-eqb, eqb-T, T-leb, leb-T, within-both, in-left, in-right, in-either, in-keep, keep-in, empty-in, in-empty, some-in, each-nth, in-map, map-in, in-flatMap, flatMap-in, member-in, in-member, bench-listed, listed-bench, not-member, member-not, different-head, different-tail, others-in, fit-bench}
 use Rattle.rules.proofs.Counting.{few, different-count}
+
+-- the benches that a job names, and the one that holds it
+
+-- a standing job's number is one of 1 to J
+pub stands-within : (b : Board) (j : ℕ) → T (stands b j) → T (within 1 (length (b .named)) j)
+stands-within b zero t = absurd t
+stands-within b (suc i) t =
+    elim (decLt i (length (b .named))) [ yes h ↦ within-both 1 (length (b .named)) (suc i) (omega arith) h | no h ↦ absurd (let e = List·getD-eq-default (b .named) [] {n = i} (omega arith) in rw e at t) ]
+
+-- a job that names a bench stands ..
+pub named-stands : (b : Board) (j y : ℕ) → In y (namesOf b j) → T (stands b j)
+named-stands b j y i = not-T (empty (namesOf b j)) (λ t. empty-in y (namesOf b j) t i)
+
+-- .. and that bench may hold it
+pub named-may : (names : List ℕ) (y : ℕ) → In y names → T (mayHold names y)
+named-may [] y i = absurd i
+named-may (x ∷ names) y i = in-member y (x ∷ names) i
+
+-- on a valid board it is a bench of 1 to B
+pub named-bench : (b : Board) → Valid b → (j y : ℕ) → In y (namesOf b j) → T (within 1 (b .benches) y)
+named-bench b v j y =
+    fit-bench (b .benches) (namesOf b j) y (each-nth (λ names. T (namesFit (b .benches) names)) (b .named) j [] tt (v .names))
+
+-- a job is held by a bench that may hold it ..
+pub shares-getD : (named : List (List ℕ)) (holders : List ℕ) → Shares named holders → (i : ℕ) → T (mayHold (getD named i []) (getD holders i 0))
+shares-getD [] [] s i = tt
+shares-getD [] (h ∷ holders) s i = absurd s
+shares-getD (names ∷ named) [] s i = absurd s
+shares-getD (names ∷ named) (h ∷ holders) s zero = s .0
+shares-getD (names ∷ named) (h ∷ holders) s (suc i) = shares-getD named holders (s .1) i
+
+pub shares-nth : (b : Board) → Valid b → (j : ℕ) → T (mayHold (namesOf b j) (holderOf b j))
+shares-nth b v zero = tt
+shares-nth b v (suc i) = shares-getD (b .named) (b .holders) (v .shares) i
+
+-- .. and if it names any, by one that it names
+pub held-named : (names : List ℕ) (h y : ℕ) → In y names → T (mayHold names h) → In h names
+held-named [] h y i t = absurd i
+held-named (x ∷ names) h y i t = member-in h (x ∷ names) t
+
+-- a standing job's holder is a bench of 1 to B
+pub holder-bench : (b : Board) → Valid b → (j : ℕ) → T (stands b j) → T (within 1 (b .benches) (holderOf b j))
+holder-bench b v j t =
+    let y = some-in (namesOf b j) t in
+    named-bench b v j (holderOf b j) (held-named (namesOf b j) (holderOf b j) (y .0) (y .1) (shares-nth b v j))
+
+-- where no job stands the holder is 0
+pub holder-none : (b : Board) → Valid b → (j : ℕ) → namesOf b j ≡ [] → holderOf b j ≡ 0
+holder-none b v j e = let t = shares-nth b v j in T-eqb (holderOf b j) 0 (rw e at t)
 
 -- steps
 
@@ -39,9 +89,9 @@ stepsFrom-is j x (names ∷ named) (h ∷ holders) s i = go (compared h x) (λ k
     first : h ≡ x → In s (map (stepBy j) others) → Leaves j x (names ∷ named) (h ∷ holders) s
     first e k =
         let m = map-in (stepBy j) s others k in
-        let f = keep-in (λ y. not (eqb y x)) (m .0) names (m .1) in
+        let f = (others-in x names (m .0)) .0 (m .1) in
         let to : s .to ≡ m .0 = ap (λ (t : Step). t .to) (m .2) in
-        (0, omega (arith, ap (λ (t : Step). t .job) (m .2)), e, rw to (f .0), λ d. T-not (eqb (m .0) x) (f .1) (eqb-T (m .0) x (sym to ∙ d)))
+        (0, omega (arith, ap (λ (t : Step). t .job) (m .2)), e, rw to (f .1), λ d. f .0 (sym to ∙ d))
 
     go : {z : Bool} → Compared h x z → (In s rest → Leaves j x (names ∷ named) (h ∷ holders) s) → In s (cond z (map (stepBy j) others ++ rest) rest) → Leaves j x (names ∷ named) (h ∷ holders) s
     go (same e) ih k = elim (in-either s (map (stepBy j) others) rest k) [ inl m ↦ first e m | inr m ↦ ih m ]
@@ -60,7 +110,7 @@ stepsFrom-has j x i [] holders s l e h n d = absurd n
 stepsFrom-has j x i (names ∷ named) [] s l e h n d = omega arith
 stepsFrom-has j x zero (names ∷ named) (h₀ ∷ holders) s l e h n d =
     let others = keep (λ y. not (eqb y x)) names in
-    let kept = in-keep (λ y. not (eqb y x)) (s .to) names n (not-T (eqb (s .to) x) (λ t. d (T-eqb (s .to) x t))) in
+    let kept = (others-in x names (s .to)) .1 (d, n) in
     let job : j ≡ s .job = omega arith in
     let first = subst (λ (i : ℕ). In (stepBy i (s .to)) (map (stepBy j) others)) job (in-map (stepBy j) (s .to) others kept) in
     rw (eq-eqb h₀ x h) (in-left s (map (stepBy j) others) (stepsFrom (suc j) x named holders) first)
@@ -87,15 +137,17 @@ is-step b x s h n d l = go (s .job) refl h n
 
 -- a step leads to a bench of 1 to B
 pub step-bench : (b : Board) → Valid b → (x : ℕ) (s : Step) → In s (steps b x) → T (within 1 (b .benches) (s .to))
-step-bench b v x s i =
-    let fit : T (namesFit (b .benches) (namesOf b (s .job))) = each-nth (λ names. T (namesFit (b .benches) names)) (b .named) (s .job) [] tt (v .names) in
-    all-in (within 1 (b .benches)) (s .to) (namesOf b (s .job)) (left (all (within 1 (b .benches)) (namesOf b (s .job))) (different (namesOf b (s .job))) fit) ((step-is b x s i) .1)
+step-bench b v x s i = named-bench b v (s .job) (s .to) ((step-is b x s i) .1)
 
 -- paths
 
 -- the benches that a route comes to
 abbrev pub benchesOf : List Step → List ℕ
 benchesOf r = map (λ s. s .to) r
+
+-- a route's jobs, in its order
+abbrev pub jobsOf : List Step → List ℕ
+jobsOf r = map (λ s. s .job) r
 
 -- different benches, and none already seen
 record Fresh (seen : List ℕ) (l : List ℕ) : Type 0 where
@@ -183,38 +235,26 @@ pub improvingFrom-every : (b : Board) → Valid b → (p : BenchPath) → IsPath
 unfolding improvingFrom
 improvingFrom-every b v p h t = in-keep (improves b) p (pathsFrom b (p .start)) (path-is-listed b v p h) t
 
--- benches that hold a job
+-- improving paths
 
-pub shares-getD : (named : List (List ℕ)) (holders : List ℕ) → Shares named holders → (i : ℕ) → T (mayHold (getD named i []) (getD holders i 0))
-shares-getD [] [] s i = tt
-shares-getD [] (h ∷ holders) s i = absurd s
-shares-getD (names ∷ named) [] s i = absurd s
-shares-getD (names ∷ named) (h ∷ holders) s zero = s .0
-shares-getD (names ∷ named) (h ∷ holders) s (suc i) = shares-getD named holders (s .1) i
+-- what improving says of the loads, and back
+pub improves-loads : (b : Board) (p : BenchPath) → T (improves b p) → load (b .holders) (last p) + 2 ≤ load (b .holders) (p .start)
+unfolding improves
+improves-loads b p t = T-leb (load (b .holders) (last p) + 2) (load (b .holders) (p .start)) t
 
-pub shares-nth : (b : Board) → Valid b → (j : ℕ) → T (mayHold (namesOf b j) (holderOf b j))
-shares-nth b v zero = tt
-shares-nth b v (suc i) = shares-getD (b .named) (b .holders) (v .shares) i
-
-pub held-named : (names : List ℕ) (h y : ℕ) → In y names → T (mayHold names h) → In h names
-held-named [] h y i t = absurd i
-held-named (x ∷ names) h y i t = member-in h (x ∷ names) t
+pub loads-improve : (b : Board) (p : BenchPath) → load (b .holders) (last p) + 2 ≤ load (b .holders) (p .start) → T (improves b p)
+unfolding improves
+loads-improve b p h = leb-T (load (b .holders) (last p) + 2) (load (b .holders) (p .start)) h
 
 -- on a valid board an improving path starts at a bench of 1 to B
 pub improves-start : (b : Board) → Valid b → (p : BenchPath) → IsPath b p → T (improves b p) → T (within 1 (b .benches) (p .start))
-unfolding improves
-improves-start b v p h t = go (p .route) (h .walk) t
+improves-start b v p h t = go (p .route) (h .walk) (improves-loads b p t)
   where
-    go : (r : List Step) → Walk (steps b) (p .start) r → T (improves b (pathBy (p .start) r)) → T (within 1 (b .benches) (p .start))
-    go [] w u = absurd (let e = T-leb (load (b .holders) (p .start) + 2) (load (b .holders) (p .start)) u in omega arith)
-    go (s ∷ r) w u =
+    go : (r : List Step) → Walk (steps b) (p .start) r → load (b .holders) (endOf (p .start) r) + 2 ≤ load (b .holders) (p .start) → T (within 1 (b .benches) (p .start))
+    go [] w l = absurd (omega arith)
+    go (s ∷ r) w l =
         let k = step-is b (p .start) s (w .0) in
-        let names = namesOf b (s .job) in
-        let fit : T (namesFit (b .benches) names) = each-nth (λ names. T (namesFit (b .benches) names)) (b .named) (s .job) [] tt (v .names) in
-        let i : In (holderOf b (s .job)) names = held-named names (holderOf b (s .job)) (s .to) (k .1) (shares-nth b v (s .job)) in
-        subst (λ (x : ℕ). T (within 1 (b .benches) x)) (k .0) (all-in (within 1 (b .benches)) (holderOf b (s .job)) names (left (all (within 1 (b .benches)) names) (different names) fit) i)
-
--- improving paths
+        subst (λ (x : ℕ). T (within 1 (b .benches) x)) (k .0) (holder-bench b v (s .job) (named-stands b (s .job) (s .to) (k .1)))
 
 -- the list of all improving paths has only improving paths that start at a bench of 1 to B ..
 pub improving-only : (b : Board) (p : BenchPath) → In p (improving b) → IsPath b p × T (within 1 (b .benches) (p .start)) × T (improves b p)
@@ -222,18 +262,14 @@ unfolding improving
 improving-only b p i =
     let f = flatMap-in (improvingFrom b) p (rising 1 (b .benches)) i in
     let h = improvingFrom-only b (f .0) p (f .2) in
-    let low = rising-low (f .0) 1 (b .benches) (f .1) in
-    let high = rising-high (f .0) 1 (b .benches) (f .1) in
-    (h .0, within-both 1 (b .benches) (p .start) (omega (arith, h .1)) (omega (arith, h .1)), h .2)
+    (h .0, rw (h .1) (listed-bench (b .benches) (f .0) (f .1)), h .2)
 
 -- .. and every one
 pub improving-every : (b : Board) → Valid b → (p : BenchPath) → IsPath b p → T (improves b p) → In p (improving b)
 unfolding improving
 improving-every b v p h t =
-    let w = improves-start b v p h t in
-    let low = within-low 1 (b .benches) (p .start) w in
-    let high = within-high 1 (b .benches) (p .start) w in
-    in-flatMap (improvingFrom b) p (p .start) (rising 1 (b .benches)) (in-rising (p .start) 1 (b .benches) low (omega arith)) (improvingFrom-every b v p h t)
+    let i = bench-listed (b .benches) (p .start) (improves-start b v p h t) in
+    in-flatMap (improvingFrom b) p (p .start) (rising 1 (b .benches)) i (improvingFrom-every b v p h t)
 
 -- the list of the improving paths that end at x has only such paths ..
 pub improvingTo-only : (b : Board) (x : ℕ) (p : BenchPath) → In p (improvingTo b x) → IsPath b p × T (within 1 (b .benches) (p .start)) × (last p ≡ x) × T (improves b p)
@@ -253,3 +289,11 @@ pub level-exact : (b : Board) → Valid b → T (level b) ↔ ((p : BenchPath) �
 unfolding level
 level-exact b v =
     (λ l p h t. empty-in p (improving b) l (improving-every b v p h t), λ f. in-empty (improving b) (λ p i. let h = improving-only b p i in f p (h .0) (h .2)))
+
+-- a board that is not level has an improving path
+pub unlevel-improves : (b : Board) → T (not (level b)) → (p : BenchPath) × IsPath b p × T (improves b p)
+unfolding level
+unlevel-improves b t =
+    let q = some-in (improving b) t in
+    let h = improving-only b (q .0) (q .1) in
+    (q .0, h .0, h .2)

@@ -17,8 +17,7 @@ use Rattle.rules.specs.Answers.{firstHolding, isRefused, refuse, settled
 use Rattle.rules.specs.Calls.{loadOf, heaviestLoad, tightSetOf, formCheck, levelCheck, conditions, answering, accepted, outcome, tightSetOutcome}
 use Rattle.rules.proofs.Basics.{true→T, T→true, not→false}
 use Rattle.rules.proofs.Sound.{sound-storable}
-use Rattle.rules.proofs.Paths.{level-exact}
-use Rattle.rules.proofs.Levelling.{unlevel-improves}
+use Rattle.rules.proofs.Paths.{level-exact, unlevel-improves}
 use Rattle.rules.proofs.Levels.{level-demand2}
 use Rattle.rules.proofs.Refusals.{accepted-by}
 use Rattle.rules.proofs.Outcomes.{neither}

@@ -1,7 +1,8 @@
 -- Densities, jobs inside a set, and the lightest of the named benches.
-use Prim.Native.Nat.{ℕ, suc, _+_, _-_, _*_, _≤_, _<_}
+use Prim.Native.Nat.{ℕ, zero, suc, _+_, _-_, _*_, _≤_, _<_}
 use native.Mathlib.Omega.{arith}
-use native.Mathlib.Nat.{div-add-mod', mod-lt, div-lt-iff-lt-mul, suc-mul}
+use native.Mathlib.Nat.{div-add-mod', mod-lt, div-lt-iff-lt-mul, suc-mul, mul-le-mul-right}
+use native.Mathlib.Decide.{decLe}
 use mathlib.Core.Path.{_≡_, refl, sym, ap, subst}
 use mathlib.Core.Logic.{inl, inr}
 use mathlib.Core.Bool.{Bool, true, false, cond, not, _&&_}
@@ -10,7 +11,7 @@ use lib.Dec.{T, ltb}
 use borrow.Author.Tests.{ltb-true, ltb-false}
 use Rattle.rules.specs.Lists.{bit, member, all, Each, In, empty}
 use Rattle.rules.specs.Board.{load}
-use Rattle.rules.specs.Sharing.{lightest, inside, density}
+use Rattle.rules.specs.Sharing.{lightest, getter, inside, density}
 use Rattle.rules.proofs.Basics.{T→true, right, in-right, all-in, in-all, each-in, member-in, in-member}
 
 -- a density rounded up is enough for the inside jobs
@@ -27,6 +28,14 @@ density-least i n d l h =
     let m = i + (n - 1) in
     let s : m < suc d * n = omega (arith, suc-mul d n) in
     omega (arith, div-lt-iff-lt-mul l .1 s)
+
+-- with more inside jobs than k for each bench, but no more than k + 1, the density rounded up is k + 1
+pub density-between : (i n k : ℕ) → k * n < i → i ≤ suc k * n → density i n ≡ suc k
+density-between i zero k l u = absurd (omega arith)
+density-between i (suc m) k l u = elim (decLe (density i (suc m)) k) [
+  | yes h ↦ absurd (omega (arith, density-enough i (suc m) (omega arith), mul-le-mul-right (suc m) h))
+  | no h ↦ omega (arith, density-least i (suc m) (suc k) (omega arith) u)
+]
 
 -- where no job stands, none is inside the set
 pub inside-empty : (set : List ℕ) (named : List (List ℕ)) → inside set ([] ∷ named) ≡ inside set named
@@ -88,3 +97,8 @@ lightest-in holders x others =
     let r = lightest-first holders x others in
     let m = lightest holders x others in
     subst (In m) (sym (r .2)) (in-right m (r .0) (m ∷ r .1) (inl refl))
+
+-- so the bench that gets a job is one that the job names
+pub getter-in : (holders names : List ℕ) → T (not (empty names)) → In (getter holders names) names
+getter-in holders [] e = absurd e
+getter-in holders (x ∷ others) e = lightest-in holders x others

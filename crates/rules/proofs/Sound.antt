@@ -2,18 +2,18 @@
 use Prim.Native.Nat.{ℕ, zero, suc, _+_, _*_, _/_, _%_, _≤_, _<_}
 use native.Mathlib.Omega.{arith}
 use native.Mathlib.Nat.{add-assoc}
+use native.Mathlib.Decide.{decLe}
 use mathlib.Core.Path.{_≡_, refl, sym, ap, _∙_, subst}
 use mathlib.Core.Logic.{_⊎_, inl, inr, _≢_}
 use mathlib.Core.Bool.{Bool, true, false, cond, not, _&&_, _||_}
 use mathlib.Core.List.{List, [], _∷_, map}
 use lib.Dec.{T, eqb, leb, not-T}
 use lib.ListN.{length, getD, drop, length-take, length-drop, length-map, List·getD-eq-default}
-use native.Mathlib.Decide.{decLe}
 use lib.Seq.{getD-take, getD-drop}
 use Rattle.rules.specs.Lists.{bit, within, count, member, different, all, Each, In, empty, nth, numbered}
 use Rattle.rules.specs.Board.{Shares, mayHold, namesFit}
 use Rattle.rules.specs.Table.{words, lengthFor, mostBenches, mostJobs, sizesFit, Entry, vacant, filled, holderIn, Layout, entriesIn, layout, follow, chains, standingIn, entryFits, placed, onlyStanding, formed, fits, sound, boardOf, decode, Storable}
-use Rattle.rules.proofs.Basics.{true→T, not→false, left, right, or-right, T-eqb, eqb-T, T-leb, within-low, within-high, within-both, in-map, in-keep, all-in, each-in, in-each, each-map, in-getD, in-nth, in-numbered, in-numbered-nth, member-in, in-member, Compared, same, other, compared, different-head}
+use Rattle.rules.proofs.Basics.{true→T, not→false, left, right, or-right, Compared, same, other, compared, T-eqb, eqb-T, T-leb, within-low, within-high, within-both, in-keep, all-in, each-in, in-each, in-getD, in-nth, in-numbered, in-numbered-nth, in-map, each-map, member-in, in-member, different-head, fit-bench}
 use Rattle.rules.proofs.Counting.{bit-le, bit-same, bit-other, count-none, few}
 
 -- the table's places
@@ -326,7 +326,7 @@ two-benches benches e two fits = go (e .names) refl two (left (namesFit benches 
 
     bench : (x : ℕ) (names : List ℕ) → T (namesFit benches names) → In x names → (1 ≤ x) × (x ≤ benches)
     bench x names f i =
-        let w = all-in (within 1 benches) x names (left (all (within 1 benches) names) (different names) f) i in
+        let w = fit-bench benches names x f i in
         (within-low 1 benches x w, within-high 1 benches x w)
 
     go : (names : List ℕ) → e .names ≡ names → length names ≡ 2 → T (namesFit benches names) → TwoBenches benches e

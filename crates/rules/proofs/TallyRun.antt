@@ -21,7 +21,7 @@ use Rattle.rules.proofs.Basics.{true→T, T→true, not→false, within
 use Rattle.rules.proofs.Counting.{keep-change}
 use Rattle.rules.proofs.Sound.{sized}
 use Rattle.rules.proofs.Blanking.{standing-empty, blank-sound, blank-decodes}
-use Rattle.rules.proofs.Flip.{stands-within}
+use Rattle.rules.proofs.Paths.{stands-within}
 use Rattle.rules.proofs.Outcomes.{Written, Arrives, Closes, isChange, levelling-quiet, by-call}
 
 -- arrivals are closings and the jobs standing together

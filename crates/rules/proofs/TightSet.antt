@@ -1,9 +1,9 @@
--- The closure that tight sets are: which benches are in it.
-use Prim.Native.Nat.{ℕ, zero, suc, _+_, _≤_}
+-- The closure that tight sets are: which benches are in it, in which order, and what it proves.
+use Prim.Native.Nat.{ℕ, zero, suc, _+_, _≤_, _<_}
 use native.Mathlib.Omega.{arith}
-use mathlib.Core.Path.{_≡_, refl, sym, subst}
+use mathlib.Core.Path.{_≡_, refl, sym, subst, _∙_}
 use mathlib.Core.Logic.{_⊎_, inl, inr, _↔_}
-use mathlib.Core.Bool.{Bool, true, false, cond, not, _||_}
+use mathlib.Core.Bool.{Bool, true, false, cond, _||_}
 use mathlib.Core.List.{List, [], _∷_, flatMap}
 use lib.Dec.{T, eqb, leb}
 use lib.ListN.{length}
@@ -12,9 +12,10 @@ use Rattle.rules.specs.Lists.{within, member, different, rising, keep, I
 use Rattle.rules.specs.Board.{Board, Valid, load}
 use Rattle.rules.specs.Paths.{Step, BenchPath, steps, last, IsPath}
 use Rattle.rules.specs.Sharing.{widen, widest, tightSet}
-use Rattle.rules.proofs.Basics.{both, either, or-left, or-right, T-leb, leb-T, within-low, within-high, within-both, in-keep, keep-in, in-map, map-in, in-flatMap, flatMap-in, member-in, in-member, not-member, in-rising, rising-low, rising-high, length-keep, length-rising, different-head, different-tail}
+use Rattle.rules.proofs.Basics.{either, or-left, or-right, tests-same, T-leb, leb-T, in-keep, keep-in, keep-same, length-keep, in-map, map-in, in-flatMap, flatMap-in, member-in, in-member, bench-listed, listed-bench, length-rising, keep-different, keep-own, rising-different}
 use Rattle.rules.proofs.Paths.{benchesOf, step-bench}
-use Rattle.rules.proofs.Walks.{Reach, reach-here, reach-more, reach-all, reach-path, path-reach}
+use Rattle.rules.proofs.Walks.{Reach, reach-here, reach-more, reach-all, reach-path}
+use Rattle.rules.proofs.Certificate.{Proves}
 
 -- the benches that those which pass the test bring in, themselves among them
 abbrev pub broughtIn : Board → (ℕ → Bool) → List ℕ
@@ -50,26 +51,6 @@ module _ {A : Type 0} (p q : A → Bool) where
       rest r ih (inl e) = subst (λ (c : A). T (p c)) (sym e) (r .0 (subst (λ (c : A). T (q c)) e t))
       rest r ih (inr j) = ih (r .1) j
 
-keep-different : (p : ℕ → Bool) (l : List ℕ) → T (different l) → T (different (keep p l))
-keep-different p [] t = tt
-keep-different p (x ∷ l) t = go (p x) (keep-different p l (different-tail x l t))
-  where
-    go : (z : Bool) → T (different (keep p l)) → T (different (cond z (x ∷ keep p l) (keep p l)))
-    go true u = both (not (member x (keep p l))) (different (keep p l)) (not-member x (keep p l) (λ i. different-head x l t (keep-in p x l i .0))) u
-    go false u = u
-
-rising-different : (i n : ℕ) → T (different (rising i n))
-rising-different i zero = tt
-rising-different i (suc n) =
-    let l = rising (suc i) n in
-    both (not (member i l)) (different l) (not-member i l (λ j. let h = rising-low i (suc i) n j in omega arith)) (rising-different (suc i) n)
-
-bench-listed : (n x : ℕ) → T (within 1 n x) → In x (rising 1 n)
-bench-listed n x t = let h = within-high 1 n x t in in-rising x 1 n (within-low 1 n x t) (omega arith)
-
-listed-bench : (n x : ℕ) → In x (rising 1 n) → T (within 1 n x)
-listed-bench n x i = let h = rising-high x 1 n i in within-both 1 n x (rising-low x 1 n i) (omega arith)
-
 module _ (b : Board) where
   -- bench y is in the set, or a step from a bench of the set leads to it
   abbrev Brings : List ℕ → ℕ → Type 0
@@ -99,19 +80,13 @@ module _ (b : Board) where
       or-right (member y set) (member y (benchesOf ways)) (in-member y (benchesOf ways) (rw e (in-map (λ (s : Step). s .to) s ways (in-flatMap (steps b) s z set i j))))
 
   -- a round brings in what it is to bring in
-  widen-in : (set : List ℕ) (y : ℕ) → In y (widen b set) → T (within 1 (b .benches) y) × Brings set y
+  widen-in : (set : List ℕ) (y : ℕ) → In y (widen b set) → Brings set y
   unfolding widen
-  widen-in set y i =
-      let k = keep-in (comes set) y (rising 1 (b .benches)) i in
-      (listed-bench (b .benches) y (k .0), comes-brings set y (k .1))
+  widen-in set y i = comes-brings set y (keep-in (comes set) y (rising 1 (b .benches)) i .1)
 
   in-widen : (set : List ℕ) (y : ℕ) → T (within 1 (b .benches) y) → Brings set y → In y (widen b set)
   unfolding widen
   in-widen set y t r = in-keep (comes set) y (rising 1 (b .benches)) (bench-listed (b .benches) y t) (brings-comes set y r)
-
-  widen-once : (set : List ℕ) → T (different (widen b set))
-  unfolding widen
-  widen-once set = keep-different (comes set) (rising 1 (b .benches)) (rising-different 1 (b .benches))
 
   -- what a round keeps up holds of the last set if it holds of the first
   widest-keeps : (Q : List ℕ → Type 0) → ((set : List ℕ) → Q set → Q (widen b set)) → (k : ℕ) (set : List ℕ) → Q set → Q (widest b k set)
@@ -164,6 +139,23 @@ module _ (b : Board) where
       go false e ih = ih (omega (arith, widen-more q, eqb-false (length wider) (length (kept q)) e))
 
 module _ (b : Board) (p : ℕ → Bool) where
+  -- they are listed in rising order ..
+  brought-rising : broughtIn b p ≡ keep (λ x. member x (broughtIn b p)) (rising 1 (b .benches))
+  unfolding widen
+  brought-rising =
+      let list = rising 1 (b .benches) in
+      widest-keeps b (λ set. set ≡ keep (λ x. member x set) list) (λ set e. keep-own (comes b set) list) (b .benches) (kept b p) (keep-own p list)
+
+  -- .. so each is one of 1 to B ..
+  pub brought-bench : (y : ℕ) → In y (broughtIn b p) → T (within 1 (b .benches) y)
+  brought-bench y i =
+      listed-bench (b .benches) y (keep-in (λ x. member x (broughtIn b p)) y (rising 1 (b .benches)) (subst (In y) brought-rising i) .0)
+
+  -- .. and none is listed twice
+  pub brought-once : T (different (broughtIn b p))
+  brought-once =
+      subst (λ (set : List ℕ). T (different set)) (sym brought-rising) (keep-different (λ x. member x (broughtIn b p)) (rising 1 (b .benches)) (rising-different 1 (b .benches)))
+
   -- every bench in it is reached from one that passes ..
   pub brought-only : (y : ℕ) → In y (broughtIn b p) → (x : ℕ) × T (within 1 (b .benches) x) × T (p x) × Reach (steps b) x y
   brought-only y i = widest-keeps b (λ set. (y : ℕ) → In y set → From y) next (b .benches) (kept b p) first y i
@@ -177,16 +169,11 @@ module _ (b : Board) (p : ℕ → Bool) where
           (y, listed-bench (b .benches) y (k .0), k .1, reach-here (steps b) y)
 
       next : (set : List ℕ) → ((y : ℕ) → In y set → From y) → (y : ℕ) → In y (widen b set) → From y
-      next set f y i = go (widen-in b set y i .1)
+      next set f y i = go (widen-in b set y i)
         where
           go : Brings b set y → From y
           go (inl j) = f y j
           go (inr (z, s, j, k, e)) = let r = f z j in rw e (r .0, r .1, r .2, reach-more (steps b) (r .0) z s (r .3) k)
-
-  -- .. and is one of 1 to B
-  pub brought-bench : (y : ℕ) → In y (broughtIn b p) → T (within 1 (b .benches) y)
-  brought-bench y i =
-      widest-keeps b (λ set. (y : ℕ) → In y set → T (within 1 (b .benches) y)) (λ set f y i. widen-in b set y i .0) (b .benches) (kept b p) (λ y i. listed-bench (b .benches) y (keep-in p y (rising 1 (b .benches)) i .0)) y i
 
   -- every bench that one which passes reaches is in it
   pub brought-every : Valid b → (x y : ℕ) → T (within 1 (b .benches) x) → T (p x) → Reach (steps b) x y → In y (broughtIn b p)
@@ -195,23 +182,52 @@ module _ (b : Board) (p : ℕ → Bool) where
       let start = widest-keeps b (In x) (λ set i. in-widen b set x t (inl i)) (b .benches) (kept b p) seed in
       reach-all (steps b) (λ z. In z (broughtIn b p)) (widest-closed b v (b .benches) p (omega arith)) x y start w
 
-  -- none is in it twice
-  pub brought-once : T (different (broughtIn b p))
-  brought-once =
-      widest-keeps b (λ set. T (different set)) (λ set t. widen-once b set) (b .benches) (kept b p) (keep-different p (rising 1 (b .benches)) (rising-different 1 (b .benches)))
+  -- if every bench above h passes and none below h comes in, they prove the overhang above h
+  pub brought-proves : Valid b → (h : ℕ) → ((x : ℕ) → T (within 1 (b .benches) x) → h < load (b .holders) x → T (p x)) → ((x y : ℕ) → T (within 1 (b .benches) x) → T (within 1 (b .benches) y) → T (p x) → Reach (steps b) x y → h ≤ load (b .holders) y) → Proves b (broughtIn b p) h
+  brought-proves v h above full =
+      record {
+        bench = brought-bench;
+        once = brought-once;
+        above = λ x t i. brought-every v x x t (above x t i) (reach-here (steps b) x);
+        full = λ y i. let r = brought-only y i in full (r .0) y (r .1) (brought-bench y i) (r .2) (r .3);
+        closed = λ y s i k. let r = brought-only y i in brought-every v (r .0) (s .to) (r .1) (r .2) (reach-more (steps b) (r .0) y s (r .3) k);
+      }
 
--- a bench is in the tight set exactly if a path leads to it from a bench with load h or more
-pub tight-set : (b : Board) → Valid b → (h y : ℕ) → In y (tightSet b h) ↔ ((p : BenchPath) × IsPath b p × T (within 1 (b .benches) (p .start)) × (h ≤ load (b .holders) (p .start)) × (last p ≡ y))
+-- a bench is in the tight set exactly if one with load h or more reaches it ..
+pub tight-reached : (b : Board) → Valid b → (h y : ℕ) → In y (tightSet b h) ↔ ((x : ℕ) × T (within 1 (b .benches) x) × (h ≤ load (b .holders) x) × Reach (steps b) x y)
 unfolding tightSet
-tight-set b v h y = (λ i. forth (brought-only b high y i), λ r. back r)
+tight-reached b v h y = (forth, back)
   where
     high : ℕ → Bool
     high x = leb h (load (b .holders) x)
 
-    forth : (x : ℕ) × T (within 1 (b .benches) x) × T (high x) × Reach (steps b) x y → (p : BenchPath) × IsPath b p × T (within 1 (b .benches) (p .start)) × (h ≤ load (b .holders) (p .start)) × (last p ≡ y)
-    forth (x, t, u, w) =
-        let r = reach-path b x y w in
-        (r .0, r .1, rw (r .2) t, rw (r .2) (T-leb h (load (b .holders) x) u), r .3)
+    forth : In y (broughtIn b high) → (x : ℕ) × T (within 1 (b .benches) x) × (h ≤ load (b .holders) x) × Reach (steps b) x y
+    forth i = let r = brought-only b high y i in (r .0, r .1, T-leb h (load (b .holders) (r .0)) (r .2), r .3)
 
-    back : (p : BenchPath) × IsPath b p × T (within 1 (b .benches) (p .start)) × (h ≤ load (b .holders) (p .start)) × (last p ≡ y) → In y (broughtIn b high)
-    back (p, w, t, u, e) = subst (λ (z : ℕ). In z (broughtIn b high)) e (brought-every b high v (p .start) (last p) t (leb-T h (load (b .holders) (p .start)) u) (path-reach b p w))
+    back : (x : ℕ) × T (within 1 (b .benches) x) × (h ≤ load (b .holders) x) × Reach (steps b) x y → In y (broughtIn b high)
+    back (x, t, l, w) = brought-every b high v x y t (leb-T h (load (b .holders) x) l) w
+
+-- a bench is in the tight set exactly if a path leads to it from a bench with load h or more
+pub tight-set : (b : Board) → Valid b → (h y : ℕ) → In y (tightSet b h) ↔ ((p : BenchPath) × IsPath b p × T (within 1 (b .benches) (p .start)) × (h ≤ load (b .holders) (p .start)) × (last p ≡ y))
+tight-set b v h y = (λ i. forth ((tight-reached b v h y) .0 i), λ (p, w, t, l, e). (tight-reached b v h y) .1 (p .start, t, l, (p .route, w .walk, e)))
+  where
+    forth : (x : ℕ) × T (within 1 (b .benches) x) × (h ≤ load (b .holders) x) × Reach (steps b) x y → (p : BenchPath) × IsPath b p × T (within 1 (b .benches) (p .start)) × (h ≤ load (b .holders) (p .start)) × (last p ≡ y)
+    forth (x, t, l, w) = let r = reach-path b x y w in (r .0, r .1, rw (r .2) t, rw (r .2) l, r .3)
+
+-- "the bench numbers, rising": the set is the list of its own benches in rising order
+pub tight-rising : (b : Board) (h : ℕ) → tightSet b h ≡ keep (λ x. member x (tightSet b h)) (rising 1 (b .benches))
+unfolding tightSet
+tight-rising b h = brought-rising b (λ x. leb h (load (b .holders) x))
+
+-- marks that are set exactly at what the benches with load h or more reach are the set
+pub tight-marked : (b : Board) → Valid b → (h : ℕ) (mark : ℕ → Bool) → ((y : ℕ) → T (within 1 (b .benches) y) → T (mark y) ↔ ((x : ℕ) × T (within 1 (b .benches) x) × (h ≤ load (b .holders) x) × Reach (steps b) x y)) → tightSet b h ≡ keep mark (rising 1 (b .benches))
+tight-marked b v h mark f = tight-rising b h ∙ keep-same (λ y. member y set) mark (rising 1 (b .benches)) marked
+  where
+    set : List ℕ
+    set = tightSet b h
+
+    marked : (y : ℕ) → In y (rising 1 (b .benches)) → member y set ≡ mark y
+    marked y i =
+        let g = f y (listed-bench (b .benches) y i) in
+        let r = tight-reached b v h y in
+        tests-same (member y set) (mark y) (λ t. g .1 (r .0 (member-in y set t)), λ t. in-member y set (r .1 (g .0 t)))

@@ -1,19 +1,19 @@
 -- Walks and paths: what can be reached, and that a walk shortens to a path.
-use Prim.Native.Nat.{ℕ, suc, _+_, _≤_}
+use Prim.Native.Nat.{ℕ, suc, _+_, _≤_, _<_}
 use native.Mathlib.Omega.{arith}
 use native.Mathlib.Decide.{decLe}
 use mathlib.Core.Path.{_≡_, refl, ap, subst, _∙_}
 use mathlib.Core.Logic.{inl, inr, _↔_}
-use mathlib.Core.Bool.{Bool, true, false, not}
+use mathlib.Core.Bool.{Bool, not}
 use mathlib.Core.List.{List, [], _∷_, _++_}
-use lib.Dec.{T, leb}
+use lib.Dec.{T}
 use lib.ListN.{length}
 use Rattle.rules.specs.Lists.{within, member, different, In}
 use Rattle.rules.specs.Board.{Board, Valid, load}
-use Rattle.rules.specs.Paths.{Step, steps, BenchPath, pathBy, endOf, last, Walk, IsPath, improves}
+use Rattle.rules.specs.Paths.{Step, steps, BenchPath, pathBy, endOf, last, Walk, IsPath}
 use Rattle.rules.specs.Sharing.{level}
-use Rattle.rules.proofs.Basics.{true→T, T→true, false→not, both, T-leb, leb-T, member-in, different-tail}
-use Rattle.rules.proofs.Paths.{benchesOf, step-bench, level-exact}
+use Rattle.rules.proofs.Basics.{T→true, both, not-member, Member, is-in, not-in, membered, different-tail}
+use Rattle.rules.proofs.Paths.{step-bench, benchesOf, improves-loads, loads-improve, level-exact}
 
 module _ (out : ℕ → List Step) where
   -- a walk leads from x to y; a walk may come to a bench twice
@@ -54,32 +54,35 @@ module _ (out : ℕ → List Step) where
       go z [] q v = q
       go z (s ∷ r) q v = go (s .to) r (next z s q (v .0)) (v .1)
 
+  -- a walk that comes to x goes on from there to its end: with fewer steps, and to no bench twice if the whole did not
+  walk-cut : (x y : ℕ) (r : List Step) → Walk out y r → In x (benchesOf r) → (q : List Step) × Walk out x q × (endOf x q ≡ endOf y r) × (length q < length r) × (T (different (benchesOf r)) → T (different (x ∷ benchesOf q)))
+  walk-cut x y [] w i = absurd i
+  walk-cut x y (s ∷ r) w (inl e) = rw e (r, w .1, refl, omega arith, λ t. t)
+  walk-cut x y (s ∷ r) w (inr i) =
+      let h = walk-cut x (s .to) r (w .1) i in
+      (h .0, h .1, h .2, omega (arith, h .3), λ t. h .4 (different-tail (s .to) (benchesOf r) t))
+
+  -- so a walk with the fewest steps to its end comes to no bench twice
+  pub fewest-once : (x : ℕ) (r : List Step) → Walk out x r → ((q : List Step) → Walk out x q → endOf x q ≡ endOf x r → length r ≤ length q) → T (different (x ∷ benchesOf r))
+  fewest-once x [] w f = tt
+  fewest-once x (s ∷ r) w f =
+      both (not (member x (benchesOf (s ∷ r)))) (different (benchesOf (s ∷ r)))
+      (not-member x (benchesOf (s ∷ r)) (λ i. let h = walk-cut x x (s ∷ r) w i in omega (arith, h .3, f (h .0) (h .1) (h .2))))
+      (fewest-once (s .to) r (w .1) (λ q u e. omega (arith, f (s ∷ q) (w .0, u) e)))
+
   -- a walk from x to z of at most k steps, no bench twice
   abbrev Short : ℕ → ℕ → ℕ → Type 0
   Short x z k = (q : List Step) × Walk out x q × T (different (x ∷ benchesOf q)) × (endOf x q ≡ z) × (length q ≤ k)
 
-  -- what such a walk from y leaves behind bench x, if it comes there
-  cut : (x y : ℕ) (q : List Step) → In x (y ∷ benchesOf q) → Walk out y q → T (different (y ∷ benchesOf q)) → Short x (endOf y q) (length q)
-  cut x y [] (inl e) w t = rw e ([], tt, tt, refl, omega arith)
-  cut x y [] (inr i) w t = absurd i
-  cut x y (s ∷ q) i w t = go (λ j. cut x (s .to) q j (w .1) (different-tail y (benchesOf (s ∷ q)) t)) i
-    where
-      go : (In x (benchesOf (s ∷ q)) → Short x (endOf (s .to) q) (length q)) → In x (y ∷ benchesOf (s ∷ q)) → Short x (endOf (s .to) q) (suc (length q))
-      go ih (inl e) = rw e (s ∷ q, w, t, refl, omega arith)
-      go ih (inr j) = let c = ih j in (c .0, c .1, c .2, c .3, omega (arith, c .4))
-
   -- a step in front of such a walk, which is cut if it comes back
   short-first : (x : ℕ) (s : Step) (z k : ℕ) → In s (out x) → Short (s .to) z k → Short x z (suc k)
-  short-first x s z k i (q, w, t, e, l) = go (member x seen) refl
+  short-first x s z k i (q, w, t, e, l) = go (membered x (benchesOf (s ∷ q)))
     where
-      seen : List ℕ
-      seen = benchesOf (s ∷ q)
-
-      go : (a : Bool) → member x seen ≡ a → Short x z (suc k)
-      go true m =
-          let c = cut x (s .to) q (member-in x seen (true→T (member x seen) m)) w t in
-          (c .0, c .1, c .2, c .3 ∙ e, omega (arith, c .4))
-      go false m = (s ∷ q, (i, w), both (not (member x seen)) (different seen) (false→not (member x seen) m) t, e, omega arith)
+      go : {a : Bool} → Member x (benchesOf (s ∷ q)) a → Short x z (suc k)
+      go (is-in j) = let c = walk-cut x x (s ∷ q) (i, w) j in (c .0, c .1, c .4 t, c .2 ∙ e, omega (arith, c .3))
+      go (not-in f) =
+          let seen = benchesOf (s ∷ q) in
+          (s ∷ q, (i, w), both (not (member x seen)) (different seen) (not-member x seen f) t, e, omega arith)
 
   -- a walk shortens to one that comes to no bench twice
   pub walk-shortens : (x : ℕ) (r : List Step) → Walk out x r → (q : List Step) × Walk out x q × T (different (x ∷ benchesOf q)) × (endOf x q ≡ endOf x r) × (length q ≤ length r)
@@ -102,8 +105,8 @@ reach-bench b v x y t w = reach-all (steps b) (λ z. T (within 1 (b .benches) z)
 
 -- a board is level exactly if no bench reaches one whose load is smaller by two or more
 pub level-reach : (b : Board) → Valid b → T (level b) ↔ ((x y : ℕ) → Reach (steps b) x y → load (b .holders) x ≤ load (b .holders) y + 1)
-unfolding improves
-level-reach b v = (λ l x y w. near l x y (reach-path b x y w), λ f. ((level-exact b v) .1) (λ p h t. far p (f (p .start) (last p) (path-reach b p h)) t))
+level-reach b v =
+    (λ l x y w. near l x y (reach-path b x y w), λ f. ((level-exact b v) .1) (λ p h t. omega (arith, improves-loads b p t, f (p .start) (last p) (path-reach b p h))))
   where
     hold : ℕ → ℕ
     hold x = load (b .holders) x
@@ -111,8 +114,5 @@ level-reach b v = (λ l x y w. near l x y (reach-path b x y w), λ f. ((level-ex
     near : T (level b) → (x y : ℕ) → (p : BenchPath) × IsPath b p × (p .start ≡ x) × (last p ≡ y) → hold x ≤ hold y + 1
     near l x y (p, h, e, f) = elim (decLe (hold x) (hold y + 1)) [
       | yes g ↦ g
-      | no g ↦ absurd (((level-exact b v) .0) l p h (leb-T (hold (last p) + 2) (hold (p .start)) (omega (arith, ap hold e, ap hold f))))
+      | no g ↦ absurd (((level-exact b v) .0) l p h (loads-improve b p (omega (arith, ap hold e, ap hold f))))
     ]
-
-    far : (p : BenchPath) → hold (p .start) ≤ hold (last p) + 1 → T (leb (hold (last p) + 2) (hold (p .start))) → ⊥
-    far p g t = let l = T-leb (hold (last p) + 2) (hold (p .start)) t in omega arith

@@ -7,10 +7,10 @@ use mathlib.Core.List.{List, [], _∷_, _++_, map, flatMap}
 use lib.Dec.{T, eqb, leb}
 use lib.ListN.{length, take, drop, length-append, length-map}
 use lib.Seq.{take-at, drop-at}
-use Rattle.rules.specs.Lists.{within, rising, all, different, Each, empty}
+use Rattle.rules.specs.Lists.{within, rising, Each, empty}
 use Rattle.rules.specs.Board.{Board, Shares, namesFit}
 use Rattle.rules.specs.Table.{words, bytesOf, mostBenches, mostJobs, lengthFor, sizesFit, Entry, Layout, entriesIn, layout, fits, firstHeld, placeOf, entryFor, entriesFrom, layoutOf, entryWords, flat, encode, Storable}
-use Rattle.rules.proofs.Basics.{both, left, T-eqb, eqb-T, leb-T, within-high, all-in, in-each, each-append, each-map, length-keep, length-rising, length-shares}
+use Rattle.rules.proofs.Basics.{both, T-eqb, eqb-T, leb-T, within-high, in-each, each-append, each-map, length-keep, length-rising, length-shares, fit-bench}
 
 -- words and bytes
 
@@ -130,9 +130,8 @@ entry-small : (benches : ℕ) (names : List ℕ) (h n : ℕ) → benches ≤ mos
 entry-small benches [] h n b m f p = omega arith
 entry-small benches (x ∷ l) h n b m f p =
     let names : List ℕ = x ∷ l in
-    let fit : T (all (within 1 benches) names) = left (all (within 1 benches) names) (different names) f in
     each-append Small names (placeOf h names ∷ n ∷ [])
-    (in-each Small names (λ w i. omega (arith, within-high 1 benches w (all-in (within 1 benches) w names fit i))))
+    (in-each Small names (λ w i. omega (arith, within-high 1 benches w (fit-bench benches names w f i))))
     (omega (arith, placeOf-le h names, T-eqb (length names) 2 p))
 
 -- nor of the records of the jobs from i on
