@@ -30,6 +30,7 @@ pub mod Distances
 pub mod Found
 pub mod Search
 pub mod Outcomes
+pub mod Results
 pub mod Demand3
 pub mod TallyRun
 pub mod Instance
