@@ -41,6 +41,7 @@ falling = bytesOf (2 ∷ 3 ∷ 3 ∷ 0 ∷ 3 ∷ 2 ∷ 1 ∷ 2 ∷ 1 ∷ 0 ∷ 1
 abbrev fallingBook : Book
 fallingBook = (1 ∷ 2 ∷ []) ∷ (1 ∷ 2 ∷ []) ∷ (1 ∷ 2 ∷ []) ∷ []
 
+-- it is sound and level, and its book has its three jobs
 pub falling-starts : Start falling fallingBook
 unfolding flatMap sizesFit layout formed fits sound boardOf decode steps pathsFrom improves improvingFrom improving level
 falling-starts = fromLevel falling refl refl
@@ -95,6 +96,7 @@ expected =
     }
     ∷ []
 
+-- the three runs say that
 pub runs-told : told (blankTable 3 4) (replicate 4 []) blankCalls ∷ told falling fallingBook fallingCalls ∷ told (blankTable 5 9) (replicate 9 []) lowerCalls ∷ [] ≡ expected
 unfolding flatMap heaviest sizesFit layout formed fits sound boardOf decode layoutOf flat encode blankTable steps pathsFrom improves improvingFrom improving improvingTo flip arrivalChoice closingChoice levellingChoice arrive close level widen tightSet conditions arrivalOutcome closingOutcome levellingOutcome tightSetOutcome accepted outcome noted
 runs-told = refl

@@ -87,6 +87,7 @@ levelling-says-level r v =
     let l = level-exact (r .board) v in
     (λ e. l .0 (s .0 e), λ f. s .1 (l .1 f))
 
+-- .. and "stopped" exactly if one is
 pub levelling-says-stopped : (r : Levelled) → Valid (r .board) → ((levellingOutcome r) .answer ≡ stopped (r .paths)) ↔ ((p : BenchPath) × IsPath (r .board) p × T (improves (r .board) p))
 unfolding levellingOutcome
 levelling-says-stopped r v =

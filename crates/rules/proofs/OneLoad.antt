@@ -12,7 +12,7 @@ use Rattle.rules.specs.JobBook.{OneMore}
 use Rattle.rules.proofs.Basics.{Compared, same, other, compared, within-low, within-high}
 use Rattle.rules.proofs.Counting.{bit-same, bit-other, total-but-one, count-change}
 
--- "one more at x" as a sum, both ways
+-- "one more at x" from a sum ..
 pub one-more : (benches : ℕ) (less more : List ℕ) (x : ℕ) → T (within 1 benches x) → ((y : ℕ) → 1 ≤ y → y ≤ benches → load more y ≡ load less y + bit (eqb x y)) → OneMore benches less more x
 one-more benches less more x t f =
     let low = within-low 1 benches x t in
@@ -24,6 +24,7 @@ one-more benches less more x t f =
       elsewhere = λ y l u n. omega (arith, f y l u, bit-other x y (λ e. n (sym e)));
     }
 
+-- .. and as one
 pub more-load : (benches : ℕ) (less more : List ℕ) (x : ℕ) → OneMore benches less more x → (y : ℕ) → 1 ≤ y → y ≤ benches → load more y ≡ load less y + bit (eqb x y)
 more-load benches less more x o y l u = go (compared x y)
   where

@@ -16,7 +16,7 @@ use Rattle.rules.specs.Answers.{Refusal, Answer, Outcome, firstHolding, 
 use Rattle.rules.specs.Answers.{refused, blanked, arrived, closed, loadIs, heaviestIs, tightSetIs, isSound, levelYes, levelNo, levelled, stopped}
 use Rattle.rules.specs.Calls.{Call, arrival, closing, levelling, loadOf, heaviestLoad, tightSetOf, formCheck, levelCheck, noBench, conditions, lentList, accepted, outcome, arrivalOutcome, closingOutcome, levellingOutcome, tightSetOutcome}
 use Rattle.rules.specs.JobBook.{Book, entered, OneMore}
-use Rattle.rules.proofs.Basics.{false→not, both, not-member, length-change, each-change}
+use Rattle.rules.proofs.Basics.{neither, false→not, both, not-member, length-change, each-change}
 use Rattle.rules.proofs.Refusals.{accepted-by, accepted-answers, isQuestion, question-leaves}
 use Rattle.rules.proofs.JobBook.{refused-enters, question-enters}
 use Rattle.rules.proofs.ChainOrder.{sound-outcome}
@@ -57,14 +57,10 @@ pub record MayArrive (b : Board) (j x y : ℕ) : Type 0 where
   pub free : T (not (stands b j))
   pub fit : T (namesFit (b .benches) (x ∷ y ∷ []))
 
--- a condition that does not hold: what it denies does, and of two neither holds
+-- what a condition that does not hold denies, holds
 holds : (z : Bool) → not z ≡ false → T z
 holds true e = tt
 holds false e = absurd (false≢true (sym e))
-
-pub neither : (y z : Bool) → (y || z) ≡ false → (y ≡ false) × (z ≡ false)
-neither true z e = absurd (false≢true (sym e))
-neither false z e = (refl, e)
 
 may-arrive : (b : Board) (j x y : ℕ) → Each (λ k. k .holds ≡ false) (conditions (arrival j x y) b) → MayArrive b j x y
 unfolding conditions
@@ -96,6 +92,7 @@ pub record Arrives (t : List ℕ) (j x y : ℕ) (c : Change) : Type 0 where
   pub does : Does (decode t) j (x ∷ y ∷ []) c
   pub rose : OneMore ((decode t) .benches) ((decode t) .holders) ((c .board) .holders) (c .bench)
 
+-- an accepted arrival on any sound table
 pub arrival-accepted : (t : List ℕ) → T (sound t) → (j x y : ℕ) → isRefused ((outcome (arrival j x y) t) .answer) ≡ false → Arrives t j x y (arrive (decode t) j (x ∷ y ∷ []))
 unfolding accepted arrivalOutcome
 arrival-accepted t s j x y n =
@@ -120,6 +117,7 @@ pub record Closes (t : List ℕ) (j : ℕ) (c : Change) : Type 0 where
   pub does : Does (decode t) j [] c
   pub fell : OneMore ((decode t) .benches) ((c .board) .holders) ((decode t) .holders) (c .bench)
 
+-- an accepted closing on any sound table
 pub closing-accepted : (t : List ℕ) → T (sound t) → (j : ℕ) → isRefused ((outcome (closing j) t) .answer) ≡ false → Closes t j (close (decode t) j)
 unfolding accepted closingOutcome
 closing-accepted t s j n =
@@ -142,6 +140,7 @@ pub record Levels (t : List ℕ) (allowance : ℕ) (r : Levelled) : Type 0 where
   pub writes : Written ((outcome (levelling allowance) t) .table) (r .board)
   pub does : Relevels allowance (decode t) r
 
+-- a levelling of any sound table
 pub levelling-accepted : (t : List ℕ) → T (sound t) → (allowance : ℕ) → Levels t allowance (relevel allowance (decode t))
 unfolding conditions accepted levellingOutcome
 levelling-accepted t s allowance =

@@ -15,12 +15,11 @@ use Rattle.rules.specs.Paths.{BenchPath, IsPath, improves}
 use Rattle.rules.specs.Sharing.{level, tightSet, inside}
 use Rattle.rules.specs.Answers.{firstHolding, isRefused, refuse, settled, refused, sizes, unsound, benchNumber, listTooShort, loadIs, heaviestIs, tightSetIs, isSound, levelYes, levelNo}
 use Rattle.rules.specs.Calls.{loadOf, heaviestLoad, tightSetOf, formCheck, levelCheck, conditions, answering, accepted, outcome, tightSetOutcome}
-use Rattle.rules.proofs.Basics.{true→T, T→true, not→false}
+use Rattle.rules.proofs.Basics.{neither, true→T, T→true, not→false}
 use Rattle.rules.proofs.Sound.{sound-storable}
 use Rattle.rules.proofs.Paths.{level-exact, unlevel-improves}
 use Rattle.rules.proofs.Levels.{level-demand2}
 use Rattle.rules.proofs.Refusals.{accepted-by}
-use Rattle.rules.proofs.Outcomes.{neither}
 use Rattle.rules.proofs.ChainOrder.{sound-outcome}
 
 module _ (t : List ℕ) (s : T (sound t)) where
