@@ -12,8 +12,7 @@ use Rattle.rules.specs.Lists.{within, different, keep, In, empty, nth, c
 use Rattle.rules.specs.Board.{Board, Valid, namesOf, holderOf, stands, put, namesFit}
 use Rattle.rules.specs.Paths.{BenchPath, last, jobs, IsPath, flip}
 use Rattle.rules.specs.Sharing.{Change, getter, arrivalChoice, closingChoice, afterArrival, afterClosing, arrive, close}
-use Rattle.rules.specs.Least.{handed}
-use Rattle.rules.specs.JobBook.{OneMore}
+use Rattle.rules.specs.Demand2.{OneMore, handed}
 use Rattle.rules.proofs.Basics.{both, left, right, differ, within-low, within-high, within-both, not-empty, is-empty, nth-change-same, nth-change-other, Member, is-in, not-in, membered, keep-different, others-in, length-shares, fit-bench}
 use Rattle.rules.proofs.Counting.{total-tested}
 use Rattle.rules.proofs.Paths.{stands-within, named-may, holder-bench, holder-none, improvingFrom-only, improvingTo-only}
@@ -39,7 +38,7 @@ moved-others b j names i = go (arrivalChoice c x)
     go (some p) m = ((others-in j (jobs p) i) .0 m) .0
 
 -- what a change that takes job j to these names does to a board
-pub record Does (b : Board) (j : ℕ) (names : List ℕ) (c : Change) : Type 0 where
+pub record Changed (b : Board) (j : ℕ) (names : List ℕ) (c : Change) : Type 0 where
   pub valid : Valid (c .board)
   pub benches : (c .board) .benches ≡ b .benches
   pub named : (c .board) .named ≡ change (b .named) j names
@@ -50,7 +49,7 @@ pub record Does (b : Board) (j : ℕ) (names : List ℕ) (c : Change) : Type 0 w
   pub number : length (c .moved) ≡ handed j b (c .board)
 
 -- the number follows from the rest: a job whose holder changed stands
-does : (b : Board) → Valid b → (j : ℕ) (names : List ℕ) (c : Change) → Valid (c .board) → (c .board) .benches ≡ b .benches → (c .board) .named ≡ change (b .named) j names → ((i : ℕ) → In i (c .moved) ↔ ((i ≢ j) × (holderOf (c .board) i ≢ holderOf b i))) → T (different (c .moved)) → Does b j names c
+does : (b : Board) → Valid b → (j : ℕ) (names : List ℕ) (c : Change) → Valid (c .board) → (c .board) .benches ≡ b .benches → (c .board) .named ≡ change (b .named) j names → ((i : ℕ) → In i (c .moved) ↔ ((i ≢ j) × (holderOf (c .board) i ≢ holderOf b i))) → T (different (c .moved)) → Changed b j names c
 does b v j names c vc eb en m o =
     let number = total-tested (length (b .named)) (c .moved) (λ i. not (eqb i j) && not (eqb (holderOf after i) (holderOf b i))) o (λ i k. stands-within b i (stood i ((m i) .0 k))) test in
     record { valid = vc; benches = eb; named = en; moved = m; once = o; number = number }
@@ -74,12 +73,12 @@ does b v j names c vc eb en m o =
 -- job j written anew
 module _ (b : Board) (v : Valid b) (j : ℕ) (names : List ℕ) (x : ℕ) (w : Valid (put b j names x)) where
   -- no path is turned: no other job moves
-  does-put : (y : ℕ) → Does b j names (record { board = put b j names x; bench = y; moved = [] })
+  does-put : (y : ℕ) → Changed b j names (record { board = put b j names x; bench = y; moved = [] })
   does-put y =
       does b v j names (record { board = put b j names x; bench = y; moved = [] }) w refl refl (λ i. (λ k. absurd k, λ d. d .1 (nth-change-other (b .holders) j i x 0 (d .0)))) tt
 
   -- a path is turned: its jobs move, but for j
-  does-flip : (p : BenchPath) → IsPath (put b j names x) p → (y : ℕ) (m : List ℕ) → ((i : ℕ) → In i m ↔ ((i ≢ j) × In i (jobs p))) → T (different m) → Does b j names (record { board = flip (put b j names x) p; bench = y; moved = m })
+  does-flip : (p : BenchPath) → IsPath (put b j names x) p → (y : ℕ) (m : List ℕ) → ((i : ℕ) → In i m ↔ ((i ≢ j) × In i (jobs p))) → T (different m) → Changed b j names (record { board = flip (put b j names x) p; bench = y; moved = m })
   unfolding flip
   does-flip p h y m g o = does b v j names (record { board = flip c p; bench = y; moved = m }) (flip-valid c w p h) refl refl (λ i. (there i, back i)) o
     where
@@ -124,7 +123,7 @@ put-falls b v j s =
     taken-one (b .benches) (b .holders) j (within-low 1 (length (b .named)) j w) high (holder-bench b v j s)
 
 -- an arrival on any valid board: one load rises by one, that of the bench in the result
-pub arrival-does : (b : Board) → Valid b → (j : ℕ) (names : List ℕ) → T (within 1 (length (b .named)) j) → T (not (stands b j)) → T (not (empty names)) → T (namesFit (b .benches) names) → Does b j names (arrive b j names) × OneMore (b .benches) (b .holders) (((arrive b j names) .board) .holders) ((arrive b j names) .bench)
+pub arrival-does : (b : Board) → Valid b → (j : ℕ) (names : List ℕ) → T (within 1 (length (b .named)) j) → T (not (stands b j)) → T (not (empty names)) → T (namesFit (b .benches) names) → Changed b j names (arrive b j names) × OneMore (b .benches) (b .holders) (((arrive b j names) .board) .holders) ((arrive b j names) .bench)
 unfolding arrive
 arrival-does b v j names w n e f = go (arrivalChoice c x) refl
   where
@@ -143,7 +142,7 @@ arrival-does b v j names w n e f = go (arrivalChoice c x) refl
     one : OneMore (b .benches) (b .holders) (c .holders) x
     one = put-rises b v j names x w n (fit-bench (b .benches) names x f i)
 
-    go : (o : Option BenchPath) → arrivalChoice c x ≡ o → Does b j names (afterArrival c j x o) × OneMore (b .benches) (b .holders) (((afterArrival c j x o) .board) .holders) ((afterArrival c j x o) .bench)
+    go : (o : Option BenchPath) → arrivalChoice c x ≡ o → Changed b j names (afterArrival c j x o) × OneMore (b .benches) (b .holders) (((afterArrival c j x o) .board) .holders) ((afterArrival c j x o) .bench)
     go none q = (does-put b v j names x vc x, one)
     go (some p) q =
         let only = improvingFrom-only c x p (((arrival-choice c x p) .0 q) .listed-is) in
@@ -157,7 +156,7 @@ taken-names b j s =
     nth-change-same (b .named) j [] [] (within-low 1 (length (b .named)) j w) (within-high 1 (length (b .named)) j w)
 
 -- a closing on any valid board: one load falls by one
-pub closing-does : (b : Board) → Valid b → (j : ℕ) → T (stands b j) → Does b j [] (close b j) × OneMore (b .benches) (((close b j) .board) .holders) (b .holders) ((close b j) .bench)
+pub closing-does : (b : Board) → Valid b → (j : ℕ) → T (stands b j) → Changed b j [] (close b j) × OneMore (b .benches) (((close b j) .board) .holders) (b .holders) ((close b j) .bench)
 unfolding close
 closing-does b v j s = go (closingChoice c x) refl
   where
@@ -176,7 +175,7 @@ closing-does b v j s = go (closingChoice c x) refl
         let e : namesOf c k ≡ [] = rw d (taken-names b j s) in
         subst (λ (l : List ℕ). T (not (empty l))) e (path-stands c vc p h k m)
 
-    go : (o : Option BenchPath) → closingChoice c x ≡ o → Does b j [] (afterClosing c x o) × OneMore (b .benches) (((afterClosing c x o) .board) .holders) (b .holders) ((afterClosing c x o) .bench)
+    go : (o : Option BenchPath) → closingChoice c x ≡ o → Changed b j [] (afterClosing c x o) × OneMore (b .benches) (((afterClosing c x o) .board) .holders) (b .holders) ((afterClosing c x o) .bench)
     go none q = (does-put b v j [] 0 vc x, put-falls b v j s)
     go (some p) q =
         let only = improvingTo-only c x p (((closing-choice c x p) .0 q) .listed-is) in

@@ -11,7 +11,7 @@ use Rattle.rules.specs.Table.{sizesFit, layout, fits, formed, sound, boa
 use Rattle.rules.specs.Answers.{inNumbers}
 use Rattle.rules.specs.Calls.{Call, arrival, closing, levelling, loadOf, heaviestLoad, tightSetOf, formCheck, levelCheck, conditions, arrivalOutcome, closingOutcome, levellingOutcome, tightSetOutcome, accepted, outcome}
 use Rattle.rules.specs.Tally.{Tally, zeroTally, noted, tallyAfter, NoNine}
-use Rattle.rules.specs.JobBook.{Book, bookAfter, run, Runs, AsDefined, Start, fromBlank, fromLevel, Claim}
+use Rattle.rules.specs.JobBook.{Book, bookAfter, refusedEach, run, Runs, AsDefined, Start, fromBlank, fromLevel, Claim}
 use Rattle.rules.proofs.Demand3.{demand-3}
 
 -- the definition's own run of a list of calls is a run
@@ -68,7 +68,7 @@ pub record Told : Type 0 where
 abbrev told : List ℕ → Book → List Call → Told
 told t k cs =
     let os = run t cs in
-    record { answers = map (λ o. inNumbers (o .answer)) os; book = bookAfter k cs os; tally = tallyAfter zeroTally os }
+    record { answers = map (λ o. inNumbers (o .answer)) os; book = bookAfter k cs (refusedEach os); tally = tallyAfter zeroTally os }
 
 abbrev expected : List Told
 expected =

@@ -9,10 +9,10 @@ use mathlib.Core.List.{List, []}
 use lib.Dec.{T, eqb, ltb, ltb→lt, lt→ltb}
 use lib.ListN.{length}
 use Rattle.rules.specs.Lists.{bit, within, In, empty, nth, change}
-use Rattle.rules.specs.Board.{Board, Valid, namesOf, holderOf, stands, put, load, excess, mayHold, Shares, namesFit}
+use Rattle.rules.specs.Board.{Board, Valid, namesOf, holderOf, stands, put, load, excess, mayHold, Shares, namesFit, heldBy}
 use Rattle.rules.specs.Paths.{Step, steps}
 use Rattle.rules.specs.Sharing.{arrivalChoice, closingChoice, getter, arrive, close, level}
-use Rattle.rules.specs.JobBook.{OneMore}
+use Rattle.rules.specs.Demand2.{OneMore}
 use Rattle.rules.proofs.Basics.{either, or-left, or-right, Compared, same, other, compared, T-eqb, eqb-T, within-low, within-high, within-both, is-empty, nth-change-same, length-change, length-shares, fit-bench}
 use Rattle.rules.proofs.Counting.{bit-other}
 use Rattle.rules.proofs.Paths.{stands-within, named-may, shares-nth, holder-bench, step-is}
@@ -22,7 +22,7 @@ use Rattle.rules.proofs.Flip.{put-valid}
 use Rattle.rules.proofs.OneLoad.{more-load, excess-rises, excess-stays, excess-grows}
 use Rattle.rules.proofs.Levels.{level-least}
 use Rattle.rules.proofs.Changes.{put-rises, put-falls, arrival-does, taken-names, closing-does}
-use Rattle.rules.proofs.OneJob.{same-step, shares-back, held-by, held-valid, arrival-low, closing-high, brought-least, does-level}
+use Rattle.rules.proofs.OneJob.{same-step, shares-back, held-valid, arrival-low, closing-high, brought-least, does-level}
 
 -- an arrival: the load of bench `risen` rises
 
@@ -83,7 +83,7 @@ module _ (b : Board) (v : Valid b) (l : T (level b)) (j : ℕ) (names : List ℕ
   -- without the job a sharing of the new jobs is one of the old
   arrival-above : (h : ℕ) (hs : List ℕ) → Shares (got .named) hs → excess (b .benches) (b .holders) h ≤ excess (b .benches) hs h
   arrival-above h hs s =
-      let o = put-falls (held-by got hs) (held-valid got got-valid hs s) j got-stands in
+      let o = put-falls (heldBy got hs) (held-valid got got-valid hs s) j got-stands in
       let k : T (mayHold (namesOf b j) 0) = rw none-named tt in
       omega (arith, level-least b v l h (change hs j 0) (shares-back b v j names 0 hs k s), (excess-grows (b .benches) (change hs j 0) hs (nth hs j 0) o h) .0)
 
@@ -175,7 +175,7 @@ module _ (b : Board) (v : Valid b) (l : T (level b)) (j : ℕ) (s : T (stands b 
   closing-below h hs t =
       let w : T (within 1 (length (lost .named)) j) = rw (length-change (b .named) j []) (stands-within b j s) in
       let n : T (not (stands lost j)) = rw lost-names tt in
-      let o = put-rises (held-by lost hs) (held-valid lost lost-valid hs t) j [] losing w n (holder-bench b v j s) in
+      let o = put-rises (heldBy lost hs) (held-valid lost lost-valid hs t) j [] losing w n (holder-bench b v j s) in
       omega (arith, level-least b v l h (change hs j losing) (shares-back b v j [] losing hs (shares-nth b v j) t), (excess-grows (b .benches) hs (change hs j losing) losing o h) .1)
 
   -- what is reached without the job was reached with it

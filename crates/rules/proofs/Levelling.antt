@@ -2,7 +2,7 @@
 use Prim.Native.Nat.{ℕ, zero, suc, _+_, _-_, _≤_, _<_}
 use native.Mathlib.Omega.{arith}
 use native.Mathlib.Decide.{decLt}
-use mathlib.Core.Path.{_≡_, refl, sym, ap}
+use mathlib.Core.Path.{_≡_, refl, sym, ap, _∙_}
 use mathlib.Core.Logic.{_↔_, _≢_}
 use mathlib.Core.Bool.{Bool, true, false, cond, not}
 use mathlib.Core.Option.{Option, none, some}
@@ -14,6 +14,7 @@ use Rattle.rules.specs.Board.{Board, Valid, load}
 use Rattle.rules.specs.Table.{Storable}
 use Rattle.rules.specs.Paths.{BenchPath, last, IsPath, improves, flip}
 use Rattle.rules.specs.Sharing.{levellingChoice, level, Levelled, relevel}
+use Rattle.rules.specs.Demand2.{Turns, rest, turn}
 use Rattle.rules.specs.Answers.{levelled, stopped}
 use Rattle.rules.specs.Calls.{levellingOutcome}
 use Rattle.rules.proofs.Basics.{true→T, Compared, same, other, compared, eqb-refl, within-low, within-high, length-shares}
@@ -23,11 +24,6 @@ use Rattle.rules.proofs.Choice.{choice-improves, choice-level, level-ch
 use Rattle.rules.proofs.Walks.{path-reach, reach-bench}
 use Rattle.rules.proofs.Flip.{flip-loads, flip-valid}
 
--- n steps of the rule lead from one board to another: each turns the path that the rule names
-pub data Turns : ℕ → Board → Board → Type 0 where
-  rest : (b : Board) → Turns 0 b b
-  turn : (n : ℕ) (b c : Board) (p : BenchPath) → levellingChoice b ≡ some p → Turns n (flip b p) c → Turns (suc n) b c
-
 -- what levelling does to a valid board
 pub record Relevels (allowance : ℕ) (b : Board) (r : Levelled) : Type 0 where
   pub valid : Valid (r .board)
@@ -35,7 +31,7 @@ pub record Relevels (allowance : ℕ) (b : Board) (r : Levelled) : Type 0 where
   pub benches : (r .board) .benches ≡ b .benches
   pub named : (r .board) .named ≡ b .named
   -- the count is the number of steps of the rule, at most the allowance ..
-  pub steps : Turns (r .paths) b (r .board)
+  pub turns : Turns (r .paths) b (r .board)
   pub allowed : r .paths ≤ allowance
   -- .. and with allowance left no improving path is
   pub done : r .paths < allowance → T (level (r .board))
@@ -52,12 +48,12 @@ turned n b o =
 pub levelling-does : (allowance : ℕ) (b : Board) → Valid b → Relevels allowance b (relevel allowance b)
 unfolding flip
 levelling-does zero b v =
-    record { valid = v; benches = refl; named = refl; steps = rest b; allowed = omega arith; done = λ h. absurd (omega arith) }
+    record { valid = v; benches = refl; named = refl; turns = rest b; allowed = omega arith; done = λ h. absurd (omega arith) }
 levelling-does (suc n) b v = go (levellingChoice b) refl (λ p w. levelling-does n (flip b p) w)
   where
     go : (o : Option BenchPath) → levellingChoice b ≡ o → ((p : BenchPath) → Valid (flip b p) → Relevels n (flip b p) (relevel n (flip b p))) → Relevels (suc n) b (turned n b o)
     go none e ih =
-        record { valid = v; benches = refl; named = refl; steps = rest b; allowed = omega arith; done = λ h. choice-level b e }
+        record { valid = v; benches = refl; named = refl; turns = rest b; allowed = omega arith; done = λ h. choice-level b e }
     go (some p) e ih =
         let r = relevel n (flip b p) in
         let i = ih p (flip-valid b v p ((choice-improves b p e) .0)) in
@@ -65,10 +61,24 @@ levelling-does (suc n) b v = go (levellingChoice b) refl (λ p w. levelling-does
           valid = i .valid;
           benches = i .benches;
           named = i .named;
-          steps = turn (r .paths) b (r .board) p e (i .steps);
+          turns = turn (r .paths) b (r .board) p e (i .turns);
           allowed = omega (arith, i .allowed);
           done = λ h. i .done (omega arith);
         }
+
+-- a loop turns one path after the others ..
+pub turns-more : (n : ℕ) (b c : Board) (p : BenchPath) → Turns n b c → levellingChoice c ≡ some p → Turns (suc n) b (flip c p)
+turns-more n b c p (rest _) e = turn 0 b (flip b p) p e (rest (flip b p))
+turns-more n b c p (turn m _ _ q f s) e = turn (suc m) b (flip c p) q f (turns-more m (flip b q) c p s e)
+
+-- .. and if it ends where the allowance or the improving paths do, it has done what levelling is
+pub turns-relevel : (n allowance : ℕ) (b c : Board) → Turns n b c → n ≤ allowance → (n < allowance → levellingChoice c ≡ none) → relevel allowance b ≡ record { paths = n; board = c }
+turns-relevel n zero b c (rest _) l d = refl
+turns-relevel n (suc a) b c (rest _) l d = ap (turned a b) (d (omega arith))
+turns-relevel n zero b c (turn m _ _ p e s) l d = absurd (omega arith)
+turns-relevel n (suc a) b c (turn m _ _ p e s) l d =
+    let h = turns-relevel m a (flip b p) c s (omega arith) (λ k. d (omega arith)) in
+    ap (turned a b) e ∙ ap (λ (r : Levelled). record { paths = suc (r .paths); board = r .board }) h
 
 -- what is reported, by the test
 says-level : (n : ℕ) (z : Bool) → (cond z (levelled n) (stopped n) ≡ levelled n) ↔ T z
@@ -154,7 +164,7 @@ turn-lowers b v p h t =
     waits-fall (b .benches) old (load ((flip b p) .holders)) (p .start) (last p) (flip-loads b v p h) (improves-loads b p t) s l
 
 -- .. by one or more for each path turned
-turns-lower : (n : ℕ) (b c : Board) → Valid b → Turns n b c → n + waiting c ≤ waiting b
+pub turns-lower : (n : ℕ) (b c : Board) → Valid b → Turns n b c → n + waiting c ≤ waiting b
 turns-lower n b c v (rest _) = omega arith
 turns-lower n b c v (turn m _ _ p e s) =
     let h = choice-improves b p e in
@@ -165,7 +175,7 @@ pub levelling-ends : (allowance : ℕ) (b : Board) → Valid b → waiting b ≤
 levelling-ends allowance b v l =
     let r = relevel allowance b in
     let d = levelling-does allowance b v in
-    let w = turns-lower (r .paths) b (r .board) v (d .steps) in
+    let w = turns-lower (r .paths) b (r .board) v (d .turns) in
     elim (decLt (r .paths) allowance) [
       | yes h ↦ d .done h
       | no h ↦ (level-exact (r .board) (d .valid)) .1 (λ p q t. omega (arith, turn-lowers (r .board) (d .valid) p q t))

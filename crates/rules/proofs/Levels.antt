@@ -3,18 +3,18 @@ use Prim.Native.Nat.{ℕ, suc, _+_, _-_, _*_, _≤_}
 use native.Mathlib.Omega.{arith}
 use mathlib.Core.Path.{_≡_, refl, sym, ap}
 use mathlib.Core.Logic.{_≢_}
-use mathlib.Core.Bool.{Bool}
-use mathlib.Core.List.{List}
+use mathlib.Core.Bool.{Bool, not}
+use mathlib.Core.List.{List, [], _∷_}
 use lib.Dec.{T, leb, eqb}
 use lib.ListN.{length}
-use Rattle.rules.specs.Lists.{bit, greatest, In}
-use Rattle.rules.specs.Board.{Board, Valid, holderOf, stands, load, heaviest, excess, Shares}
+use Rattle.rules.specs.Lists.{bit, within, greatest, keep, Each, empty}
+use Rattle.rules.specs.Board.{Board, Valid, standing, load, heaviest, excess, Shares, heldBy, namesFit}
 use Rattle.rules.specs.Paths.{BenchPath, last, IsPath, improves, flip}
 use Rattle.rules.specs.Sharing.{level, tightSet, inside, density}
-use Rattle.rules.specs.Least.{Least, Demand2}
-use Rattle.rules.proofs.Basics.{Compared, same, other, compared, T-leb, leb-T, within-low, within-high, within-both, in-nth, length-shares}
-use Rattle.rules.proofs.Counting.{bit-same, bit-other, count-some, total-but-one, greatest-above, greatest-most, greatest-reached}
-use Rattle.rules.proofs.Paths.{stands-within, holder-bench, improves-loads, improves-start, level-exact}
+use Rattle.rules.specs.Demand2.{LeastOverhang, Demand2}
+use Rattle.rules.proofs.Basics.{Compared, same, other, compared, T-leb, leb-T, within-low, within-high, within-both, member-in, fit-bench}
+use Rattle.rules.proofs.Counting.{bit-same, bit-other, total-but-one, greatest-above, greatest-most, greatest-reached}
+use Rattle.rules.proofs.Paths.{improves-loads, improves-start, level-exact}
 use Rattle.rules.proofs.Choice.{load-heaviest}
 use Rattle.rules.proofs.Sets.{density-between}
 use Rattle.rules.proofs.JobBook.{excess-none, excess-load}
@@ -31,7 +31,7 @@ tight-proves b v l h =
     (λ x y t u k w. omega (arith, T-leb (suc h) (load (b .holders) x) k, (level-reach b v) .0 l x y w))
 
 -- level means least above every height ..
-pub level-least : (b : Board) → Valid b → T (level b) → Least b
+pub level-least : (b : Board) → Valid b → T (level b) → LeastOverhang b
 level-least b v l h = proved-least b v (tightSet b (suc h)) h (tight-proves b v l h)
 
 -- (turning an improving path lowers the overhang just below its first bench's load)
@@ -72,7 +72,7 @@ flip-lowers b v p h t =
         go (other c) o = omega (arith, flip-loads b v p h y, bit-other (last p) y c)
 
 -- .. and least above every height means level
-pub least-level : (b : Board) → Valid b → Least b → T (level b)
+pub least-level : (b : Board) → Valid b → LeastOverhang b → T (level b)
 unfolding flip
 least-level b v m = (level-exact b v) .1 none
   where
@@ -83,15 +83,18 @@ least-level b v m = (level-exact b v) .1 none
 
 -- the heaviest load
 
--- where a job stands, some bench has load
-standing-load : (b : Board) → Valid b → (j : ℕ) → T (stands b j) → 1 ≤ heaviest b
-standing-load b v j t =
-    let x = holderOf b j in
-    let w = stands-within b j t in
-    let low = within-low 1 (length (b .named)) j w in
-    let high = within-high 1 (length (b .named)) j w in
-    let i : In x (b .holders) = in-nth (b .holders) j 0 low (omega (arith, length-shares (b .named) (b .holders) (v .shares))) in
-    omega (arith, count-some x (b .holders) i, load-heaviest b x (holder-bench b v j t))
+-- where jobs stand, some bench of 1 to B holds one ..
+standing-held : (n : ℕ) (named : List (List ℕ)) (holders : List ℕ) → Each (λ names. T (namesFit n names)) named → Shares named holders → 1 ≤ length (keep (λ names. not (empty names)) named) → (x : ℕ) × T (within 1 n x) × (1 ≤ load holders x)
+standing-held n [] holders f s l = absurd (omega arith)
+standing-held n (names ∷ named) [] f s l = absurd s
+standing-held n ([] ∷ named) (h ∷ holders) f s l = let r = standing-held n named holders (f .1) (s .1) l in (r .0, r .1, omega (arith, r .2))
+standing-held n ((y ∷ names) ∷ named) (h ∷ holders) f s l = (h, fit-bench n (y ∷ names) h (f .0) (member-in h (y ∷ names) (s .0)), omega (arith, bit-same h h refl))
+
+-- .. so the heaviest load is not 0
+standing-load : (b : Board) → Valid b → 1 ≤ standing b → 1 ≤ heaviest b
+standing-load b v l =
+    let r = standing-held (b .benches) (b .named) (b .holders) (v .names) (v .shares) l in
+    omega (arith, r .2, load-heaviest b (r .0) (r .1))
 
 -- above one less than the heaviest load there is overhang
 heaviest-excess : (b : Board) (k : ℕ) → heaviest b ≡ suc k → 1 ≤ excess (b .benches) (b .holders) k
@@ -101,7 +104,7 @@ heaviest-excess b k e =
     omega (arith, e, r .3, excess-load (b .benches) (b .holders) k (r .0) (r .1) (r .2))
 
 -- the heaviest load is no greater than that of any sharing, if the overhang is least
-least-heaviest : (b : Board) → Least b → (holders : List ℕ) → Shares (b .named) holders → heaviest b ≤ greatest (b .benches) (load holders)
+least-heaviest : (b : Board) → LeastOverhang b → (holders : List ℕ) → Shares (b .named) holders → heaviest b ≤ heaviest (heldBy b holders)
 unfolding heaviest
 least-heaviest b m holders s =
     let g = greatest (b .benches) (load holders) in
@@ -114,12 +117,15 @@ module _ (b : Board) (v : Valid b) (l : T (level b)) where
   tight-overhang k = attained b v (tightSet b (suc k)) k (tight-proves b v l k)
 
   -- .. and the one at the heaviest load has just that density
-  tight-density : (k : ℕ) → heaviest b ≡ suc k → density (inside (tightSet b (suc k)) (b .named)) (length (tightSet b (suc k))) ≡ suc k
-  tight-density k e =
-      let set = tightSet b (suc k) in
-      let none = excess-none (b .benches) (b .holders) (suc k) (λ x i u. omega (arith, e, load-heaviest b x (within-both 1 (b .benches) x i u))) in
-      let most = certificate (b .benches) (b .named) (v .names) (b .holders) (v .shares) set (suc k) in
-      density-between (inside set (b .named)) (length set) k (omega (arith, tight-overhang k, heaviest-excess b k e)) (omega (arith, none, most))
+  pub tight-density : 1 ≤ heaviest b → let set = tightSet b (heaviest b) in density (inside set (b .named)) (length set) ≡ heaviest b
+  tight-density i = let e : suc (heaviest b - 1) ≡ heaviest b = omega arith in rw e at (dense (heaviest b - 1) (sym e))
+    where
+      dense : (k : ℕ) → heaviest b ≡ suc k → density (inside (tightSet b (suc k)) (b .named)) (length (tightSet b (suc k))) ≡ suc k
+      dense k e =
+          let set = tightSet b (suc k) in
+          let none = excess-none (b .benches) (b .holders) (suc k) (λ x i u. omega (arith, e, load-heaviest b x (within-both 1 (b .benches) x i u))) in
+          let most = certificate (b .benches) (b .named) (v .names) (b .holders) (v .shares) set (suc k) in
+          density-between (inside set (b .named)) (length set) k (omega (arith, tight-overhang k, heaviest-excess b k e)) (omega (arith, none, most))
 
 -- "on a level board the heaviest load is the least over all orientations, its tight set proves it"
 pub level-demand2 : (b : Board) → Valid b → T (level b) → Demand2 b
@@ -127,6 +133,6 @@ level-demand2 b v l =
     record {
       orientation = v .shares;
       noLower = least-heaviest b (level-least b v l);
-      proves = λ j t. let e : suc (heaviest b - 1) ≡ heaviest b = omega (arith, standing-load b v j t) in rw e at (tight-density b v l (heaviest b - 1) (sym e));
-      overhang = λ h i u. let e : suc (h - 1) ≡ h = omega arith in rw e at (tight-overhang b v l (h - 1));
+      tight = λ i. tight-density b v l (standing-load b v i);
+      heights = λ h i u. let e : suc (h - 1) ≡ h = omega arith in rw e at (tight-overhang b v l (h - 1));
     }

@@ -9,7 +9,7 @@ use mathlib.Core.List.{List, []}
 use mathlib.Core.Option.{Option, none, some}
 use lib.Dec.{T, eqb}
 use Rattle.rules.specs.Lists.{bit, within, In, change}
-use Rattle.rules.specs.Board.{Board, Valid, namesOf, put, load, excess, mayHold, Shares}
+use Rattle.rules.specs.Board.{Board, Valid, namesOf, put, load, excess, mayHold, Shares, heldBy}
 use Rattle.rules.specs.Paths.{Step, steps, BenchPath, last, IsPath, improvingFrom, improvingTo}
 use Rattle.rules.specs.Sharing.{Change, level, arrivalChoice, closingChoice, afterArrival, afterClosing}
 use Rattle.rules.proofs.Basics.{Compared, same, other, compared, nth-change-other, change-back, length-shares}
@@ -21,7 +21,7 @@ use Rattle.rules.proofs.Certificate.{proved-least}
 use Rattle.rules.proofs.TightSet.{broughtIn, brought-proves}
 use Rattle.rules.proofs.Flip.{shares-written}
 use Rattle.rules.proofs.Levels.{least-level}
-use Rattle.rules.proofs.Changes.{Does}
+use Rattle.rules.proofs.Changes.{Changed}
 
 module _ (b : Board) (v : Valid b) (j : ℕ) where
   -- the steps by other jobs, after job j is written anew, are steps of the board
@@ -34,12 +34,8 @@ module _ (b : Board) (v : Valid b) (j : ℕ) where
   pub shares-back : (names : List ℕ) (a : ℕ) (hs : List ℕ) → T (mayHold (namesOf b j) a) → Shares (change (b .named) j names) hs → Shares (b .named) (change hs j a)
   shares-back names a hs t s = subst (λ (l : List (List ℕ)). Shares l (change hs j a)) (change-back (b .named) j names []) (shares-written (change (b .named) j names) hs j (namesOf b j) a s t)
 
--- other holders of the same jobs
-abbrev pub held-by : Board → List ℕ → Board
-held-by b hs = record { benches = b .benches; named = b .named; holders = hs }
-
 -- a sharing of a valid board's jobs makes a valid board
-pub held-valid : (b : Board) → Valid b → (hs : List ℕ) → Shares (b .named) hs → Valid (held-by b hs)
+pub held-valid : (b : Board) → Valid b → (hs : List ℕ) → Shares (b .named) hs → Valid (heldBy b hs)
 held-valid b v hs s = record { names = v .names; shares = s }
 
 -- improving paths between two benches
@@ -114,5 +110,5 @@ pub brought-least : (b : Board) → Valid b → (p : ℕ → Bool) (h : ℕ) →
 brought-least b v p h above full = proved-least b v (broughtIn b p) h (brought-proves b p v h above full)
 
 -- a change of one job that leaves the overhang least leaves the board level
-pub does-level : (b : Board) (j : ℕ) (names : List ℕ) (c : Change) → Does b j names c → ((h : ℕ) (hs : List ℕ) → Shares (change (b .named) j names) hs → excess (b .benches) ((c .board) .holders) h ≤ excess (b .benches) hs h) → T (level (c .board))
+pub does-level : (b : Board) (j : ℕ) (names : List ℕ) (c : Change) → Changed b j names c → ((h : ℕ) (hs : List ℕ) → Shares (change (b .named) j names) hs → excess (b .benches) ((c .board) .holders) h ≤ excess (b .benches) hs h) → T (level (c .board))
 does-level b j names c d m = least-level (c .board) (d .valid) (λ h hs s. rw (d .benches) (m h hs (subst (λ (l : List (List ℕ)). Shares l hs) (d .named) s)))

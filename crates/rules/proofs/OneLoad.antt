@@ -8,7 +8,7 @@ use lib.Dec.{T, eqb}
 use lib.ListN.{length}
 use Rattle.rules.specs.Lists.{bit, within, nth, change}
 use Rattle.rules.specs.Board.{load, excess}
-use Rattle.rules.specs.JobBook.{OneMore}
+use Rattle.rules.specs.Demand2.{OneMore}
 use Rattle.rules.proofs.Basics.{Compared, same, other, compared, within-low, within-high}
 use Rattle.rules.proofs.Counting.{bit-same, bit-other, total-but-one, count-change}
 

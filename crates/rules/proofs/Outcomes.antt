@@ -1,7 +1,7 @@
 -- What an accepted arrival, closing or levelling leaves of a sound table: a sound table again, of the board that the rule names.
 use Prim.Native.Nat.{ℕ, _≤_}
 use mathlib.Core.Path.{_≡_, refl, sym, ap, subst, _∙_}
-use mathlib.Core.Logic.{inl, inr}
+use mathlib.Core.Logic.{_⊎_, inl, inr}
 use mathlib.Core.Bool.{Bool, true, false, cond, not, _&&_, _||_, false≢true}
 use mathlib.Core.List.{List, [], _∷_}
 use mathlib.Core.Option.{Option, none, some}
@@ -12,17 +12,17 @@ use Rattle.rules.specs.Lists.{within, Each, In, empty}
 use Rattle.rules.specs.Board.{Board, Valid, stands, namesFit}
 use Rattle.rules.specs.Table.{mostBenches, mostJobs, sound, decode, encode, Storable}
 use Rattle.rules.specs.Sharing.{Change, arrive, close, Levelled, relevel, level}
-use Rattle.rules.specs.Answers.{Refusal, Answer, Outcome, firstHolding, isRefused, settled}
-use Rattle.rules.specs.Answers.{refused, blanked, arrived, closed, loadIs, heaviestIs, tightSetIs, isSound, levelYes, levelNo, levelled, stopped}
+use Rattle.rules.specs.Answers.{Refusal, Outcome, firstHolding, isRefused, settled}
+use Rattle.rules.specs.Answers.{refused, levelYes, levelNo, levelled, stopped}
 use Rattle.rules.specs.Calls.{Call, arrival, closing, levelling, loadOf, heaviestLoad, tightSetOf, formCheck, levelCheck, noBench, conditions, lentList, accepted, outcome, arrivalOutcome, closingOutcome, levellingOutcome, tightSetOutcome}
-use Rattle.rules.specs.JobBook.{Book, entered, OneMore}
+use Rattle.rules.specs.Demand2.{OneMore}
 use Rattle.rules.proofs.Basics.{neither, false→not, both, not-member, length-change, each-change}
 use Rattle.rules.proofs.Refusals.{accepted-by, accepted-answers, isQuestion, question-leaves}
-use Rattle.rules.proofs.JobBook.{refused-enters, question-enters}
 use Rattle.rules.proofs.ChainOrder.{sound-outcome}
+use Rattle.rules.proofs.Tally.{isChange}
 use Rattle.rules.proofs.Sound.{sound-storable}
 use Rattle.rules.proofs.Encode.{encode-sound, decode-encode}
-use Rattle.rules.proofs.Changes.{Does, arrival-does, closing-does}
+use Rattle.rules.proofs.Changes.{Changed, arrival-does, closing-does}
 use Rattle.rules.proofs.Levelling.{Relevels, levelling-does, levelling-says-level, enough-allowance}
 use Rattle.rules.proofs.Paths.{level-exact}
 
@@ -37,7 +37,7 @@ resized b c s v e l p =
     }
 
 -- so is one in which job j was taken to these names
-changed-storable : (b : Board) (j : ℕ) (names : List ℕ) (c : Change) → Storable b → T (empty names || eqb (length names) 2) → Does b j names c → Storable (c .board)
+changed-storable : (b : Board) (j : ℕ) (names : List ℕ) (c : Change) → Storable b → T (empty names || eqb (length names) 2) → Changed b j names c → Storable (c .board)
 changed-storable b j names c s p d =
     resized b (c .board) s (d .valid) (d .benches) (ap length (d .named) ∙ length-change (b .named) j names)
     (subst (Each (λ names. T (empty names || eqb (length names) 2))) (sym (d .named)) (each-change (λ names. T (empty names || eqb (length names) 2)) (b .named) j names p (s .pairs)))
@@ -89,7 +89,7 @@ pub record Arrives (t : List ℕ) (j x y : ℕ) (c : Change) : Type 0 where
   pub may : MayArrive (decode t) j x y
   pub is : outcome (arrival j x y) t ≡ arrivalOutcome j c
   pub writes : Written ((outcome (arrival j x y) t) .table) (c .board)
-  pub does : Does (decode t) j (x ∷ y ∷ []) c
+  pub does : Changed (decode t) j (x ∷ y ∷ []) c
   pub rose : OneMore ((decode t) .benches) ((decode t) .holders) ((c .board) .holders) (c .bench)
 
 -- an accepted arrival on any sound table
@@ -114,7 +114,7 @@ pub record Closes (t : List ℕ) (j : ℕ) (c : Change) : Type 0 where
   pub stood : T (stands (decode t) j)
   pub is : outcome (closing j) t ≡ closingOutcome c
   pub writes : Written ((outcome (closing j) t) .table) (c .board)
-  pub does : Does (decode t) j [] c
+  pub does : Changed (decode t) j [] c
   pub fell : OneMore ((decode t) .benches) ((c .board) .holders) ((decode t) .holders) (c .bench)
 
 -- an accepted closing on any sound table
@@ -135,13 +135,13 @@ closing-accepted t s j n =
     }
 
 -- what a levelling leaves of a sound table; nothing but its form refuses it
-pub record Levels (t : List ℕ) (allowance : ℕ) (r : Levelled) : Type 0 where
+pub record Relevelled (t : List ℕ) (allowance : ℕ) (r : Levelled) : Type 0 where
   pub is : outcome (levelling allowance) t ≡ levellingOutcome r
   pub writes : Written ((outcome (levelling allowance) t) .table) (r .board)
   pub does : Relevels allowance (decode t) r
 
 -- a levelling of any sound table
-pub levelling-accepted : (t : List ℕ) → T (sound t) → (allowance : ℕ) → Levels t allowance (relevel allowance (decode t))
+pub levelling-accepted : (t : List ℕ) → T (sound t) → (allowance : ℕ) → Relevelled t allowance (relevel allowance (decode t))
 unfolding conditions accepted levellingOutcome
 levelling-accepted t s allowance =
     let e = sound-outcome (levelling allowance) t s in
@@ -159,22 +159,7 @@ levelling-enough t s allowance l =
     let e = enough-allowance (decode t) (sound-storable t s) allowance l in
     ap (λ o. o .answer) (a .is) ∙ (levelling-says-level (relevel allowance (decode t)) v) .1 ((level-exact ((relevel allowance (decode t)) .board) v) .0 e)
 
--- an answer of an accepted arrival or closing
-abbrev pub isChange : Answer → Bool
-isChange (arrived holder rose moved) = true
-isChange (closed fell moved) = true
-isChange (refused r) = false
-isChange blanked = false
-isChange (loadIs n) = false
-isChange (heaviestIs n) = false
-isChange (tightSetIs benches inside) = false
-isChange isSound = false
-isChange levelYes = false
-isChange levelNo = false
-isChange (levelled paths) = false
-isChange (stopped paths) = false
-
--- a levelling's answer is none
+-- a levelling's answer reports no change of one load
 pub levelling-quiet : (r : Levelled) → isChange ((levellingOutcome r) .answer) ≡ false
 unfolding levellingOutcome
 levelling-quiet r = go (level (r .board))
@@ -187,13 +172,13 @@ levelling-quiet r = go (level (r .board))
 pub record Left (t : List ℕ) (c : Call) (o : Outcome) : Type 0 where
   pub table : o .table ≡ t
   pub quiet : isChange (o .answer) ≡ false
-  pub book : (k : Book) → entered c (isRefused (o .answer)) k ≡ k
+  pub idle : (isRefused (o .answer) ≡ true) ⊎ T (isQuestion c)
 
 -- every call on a sound table is one of four: an accepted arrival, an accepted closing, a levelling, or one that leaves the table
-module _ (t : List ℕ) (s : T (sound t)) (P : Call → Type 0) (arrives : (j x y : ℕ) → Arrives t j x y (arrive (decode t) j (x ∷ y ∷ [])) → P (arrival j x y)) (closes : (j : ℕ) → Closes t j (close (decode t) j) → P (closing j)) (levels : (allowance : ℕ) → Levels t allowance (relevel allowance (decode t)) → P (levelling allowance)) (leaves : (c : Call) → Left t c (outcome c t) → P c) where
+module _ (t : List ℕ) (s : T (sound t)) (P : Call → Type 0) (arrives : (j x y : ℕ) → Arrives t j x y (arrive (decode t) j (x ∷ y ∷ [])) → P (arrival j x y)) (closes : (j : ℕ) → Closes t j (close (decode t) j) → P (closing j)) (levels : (allowance : ℕ) → Relevelled t allowance (relevel allowance (decode t)) → P (levelling allowance)) (leaves : (c : Call) → Left t c (outcome c t) → P c) where
   asked : (c : Call) → T (isQuestion c) → outcome c t ≡ accepted c t (decode t) → isChange ((accepted c t (decode t)) .answer) ≡ false → P c
   asked c q e n =
-      leaves c (record { table = question-leaves c t q; quiet = ap (λ o. isChange (o .answer)) e ∙ n; book = λ k. question-enters c (isRefused ((outcome c t) .answer)) k q })
+      leaves c (record { table = question-leaves c t q; quiet = ap (λ o. isChange (o .answer)) e ∙ n; idle = inr q })
 
   by-accepted : (c : Call) → outcome c t ≡ accepted c t (decode t) → P c
   unfolding accepted tightSetOutcome
@@ -219,4 +204,4 @@ module _ (t : List ℕ) (s : T (sound t)) (P : Call → Type 0) (arrives : (j x 
       go : (o : Option Refusal) → firstHolding (conditions c (decode t)) ≡ o → P c
       go none e = by-accepted c (is none e)
       go (some r) e =
-          leaves c (subst (Left t c) (sym (is (some r) e)) (record { table = refl; quiet = refl; book = refused-enters c }))
+          leaves c (subst (Left t c) (sym (is (some r) e)) (record { table = refl; quiet = refl; idle = inl refl }))

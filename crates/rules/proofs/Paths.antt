@@ -297,3 +297,11 @@ unlevel-improves b t =
     let q = some-in (improving b) t in
     let h = improving-only b (q .0) (q .1) in
     (q .0, h .0, h .2)
+
+-- a board on which no job stands is level
+pub jobless-level : (b : Board) → Valid b → ((j : ℕ) → T (stands b j) → ⊥) → T (level b)
+jobless-level b v n = (level-exact b v) .1 (λ p h t. go (p .start) (p .route) (h .walk) (improves-loads b p t))
+  where
+    go : (x : ℕ) (r : List Step) → Walk (steps b) x r → load (b .holders) (endOf x r) + 2 ≤ load (b .holders) x → ⊥
+    go x [] w l = omega arith
+    go x (s ∷ r) w l = n (s .job) (named-stands b (s .job) (s .to) ((step-is b x s (w .0)) .1))

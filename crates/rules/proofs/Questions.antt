@@ -12,13 +12,13 @@ use Rattle.rules.specs.Lists.{within}
 use Rattle.rules.specs.Board.{load, heaviest, excess}
 use Rattle.rules.specs.Table.{fits, sound, decode}
 use Rattle.rules.specs.Paths.{BenchPath, IsPath, improves}
-use Rattle.rules.specs.Sharing.{level, tightSet, inside}
+use Rattle.rules.specs.Sharing.{level, tightSet, inside, density}
 use Rattle.rules.specs.Answers.{firstHolding, isRefused, refuse, settled, refused, sizes, unsound, benchNumber, listTooShort, loadIs, heaviestIs, tightSetIs, isSound, levelYes, levelNo}
 use Rattle.rules.specs.Calls.{loadOf, heaviestLoad, tightSetOf, formCheck, levelCheck, conditions, answering, accepted, outcome, tightSetOutcome}
 use Rattle.rules.proofs.Basics.{neither, true→T, T→true, not→false}
 use Rattle.rules.proofs.Sound.{sound-storable}
 use Rattle.rules.proofs.Paths.{level-exact, unlevel-improves}
-use Rattle.rules.proofs.Levels.{level-demand2}
+use Rattle.rules.proofs.Levels.{level-demand2, tight-density}
 use Rattle.rules.proofs.Refusals.{accepted-by}
 use Rattle.rules.proofs.ChainOrder.{sound-outcome}
 
@@ -47,21 +47,36 @@ module _ (t : List ℕ) (s : T (sound t)) where
       ap (λ o. o .answer) (sound-outcome (tightSetOf h list) t s)
       ∙ rw (ne-eqb h 0 (λ e. omega arith), le-ltb (heaviest (decode t)) h u, lt-ltb (length list) (2 * length (tightSet (decode t) h)) r)
 
-  -- "On a level table, inside jobs less (h − 1) × benches is the overhang above h − 1."
-  pub tight-overhang : T (level (decode t)) → (h : ℕ) (list : List ℕ) (n i : ℕ) → (outcome (tightSetOf h list) t) .answer ≡ tightSetIs n i → i ≡ (h - 1) * n + excess ((decode t) .benches) ((decode t) .holders) (h - 1)
+  -- what the numbers of an accepted tight set are: "the number of benches, the number of jobs with both benches inside"
+  pub record TightAnswer (h n i : ℕ) : Type 0 where
+    pub low : 1 ≤ h
+    pub high : h ≤ heaviest (decode t)
+    pub benches : length (tightSet (decode t) h) ≡ n
+    pub insideJobs : inside (tightSet (decode t) h) ((decode t) .named) ≡ i
+
+  pub tight-says : (h : ℕ) (list : List ℕ) (n i : ℕ) → (outcome (tightSetOf h list) t) .answer ≡ tightSetIs n i → TightAnswer h n i
   unfolding conditions accepted tightSetOutcome
-  tight-overhang l h list n i e =
+  tight-says h list n i e =
       let b = decode t in
       let a = accepted-by (tightSetOf h list) t (ap isRefused e) in
       let r = neither (eqb h 0) (ltb (heaviest b) h) (a .0 .1 .1 .0) in
       let d : tightSetIs (length (tightSet b h)) (inside (tightSet b h) (b .named)) ≡ tightSetIs n i = ap (λ o. o .answer) (sym (a .1)) ∙ e in
-      let m : length (tightSet b h) ≡ n = cc in
-      let j : inside (tightSet b h) (b .named) ≡ i = cc in
-      let low = eqb-false h 0 (r .0) in
-      rw (sym m, sym j) ((level-demand2 b ((sound-storable t s) .valid) l) .overhang h (positive h low) (ltb-false (heaviest b) h (r .1)))
+      record { low = positive h (eqb-false h 0 (r .0)); high = ltb-false (heaviest b) h (r .1); benches = cc; insideJobs = cc }
     where
       positive : (h : ℕ) → (h ≡ 0 → ⊥) → 1 ≤ h
       positive h f = omega arith
+
+  -- "On a level table, inside jobs less (h − 1) × benches is the overhang above h − 1."
+  pub tight-overhang : T (level (decode t)) → (h : ℕ) (list : List ℕ) (n i : ℕ) → (outcome (tightSetOf h list) t) .answer ≡ tightSetIs n i → i ≡ (h - 1) * n + excess ((decode t) .benches) ((decode t) .holders) (h - 1)
+  tight-overhang l h list n i e =
+      let a = tight-says h list n i e in
+      rw (sym (a .benches), sym (a .insideJobs)) ((level-demand2 (decode t) ((sound-storable t s) .valid) l) .heights h (a .low) (a .high))
+
+  -- "its tight set proves it": at the heaviest load the inside jobs for each bench, rounded up, are just that many
+  pub tight-heaviest : T (level (decode t)) → (list : List ℕ) (n i : ℕ) → (outcome (tightSetOf (heaviest (decode t)) list) t) .answer ≡ tightSetIs n i → density i n ≡ heaviest (decode t)
+  tight-heaviest l list n i e =
+      let a = tight-says (heaviest (decode t)) list n i e in
+      rw (sym (a .benches), sym (a .insideJobs)) (tight-density (decode t) ((sound-storable t s) .valid) l (a .low))
 
   -- the heaviest load
   pub heaviest-answered : (outcome heaviestLoad t) .answer ≡ heaviestIs (heaviest (decode t))

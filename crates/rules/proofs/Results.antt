@@ -1,5 +1,5 @@
 -- The results of arrival, closing and levelling in 01's words: what the numbers of an answer say of the boards before and after.
-use Prim.Native.Nat.{ℕ, _≤_}
+use Prim.Native.Nat.{ℕ}
 use native.Mathlib.Omega.{arith}
 use native.Mathlib.Decide.{decLt}
 use mathlib.Core.Path.{_≡_, sym, ap, subst, _∙_}
@@ -7,38 +7,16 @@ use mathlib.Core.Bool.{Bool, true, false, cond, not}
 use mathlib.Core.List.{List, [], _∷_}
 use lib.Dec.{T, T-not}
 use lib.ListN.{length}
-use Rattle.rules.specs.Lists.{change}
 use Rattle.rules.specs.Board.{Board, holderOf}
 use Rattle.rules.specs.Table.{sound, decode}
 use Rattle.rules.specs.Paths.{BenchPath, IsPath, improves}
 use Rattle.rules.specs.Sharing.{arrive, close, relevel, level}
-use Rattle.rules.specs.Least.{handed}
 use Rattle.rules.specs.Answers.{isRefused, arrived, closed, levelled, stopped}
 use Rattle.rules.specs.Calls.{arrival, closing, levelling, outcome, arrivalOutcome, closingOutcome, levellingOutcome}
-use Rattle.rules.specs.JobBook.{OneMore}
+use Rattle.rules.specs.Demand2.{OneMore, ArrivalReport, ClosingReport, LevellingReport}
 use Rattle.rules.proofs.Basics.{true→T}
 use Rattle.rules.proofs.Paths.{level-exact, unlevel-improves}
-use Rattle.rules.proofs.Levelling.{Turns}
 use Rattle.rules.proofs.Outcomes.{arrival-accepted, closing-accepted, levelling-accepted}
-
--- "the bench that holds the new job in the end, the bench whose load rose, and the number of other jobs that changed holder"
-pub record ArrivalResult (before after : Board) (j : ℕ) (names : List ℕ) (holder rose moved : ℕ) : Type 0 where
-  pub jobs : after .named ≡ change (before .named) j names
-  pub in-the-end : holderOf after j ≡ holder
-  pub one-rose : OneMore (before .benches) (before .holders) (after .holders) rose
-  pub others : handed j before after ≡ moved
-
--- "the bench whose load fell, and the jobs that changed holder"
-pub record ClosingResult (before after : Board) (j fell moved : ℕ) : Type 0 where
-  pub jobs : after .named ≡ change (before .named) j []
-  pub one-fell : OneMore (before .benches) (after .holders) (before .holders) fell
-  pub others : handed j before after ≡ moved
-
--- "the paths turned", each by the rule, within the allowance
-pub record LevellingResult (before after : Board) (allowance paths : ℕ) : Type 0 where
-  pub jobs : after .named ≡ before .named
-  pub turned : Turns paths before after
-  pub allowed : paths ≤ allowance
 
 -- what a levelling's answer says of the test behind it
 said-level : (n m : ℕ) (z : Bool) → cond z (levelled n) (stopped n) ≡ levelled m → T z × (n ≡ m)
@@ -51,7 +29,7 @@ said-stopped n m false e = (tt, cc)
 
 module _ (t : List ℕ) (s : T (sound t)) where
   -- an arrival's answer
-  pub arrival-result : (j x y holder rose moved : ℕ) → (outcome (arrival j x y) t) .answer ≡ arrived holder rose moved → ArrivalResult (decode t) (decode ((outcome (arrival j x y) t) .table)) j (x ∷ y ∷ []) holder rose moved
+  pub arrival-result : (j x y holder rose moved : ℕ) → (outcome (arrival j x y) t) .answer ≡ arrived holder rose moved → ArrivalReport (decode t) (decode ((outcome (arrival j x y) t) .table)) j (x ∷ y ∷ []) holder rose moved
   unfolding arrivalOutcome
   arrival-result j x y holder rose moved e =
       let a = arrival-accepted t s j x y (ap isRefused e) in
@@ -59,16 +37,16 @@ module _ (t : List ℕ) (s : T (sound t)) where
       let d : arrived (holderOf (c .board) j) (c .bench) (length (c .moved)) ≡ arrived holder rose moved = ap (λ o. o .answer) (sym (a .is)) ∙ e in
       let k : c .bench ≡ rose = cc in
       let m : length (c .moved) ≡ moved = cc in
-      subst (λ (u : Board). ArrivalResult (decode t) u j (x ∷ y ∷ []) holder rose moved) (sym (a .writes .board))
+      subst (λ (u : Board). ArrivalReport (decode t) u j (x ∷ y ∷ []) holder rose moved) (sym (a .writes .board))
       (record {
         jobs = a .does .named;
-        in-the-end = cc;
-        one-rose = subst (OneMore ((decode t) .benches) ((decode t) .holders) ((c .board) .holders)) k (a .rose);
+        inTheEnd = cc;
+        oneRose = subst (OneMore ((decode t) .benches) ((decode t) .holders) ((c .board) .holders)) k (a .rose);
         others = sym (a .does .number) ∙ m;
       })
 
   -- a closing's answer
-  pub closing-result : (j fell moved : ℕ) → (outcome (closing j) t) .answer ≡ closed fell moved → ClosingResult (decode t) (decode ((outcome (closing j) t) .table)) j fell moved
+  pub closing-result : (j fell moved : ℕ) → (outcome (closing j) t) .answer ≡ closed fell moved → ClosingReport (decode t) (decode ((outcome (closing j) t) .table)) j fell moved
   unfolding closingOutcome
   closing-result j fell moved e =
       let a = closing-accepted t s j (ap isRefused e) in
@@ -76,35 +54,35 @@ module _ (t : List ℕ) (s : T (sound t)) where
       let d : closed (c .bench) (length (c .moved)) ≡ closed fell moved = ap (λ o. o .answer) (sym (a .is)) ∙ e in
       let k : c .bench ≡ fell = cc in
       let m : length (c .moved) ≡ moved = cc in
-      subst (λ (u : Board). ClosingResult (decode t) u j fell moved) (sym (a .writes .board))
+      subst (λ (u : Board). ClosingReport (decode t) u j fell moved) (sym (a .writes .board))
       (record {
         jobs = a .does .named;
-        one-fell = subst (OneMore ((decode t) .benches) ((c .board) .holders) ((decode t) .holders)) k (a .fell);
+        oneFell = subst (OneMore ((decode t) .benches) ((c .board) .holders) ((decode t) .holders)) k (a .fell);
         others = sym (a .does .number) ∙ m;
       })
 
   -- a levelling's answer tells its count and its board
-  levelling-result : (allowance : ℕ) → LevellingResult (decode t) (decode ((outcome (levelling allowance) t) .table)) allowance ((relevel allowance (decode t)) .paths)
+  levelling-result : (allowance : ℕ) → LevellingReport (decode t) (decode ((outcome (levelling allowance) t) .table)) allowance ((relevel allowance (decode t)) .paths)
   levelling-result allowance =
       let a = levelling-accepted t s allowance in
       let r = relevel allowance (decode t) in
-      subst (λ (u : Board). LevellingResult (decode t) u allowance (r .paths)) (sym (a .writes .board)) (record { jobs = a .does .named; turned = a .does .steps; allowed = a .does .allowed })
+      subst (λ (u : Board). LevellingReport (decode t) u allowance (r .paths)) (sym (a .writes .board)) (record { jobs = a .does .named; turned = a .does .turns; allowed = a .does .allowed })
 
   -- "level": no improving path is left
-  pub level-result : (allowance paths : ℕ) → (outcome (levelling allowance) t) .answer ≡ levelled paths → let after = decode ((outcome (levelling allowance) t) .table) in LevellingResult (decode t) after allowance paths × ((p : BenchPath) → IsPath after p → T (improves after p) → ⊥)
+  pub level-result : (allowance paths : ℕ) → (outcome (levelling allowance) t) .answer ≡ levelled paths → let after = decode ((outcome (levelling allowance) t) .table) in LevellingReport (decode t) after allowance paths × ((p : BenchPath) → IsPath after p → T (improves after p) → ⊥)
   unfolding levellingOutcome
   level-result allowance paths e =
       let a = levelling-accepted t s allowance in
       let r = relevel allowance (decode t) in
       let d = said-level (r .paths) paths (level (r .board)) (ap (λ o. o .answer) (sym (a .is)) ∙ e) in
-      (subst (LevellingResult (decode t) (decode ((outcome (levelling allowance) t) .table)) allowance) (d .1) (levelling-result allowance), subst (λ (u : Board). (p : BenchPath) → IsPath u p → T (improves u p) → ⊥) (sym (a .writes .board)) ((level-exact (r .board) (a .does .valid)) .0 (d .0)))
+      (subst (LevellingReport (decode t) (decode ((outcome (levelling allowance) t) .table)) allowance) (d .1) (levelling-result allowance), subst (λ (u : Board). (p : BenchPath) → IsPath u p → T (improves u p) → ⊥) (sym (a .writes .board)) ((level-exact (r .board) (a .does .valid)) .0 (d .0)))
 
   -- "stopped": one is, and the allowance is used up
-  pub stopped-result : (allowance paths : ℕ) → (outcome (levelling allowance) t) .answer ≡ stopped paths → let after = decode ((outcome (levelling allowance) t) .table) in LevellingResult (decode t) after allowance paths × ((p : BenchPath) × IsPath after p × T (improves after p)) × (paths ≡ allowance)
+  pub stopped-result : (allowance paths : ℕ) → (outcome (levelling allowance) t) .answer ≡ stopped paths → let after = decode ((outcome (levelling allowance) t) .table) in LevellingReport (decode t) after allowance paths × ((p : BenchPath) × IsPath after p × T (improves after p)) × (paths ≡ allowance)
   unfolding levellingOutcome
   stopped-result allowance paths e =
       let a = levelling-accepted t s allowance in
       let r = relevel allowance (decode t) in
       let d = said-stopped (r .paths) paths (level (r .board)) (ap (λ o. o .answer) (sym (a .is)) ∙ e) in
       let used : r .paths ≡ allowance = elim (decLt (r .paths) allowance) [ yes h ↦ absurd (T-not (level (r .board)) (d .0) (a .does .done h)) | no h ↦ omega (arith, a .does .allowed) ] in
-      (subst (LevellingResult (decode t) (decode ((outcome (levelling allowance) t) .table)) allowance) (d .1) (levelling-result allowance), subst (λ (u : Board). (p : BenchPath) × IsPath u p × T (improves u p)) (sym (a .writes .board)) (unlevel-improves (r .board) (d .0)), sym (d .1) ∙ used)
+      (subst (LevellingReport (decode t) (decode ((outcome (levelling allowance) t) .table)) allowance) (d .1) (levelling-result allowance), subst (λ (u : Board). (p : BenchPath) × IsPath u p × T (improves u p)) (sym (a .writes .board)) (unlevel-improves (r .board) (d .0)), sym (d .1) ∙ used)

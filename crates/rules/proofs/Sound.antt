@@ -10,8 +10,8 @@ use mathlib.Core.List.{List, [], _∷_, map}
 use lib.Dec.{T, eqb, leb, not-T}
 use lib.ListN.{length, getD, drop, length-take, length-drop, length-map, List·getD-eq-default}
 use lib.Seq.{getD-take, getD-drop}
-use Rattle.rules.specs.Lists.{bit, within, count, member, different, all, Each, In, empty, nth, numbered}
-use Rattle.rules.specs.Board.{Shares, mayHold, namesFit}
+use Rattle.rules.specs.Lists.{keep, bit, within, count, member, different, all, Each, In, empty, nth, numbered}
+use Rattle.rules.specs.Board.{standing, Shares, mayHold, namesFit}
 use Rattle.rules.specs.Table.{words, lengthFor, mostBenches, mostJobs, sizesFit, Entry, vacant, filled, holderIn, Layout, entriesIn, layout, follow, chains, standingIn, entryFits, placed, onlyStanding, formed, fits, sound, boardOf, decode, Storable}
 use Rattle.rules.proofs.Basics.{true→T, not→false, left, right, or-right, Compared, same, other, compared, T-eqb, eqb-T, T-leb, within-low, within-high, within-both, in-keep, all-in, each-in, in-each, in-getD, in-nth, in-numbered, in-numbered-nth, in-map, each-map, member-in, in-member, different-head, fit-bench}
 use Rattle.rules.proofs.Counting.{bit-le, bit-same, bit-other, count-none, few}
@@ -357,6 +357,33 @@ pub standing-record : (t : List ℕ) → T (sound t) → (e : Entry) → In e ((
 standing-record t s e i f =
     let l = layout (words t) in
     two-benches (l .benches) e (each-in (λ (e : Entry). length (e .names) ≡ 2) e (l .entries) (layout-pairs (words t)) i) ((sound-formed t s) .entry e i f)
+
+-- the filled records from i on, with their numbers
+abbrev standingFrom : ℕ → List Entry → List (ℕ × Entry)
+standingFrom i es = keep (λ s. filled (s .1)) (numbered i es)
+
+same-standing : (i : ℕ) (es : List Entry) → ((e : Entry) → In e es → not (empty (cond (filled e) (e .names) [])) ≡ filled e) → length (standingFrom i es) ≡ length (keep (λ (n : List ℕ). not (empty n)) (map (λ e. cond (filled e) (e .names) []) es))
+same-standing i [] f = refl
+same-standing i (e ∷ es) f =
+    go (filled e) (not (empty (cond (filled e) (e .names) []))) (f e (inl refl)) (same-standing (suc i) es (λ x k. f x (inr k)))
+  where
+    named : List (List ℕ)
+    named = keep (λ (n : List ℕ). not (empty n)) (map (λ e. cond (filled e) (e .names) []) es)
+
+    go : (y z : Bool) → z ≡ y → length (standingFrom (suc i) es) ≡ length named → length (cond y ((i, e) ∷ standingFrom (suc i) es) (standingFrom (suc i) es)) ≡ length (cond z (cond (filled e) (e .names) [] ∷ named) named)
+    go true true d h = ap suc h
+    go true false d h = cc
+    go false true d h = cc
+    go false false d h = h
+
+-- "number of standing jobs": word 2 is the board's
+pub standing-word : (t : List ℕ) → T (sound t) → (layout (words t)) .standing ≡ standing (decode t)
+unfolding decode boardOf
+standing-word t s = (sound-formed t s) .standing ∙ same-standing 1 ((layout (words t)) .entries) (λ e i. go e i (filled e) refl)
+  where
+    go : (e : Entry) → In e ((layout (words t)) .entries) → (z : Bool) → filled e ≡ z → not (empty (cond z (e .names) [])) ≡ z
+    go e i true d = rw ((standing-record t s e i (true→T (filled e) d)) .names) refl
+    go e i false d = refl
 
 -- how often a placed job is on a chain
 count-placed : (cs : List (List ℕ)) (j h x : ℕ) → T (placed cs j h) → 1 ≤ x → x ≤ length cs → count j (nth cs x []) ≡ bit (eqb x h)

@@ -3,54 +3,31 @@
 use Prim.Native.Nat.{ℕ, _+_}
 use native.Mathlib.Omega.{arith}
 use mathlib.Core.Path.{_≡_, refl, sym, ap, subst, _∙_}
-use mathlib.Core.Bool.{Bool, true, false, cond, not, false≢true}
+use mathlib.Core.Bool.{true, false, not}
 use mathlib.Core.List.{List, [], _∷_}
-use mathlib.Core.Option.{none, some, Option·some-ne-none}
+use mathlib.Core.Option.{none}
 use lib.Dec.{T}
 use lib.ListN.{length}
 use Rattle.rules.specs.Lists.{bit, within, keep, empty, change}
 use Rattle.rules.specs.Board.{Board, stands, standing}
 use Rattle.rules.specs.Table.{sizesFit, lengthFor, sound, decode, blankTable}
 use Rattle.rules.specs.Sharing.{arrive, close, relevel}
-use Rattle.rules.specs.Answers.{Answer, Outcome, countFull}
-use Rattle.rules.specs.Answers.{refused, blanked, arrived, closed, loadIs, heaviestIs, tightSetIs, isSound, levelYes, levelNo, levelled, stopped}
+use Rattle.rules.specs.Answers.{Answer, Outcome}
+use Rattle.rules.specs.Answers.{blanked}
 use Rattle.rules.specs.Calls.{Call, arrival, closing, levelling, outcome, arrivalOutcome, closingOutcome, levellingOutcome}
 use Rattle.rules.specs.JobBook.{tableAfter, Runs, AsDefined}
-use Rattle.rules.specs.Tally.{Tally, Noted, zeroTally, countsFit, raised, noted, tallyAfter, NoNine}
+use Rattle.rules.specs.Tally.{Tally, Noted, zeroTally, noted, tallyAfter, NoNine}
 use Rattle.rules.proofs.Basics.{true→T, T→true, not→false, within-low, within-high}
 use Rattle.rules.proofs.Counting.{keep-change}
 use Rattle.rules.proofs.Sound.{sized}
 use Rattle.rules.proofs.Blanking.{standing-empty, blank-sound, blank-decodes}
 use Rattle.rules.proofs.Paths.{stands-within}
-use Rattle.rules.proofs.Outcomes.{Written, Arrives, Closes, isChange, levelling-quiet, by-call}
+use Rattle.rules.proofs.Outcomes.{Written, Arrives, Closes, levelling-quiet, by-call}
+use Rattle.rules.proofs.Tally.{isChange, raised-new, other-noted}
 
 -- arrivals are closings and the jobs standing together
 abbrev Balanced : Tally → Board → Type 0
 Balanced y b = y .arrivals ≡ y .closings + standing b
-
--- a raised tally without a 9 is the new one
-raised-new : (old new : Tally) → (raised old new) .refusal ≡ none → (raised old new) .tally ≡ new
-raised-new old new = go (countsFit new)
-  where
-    go : (z : Bool) → (cond {A = Noted} z (record { tally = new; refusal = none }) (record { tally = old; refusal = some countFull })) .refusal ≡ none → (cond {A = Noted} z (record { tally = new; refusal = none }) (record { tally = old; refusal = some countFull })) .tally ≡ new
-    go true e = refl
-    go false e = absurd (Option·some-ne-none countFull e)
-
--- an answer that reports no change is not counted
-quiet-count : (y : Tally) (a : Answer) → isChange a ≡ false → (noted y a) .tally ≡ y
-unfolding noted
-quiet-count y (arrived holder rose moved) e = absurd (false≢true (sym e))
-quiet-count y (closed fell moved) e = absurd (false≢true (sym e))
-quiet-count y (refused r) e = refl
-quiet-count y blanked e = refl
-quiet-count y (loadIs n) e = refl
-quiet-count y (heaviestIs n) e = refl
-quiet-count y (tightSetIs benches inside) e = refl
-quiet-count y isSound e = refl
-quiet-count y levelYes e = refl
-quiet-count y levelNo e = refl
-quiet-count y (levelled paths) e = refl
-quiet-count y (stopped paths) e = refl
 
 -- a job that comes or goes, as the number of standing jobs sees it
 standing-written : (b : Board) (j : ℕ) (names : List ℕ) (d : Board) → T (within 1 (length (b .named)) j) → d .named ≡ change (b .named) j names → standing d + bit (stands b j) ≡ standing b + bit (not (empty names))
@@ -98,7 +75,7 @@ module _ (t : List ℕ) (s : T (sound t)) where
   keeps-quiet : (o : Outcome) (a : Answer) (d : Board) → o .answer ≡ a → Written (o .table) d → isChange a ≡ false → d .named ≡ (decode t) .named → Keeps t o
   keeps-quiet o a d e w q n =
       keeps-as t o a d e w
-      (λ y b m. subst (λ (u : Tally). Balanced u d) (sym (quiet-count y a q)) (b ∙ ap (λ (named : List (List ℕ)). y .closings + length (keep (λ l. not (empty l)) named)) (sym n)))
+      (λ y b m. subst (λ (u : Tally). Balanced u d) (sym (ap (λ (n : Noted). n .tally) (other-noted y a q))) (b ∙ ap (λ (named : List (List ℕ)). y .closings + length (keep (λ l. not (empty l)) named)) (sym n)))
 
   keeps : (c : Call) → Keeps t (outcome c t)
   keeps =

@@ -59,6 +59,10 @@ Shares [] (h ∷ holders) = ⊥
 Shares (names ∷ named) [] = ⊥
 Shares (names ∷ named) (h ∷ holders) = T (mayHold names h) × Shares named holders
 
+-- the same jobs, held otherwise
+abbrev pub heldBy : Board → List ℕ → Board
+heldBy b holders = record { benches = b .benches; named = b .named; holders = holders }
+
 -- different benches of 1 to B
 abbrev pub namesFit : ℕ → List ℕ → Bool
 namesFit benches names = all (within 1 benches) names && different names

@@ -1,16 +1,15 @@
 -- 01, "The job book": what is kept beside the board, a list of calls, and what demand 3 claims of it.
-use Prim.Native.Nat.{ℕ, suc, _≤_}
+use Prim.Native.Nat.{ℕ, _≤_}
 use mathlib.Core.Path.{_≡_}
-use mathlib.Core.Logic.{_≢_}
 use mathlib.Core.Bool.{Bool, true, false}
-use mathlib.Core.List.{List, [], _∷_}
+use mathlib.Core.List.{List, [], _∷_, map}
 use lib.ListN.{replicate}
 use Rattle.rules.specs.Lists.{change}
-use Rattle.rules.specs.Board.{Board, load, excess, Shares}
+use Rattle.rules.specs.Board.{Board, excess, Shares}
 use Rattle.rules.specs.Table.{lengthFor, sizesFit, sound, decode, blankTable}
 use Rattle.rules.specs.Sharing.{level}
-use Rattle.rules.specs.Answers.{Answer, Outcome, isRefused}
-use Rattle.rules.specs.Answers.{refused, blanked, arrived, closed, loadIs, heaviestIs, tightSetIs, isSound, levelYes, levelNo, levelled, stopped}
+use Rattle.rules.specs.Demand2.{OneMore}
+use Rattle.rules.specs.Answers.{Answer, Outcome, isRefused, arrived, closed}
 use Rattle.rules.specs.Calls.{Call, outcome, arrival, closing, levelling, loadOf, heaviestLoad, tightSetOf, formCheck, levelCheck}
 
 -- "For each job number it has nothing, or the benches the job names, in their order"
@@ -31,11 +30,15 @@ entered (tightSetOf h list) r k = k
 entered formCheck r k = k
 entered levelCheck r k = k
 
--- the book after a list of calls with their outcomes
-abbrev pub bookAfter : Book → List Call → List Outcome → Book
-bookAfter k [] os = k
+-- the book after a list of calls, fed for each whether it was refused
+abbrev pub bookAfter : Book → List Call → List Bool → Book
+bookAfter k [] rs = k
 bookAfter k (c ∷ cs) [] = k
-bookAfter k (c ∷ cs) (o ∷ os) = bookAfter (entered c (isRefused (o .answer)) k) cs os
+bookAfter k (c ∷ cs) (r ∷ rs) = bookAfter (entered c r k) cs rs
+
+-- whether each call was refused
+abbrev pub refusedEach : List Outcome → List Bool
+refusedEach os = map (λ o. isRefused (o .answer)) os
 
 -- each call gets the table as the last one left it
 abbrev pub run : List ℕ → List Call → List Outcome
@@ -47,32 +50,24 @@ abbrev pub tableAfter : List ℕ → List Outcome → List ℕ
 tableAfter t [] = t
 tableAfter t (o ∷ os) = tableAfter (o .table) os
 
--- the loads of benches 1 to B are the same but for bench x, whose load is one more in `more`
-pub record OneMore (benches : ℕ) (less more : List ℕ) (x : ℕ) : Type 0 where
-  pub positive : 1 ≤ x
-  pub bench : x ≤ benches
-  pub here : load more x ≡ suc (load less x)
-  pub elsewhere : (y : ℕ) → 1 ≤ y → y ≤ benches → y ≢ x → load more y ≡ load less y
+-- "each accepted arrival or closing changes one bench's load by one", the one that its answer says
+abbrev pub OneLoad : Call → Answer → Board → Board → Type 0
+OneLoad (arrival j x y) a before after =
+    isRefused a ≡ false → (holder : ℕ) × (rose : ℕ) × (moved : ℕ) × (a ≡ arrived holder rose moved) × OneMore (before .benches) (before .holders) (after .holders) rose
+OneLoad (closing j) a before after =
+    isRefused a ≡ false → (fell : ℕ) × (moved : ℕ) × (a ≡ closed fell moved) × OneMore (before .benches) (after .holders) (before .holders) fell
+OneLoad (levelling allowance) a before after = Unit {0}
+OneLoad (loadOf x) a before after = Unit {0}
+OneLoad heaviestLoad a before after = Unit {0}
+OneLoad (tightSetOf h list) a before after = Unit {0}
+OneLoad formCheck a before after = Unit {0}
+OneLoad levelCheck a before after = Unit {0}
 
--- "each accepted arrival or closing changes one bench's load by one", the one that its result says
-abbrev pub OneLoad : Answer → Board → Board → Type 0
-OneLoad (arrived holder rose moved) before after = OneMore (before .benches) (before .holders) (after .holders) rose
-OneLoad (closed fell moved) before after = OneMore (before .benches) (after .holders) (before .holders) fell
-OneLoad (refused r) before after = Unit {0}
-OneLoad blanked before after = Unit {0}
-OneLoad (loadIs n) before after = Unit {0}
-OneLoad (heaviestIs n) before after = Unit {0}
-OneLoad (tightSetIs benches inside) before after = Unit {0}
-OneLoad isSound before after = Unit {0}
-OneLoad levelYes before after = Unit {0}
-OneLoad levelNo before after = Unit {0}
-OneLoad (levelled paths) before after = Unit {0}
-OneLoad (stopped paths) before after = Unit {0}
-
--- so along the outcomes, each from the table that the last one left
-abbrev pub OneLoadEach : List ℕ → List Outcome → Type 0
-OneLoadEach t [] = Unit {0}
-OneLoadEach t (o ∷ os) = OneLoad (o .answer) (decode t) (decode (o .table)) × OneLoadEach (o .table) os
+-- so along the calls with their outcomes, each from the table that the last one left
+abbrev pub OneLoadEach : List ℕ → List Call → List Outcome → Type 0
+OneLoadEach t [] os = Unit {0}
+OneLoadEach t (c ∷ cs) [] = Unit {0}
+OneLoadEach t (c ∷ cs) (o ∷ os) = OneLoad c (o .answer) (decode t) (decode (o .table)) × OneLoadEach (o .table) cs os
 
 -- the outcomes are those that `Does` allows, each call on the table that the last one left
 abbrev pub Runs : (Call → List ℕ → Outcome → Type 0) → List ℕ → List Call → List Outcome → Type 0
@@ -93,14 +88,15 @@ pub data Start : List ℕ → Book → Type 0 where
 
 -- what demand 3 claims of a whole list of calls cs with outcomes os, from a start t whose book is k
 pub record Claim (t : List ℕ) (k : Book) (cs : List Call) (os : List Outcome) : Type 0 where
-  -- the standing jobs and the benches they name are the book's
-  pub book : (decode (tableAfter t os)) .named ≡ bookAfter k cs os
+  -- the benches stay, and the standing jobs and the benches they name are the book's
+  pub benches : (decode (tableAfter t os)) .benches ≡ (decode t) .benches
+  pub book : (decode (tableAfter t os)) .named ≡ bookAfter k cs (refusedEach os)
   -- the holder words are a sharing of the book's jobs
-  pub shares : Shares (bookAfter k cs os) ((decode (tableAfter t os)) .holders)
+  pub shares : Shares (bookAfter k cs (refusedEach os)) ((decode (tableAfter t os)) .holders)
   -- above every height the overhang is least among all sharings of the book's jobs
-  pub least : (h : ℕ) (holders : List ℕ) → Shares (bookAfter k cs os) holders → excess ((decode t) .benches) ((decode (tableAfter t os)) .holders) h ≤ excess ((decode t) .benches) holders h
+  pub least : (h : ℕ) (holders : List ℕ) → Shares (bookAfter k cs (refusedEach os)) holders → excess ((decode t) .benches) ((decode (tableAfter t os)) .holders) h ≤ excess ((decode t) .benches) holders h
   -- each accepted arrival or closing changes one bench's load by one
-  pub oneLoad : OneLoadEach t os
+  pub oneLoad : OneLoadEach t cs os
   -- every call is answered as defined
   pub answered : Runs AsDefined t cs os
 

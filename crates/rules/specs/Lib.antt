@@ -4,7 +4,7 @@ pub mod Board
 pub mod Table
 pub mod Paths
 pub mod Sharing
-pub mod Least
+pub mod Demand2
 pub mod Answers
 pub mod Calls
 pub mod JobBook
