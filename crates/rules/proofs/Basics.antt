@@ -383,10 +383,18 @@ keep-different p (x ∷ l) t = go (p x) (keep-different p l (different-tail x l 
     go true u = both (not (member x (keep p l))) (different (keep p l)) (not-member x (keep p l) (λ i. different-head x l t (keep-in p x l i .0))) u
     go false u = u
 
--- what is kept is the list of its own elements, in the order of the list
+-- an element of the list stands in what is kept exactly if it passes the test ..
+member-keep : (p : ℕ → Bool) (l : List ℕ) (x : ℕ) → In x l → member x (keep p l) ≡ p x
+member-keep p l x i =
+    tests-same (member x (keep p l)) (p x) (λ t. keep-in p x l (member-in x (keep p l) t) .1, λ t. in-member x (keep p l) (in-keep p x l i t))
+
+-- .. so what is kept is the list of its own elements, in the order of the list
 pub keep-own : (p : ℕ → Bool) (l : List ℕ) → keep p l ≡ keep (λ x. member x (keep p l)) l
-keep-own p l =
-    keep-same p (λ x. member x (keep p l)) l (λ x i. tests-same (p x) (member x (keep p l)) (λ t. in-member x (keep p l) (in-keep p x l i t), λ t. keep-in p x l (member-in x (keep p l) t) .1))
+keep-own p l = keep-same p (λ x. member x (keep p l)) l (λ x i. sym (member-keep p l x i))
+
+-- a number of 1 to n stands in the list of the marked ones exactly if it is marked
+pub member-marked : (n : ℕ) (mark : ℕ → Bool) (x : ℕ) → T (within 1 n x) → member x (keep mark (rising 1 n)) ≡ mark x
+member-marked n mark x t = member-keep mark (rising 1 n) x (bench-listed n x t)
 
 pub rising-different : (i n : ℕ) → T (different (rising i n))
 rising-different i zero = tt

@@ -6,12 +6,13 @@ use mathlib.Core.Path.{_≡_, refl, sym, ap, subst, _∙_}
 use mathlib.Core.Logic.{inl, inr, _≢_}
 use mathlib.Core.Bool.{_||_}
 use mathlib.Core.List.{List, [], _∷_}
-use lib.Dec.{T, eqb}
+use lib.Dec.{T, eqb, leb}
 use lib.ListN.{length}
 use Rattle.rules.specs.Lists.{within, different, dictionary, Each, In, empty}
 use Rattle.rules.specs.Board.{Board, Valid, namesOf, holderOf}
 use Rattle.rules.specs.Paths.{Step, steps, endOf, Walk}
-use Rattle.rules.proofs.Basics.{T-eqb, each-nth}
+use Rattle.rules.specs.Table.{Storable}
+use Rattle.rules.proofs.Basics.{T-eqb, T-leb, leb-T, each-in, in-each, each-nth}
 use Rattle.rules.proofs.Paths.{shares-nth, held-named, step-is, benchesOf, jobsOf}
 use Rattle.rules.proofs.Choice.{dictionary-lower, dictionary-same}
 use Rattle.rules.proofs.Walks.{fewest-once}
@@ -35,17 +36,16 @@ module _ (benches : ℕ) (out : ℕ → List Step) where
   abbrev pub Nearer : (ℕ → ℕ) → ℕ → Step → Type 0
   Nearer d x s = In s (out x) × (1 ≤ d (s .to)) × (d x ≡ suc (d (s .to)))
 
-  -- the jobs of a route are the smallest that lead nearer, where the route may stand at any of the benches `At`: a job that names
-  -- several others may lead to several that are equally near, and the next job is the smallest over all of them
+  -- the benches behind job j: those to which it leads nearer from one of the benches `At`. A job that names several others may lead to
+  -- several that are equally near
+  abbrev pub Next : (ℕ → ℕ) → (ℕ → Type 0) → ℕ → ℕ → Type 0
+  Next d At j z = (y : ℕ) × (q : Step) × At y × Nearer d y q × (q .job ≡ j) × (q .to ≡ z)
+
+  -- where the route may stand at any of the benches `At`, no job that leads nearer from one of them is smaller than the route's. That the
+  -- route itself goes nearer is not said here, but by `Walk` and its length
   abbrev pub Smallest : (ℕ → ℕ) → (ℕ → Type 0) → List Step → Type 0
   Smallest d At [] = Unit {0}
-  Smallest d At (s ∷ r) =
-      ((y : ℕ) (q : Step) → At y → Nearer d y q → s .job ≤ q .job)
-      × Smallest d (λ z. (y : ℕ) × (q : Step) × At y × Nearer d y q × (q .job ≡ s .job) × (q .to ≡ z)) r
-
-  -- the benches behind step s there: those to which its job leads nearer from one of `At`
-  abbrev Next : (ℕ → ℕ) → (ℕ → Type 0) → Step → ℕ → Type 0
-  Next d At s z = (y : ℕ) × (q : Step) × At y × Nearer d y q × (q .job ≡ s .job) × (q .to ≡ z)
+  Smallest d At (s ∷ r) = ((y : ℕ) (q : Step) → At y → Nearer d y q → s .job ≤ q .job) × Smallest d (Next d At (s .job)) r
 
   -- the greedy route: each step goes nearer, by the smallest job that does
   abbrev pub Greedy : (ℕ → ℕ) → ℕ → List Step → Type 0
@@ -105,12 +105,12 @@ module _ (benches : ℕ) (out : ℕ → List Step) where
     smallest-first At [] q y far g a w e l = tt
     smallest-first At (s ∷ r) [] y far g a w e l = absurd (omega arith)
     smallest-first At (s ∷ r) (p ∷ q) y far g a w e l =
-        go (decLt (s .job) (p .job)) (λ f. smallest-first (Next d At s) r q (p .to) next (g .1) (y, p, a, near, f, refl) (w .1) e (omega arith))
+        go (decLt (s .job) (p .job)) (λ f. smallest-first (Next d At (s .job)) r q (p .to) next (g .1) (y, p, a, near, f, refl) (w .1) e (omega arith))
       where
         near : Nearer d y p
         near = let n = falls y p q (far y a .0) w e (omega (arith, far y a .1)) in (w .0, omega arith, omega (arith, far y a .1))
 
-        next : (z : ℕ) → Next d At s z → T (within 1 benches z) × (d z ≡ suc (length r))
+        next : (z : ℕ) → Next d At (s .job) z → T (within 1 benches z) × (d z ≡ suc (length r))
         next z (y, q, a, n, f, k) = (subst (λ (z : ℕ). T (within 1 benches z)) k (stays y q (n .0)), omega (arith, ap d k, n .2, far y a .1))
 
         go : Dec (s .job < p .job) → (p .job ≡ s .job → T (dictionary (jobsOf r) (jobsOf q))) → T (dictionary (jobsOf (s ∷ r)) (jobsOf (p ∷ q)))
@@ -123,9 +123,9 @@ module _ (benches : ℕ) (out : ℕ → List Step) where
     own-smallest : OneOther → (At : ℕ → Type 0) (x : ℕ) (r : List Step) → ((y : ℕ) → At y → y ≡ x) → Greedy d x r → Smallest d At r
     own-smallest one At x [] own g = tt
     own-smallest one At x (s ∷ r) own g =
-        (λ y q a n. g .1 q (subst (λ (z : ℕ). Nearer d z q) (own y a) n), own-smallest one (Next d At s) (s .to) r next (g .2))
+        (λ y q a n. g .1 q (subst (λ (z : ℕ). Nearer d z q) (own y a) n), own-smallest one (Next d At (s .job)) (s .to) r next (g .2))
       where
-        next : (z : ℕ) → Next d At s z → z ≡ s .to
+        next : (z : ℕ) → Next d At (s .job) z → z ≡ s .to
         next z (y, q, a, n, e, f) = sym f ∙ one x q s (subst (λ (z : ℕ). In q (out z)) (own y a) (n .0)) (g .0 .0) e
 
     -- where a job leads to one bench only, the greedy route stands at one bench
@@ -149,19 +149,33 @@ two-sum a c x y (inr (inl e)) (inr (inl f)) n = omega arith
 two-sum a c x y (inr (inl e)) (inr (inr j)) n = absurd j
 two-sum a c x y (inr (inr i)) j n = absurd i
 
--- a job that names two benches has one other than x
-one-other : (names : List ℕ) (x y z : ℕ) → T (empty names || eqb (length names) 2) → In x names → In y names → In z names → y ≢ x → z ≢ x → y ≡ z
+-- a job that names at most two benches has at most one other than x
+one-other : (names : List ℕ) (x y z : ℕ) → T (leb (length names) 2) → In x names → In y names → In z names → y ≢ x → z ≢ x → y ≡ z
 one-other [] x y z t i j k n m = absurd i
-one-other (a ∷ []) x y z t i j k n m = absurd t
+one-other (a ∷ []) x y z t (inl e) (inl f) k n m = absurd (n (f ∙ sym e))
+one-other (a ∷ []) x y z t (inl e) (inr j) k n m = absurd j
+one-other (a ∷ []) x y z t (inr i) j k n m = absurd i
 one-other (a ∷ c ∷ []) x y z t i j k n m = omega (arith, two-sum a c x y i j n, two-sum a c x z i k m)
-one-other (a ∷ c ∷ e ∷ l) x y z t i j k n m = omega (arith, T-eqb (length (a ∷ c ∷ e ∷ l)) 2 t)
+one-other (a ∷ c ∷ e ∷ l) x y z t i j k n m = omega (arith, T-leb (length (a ∷ c ∷ e ∷ l)) 2 t)
 
--- a board whose jobs name two benches each
-pub pairs-one-other : (b : Board) → Valid b → Each (λ names. T (empty names || eqb (length names) 2)) (b .named) → OneOther (b .benches) (steps b)
+-- on a board whose jobs name at most two benches each, a job leads to one bench only ..
+pub pairs-one-other : (b : Board) → Valid b → Each (λ names. T (leb (length names) 2)) (b .named) → OneOther (b .benches) (steps b)
 pairs-one-other b v p x s q i j e =
     let k = step-is b x s i in
     let m = step-is b x q j in
     let names = namesOf b (s .job) in
-    let two : T (empty names || eqb (length names) 2) = each-nth (λ names. T (empty names || eqb (length names) 2)) (b .named) (s .job) [] tt p in
+    let two : T (leb (length names) 2) = each-nth (λ names. T (leb (length names) 2)) (b .named) (s .job) [] tt p in
     let held = held-named names (holderOf b (s .job)) (s .to) (k .1) (shares-nth b v (s .job)) in
     one-other names x (s .to) (q .to) two (subst (λ (h : ℕ). In h names) (k .0) held) (k .1) (subst (λ (j : ℕ). In (q .to) (namesOf b j)) (sym e) (m .1)) (k .2) (m .2)
+
+-- .. so on every board that a table can hold
+pub storable-one-other : (b : Board) → Storable b → OneOther (b .benches) (steps b)
+storable-one-other b k =
+    pairs-one-other b (k .valid) (in-each (λ names. T (leb (length names) 2)) (b .named) (λ names i. two names (each-in Pair names (b .named) (k .pairs) i)))
+  where
+    Pair : List ℕ → Type 0
+    Pair names = T (empty names || eqb (length names) 2)
+
+    two : (names : List ℕ) → Pair names → T (leb (length names) 2)
+    two [] t = tt
+    two (x ∷ names) t = leb-T (length (x ∷ names)) 2 (omega (arith, T-eqb (length (x ∷ names)) 2 t))

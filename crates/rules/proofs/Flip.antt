@@ -124,18 +124,23 @@ module _ (b : Board) (v : Valid b) (p : BenchPath) (h : IsPath b p) where
       may : (s : Step) → In s (p .route) → T (mayHold (namesOf b (s .job)) (s .to))
       may s i = let w = path-step s i in named-may (namesOf b (s .job)) (s .to) ((step-is b (w .0) s (w .1)) .1)
 
-  -- every job of the path changes its holder ..
-  pub flip-moves : (i : ℕ) → In i (jobs p) → holderOf (flip b p) i ≢ holderOf b i
+  -- a job of the path goes where its step leads ..
+  pub flip-gives : (s : Step) → In s (p .route) → holderOf (flip b p) (s .job) ≡ s .to
   unfolding flip
+  flip-gives s i =
+      let w = path-step s i in
+      let t = step-within b v (w .0) s (w .1) in
+      let n = length (b .holders) in
+      handOver-gives (b .holders) (p .route) s i path-jobs (within-low 1 n (s .job) t) (within-high 1 n (s .job) t)
+
+  -- .. so it changes its holder ..
+  pub flip-moves : (i : ℕ) → In i (jobs p) → holderOf (flip b p) i ≢ holderOf b i
   flip-moves i k e =
       let m = map-in (λ (s : Step). s .job) i (p .route) k in
       let s = m .0 in
       let w = path-step s (m .1) in
-      let t = step-within b v (w .0) s (w .1) in
-      let n = length (b .holders) in
       let is = step-is b (w .0) s (w .1) in
-      let gives = handOver-gives (b .holders) (p .route) s (m .1) path-jobs (within-low 1 n (s .job) t) (within-high 1 n (s .job) t) in
-      is .2 (sym gives ∙ (rw (m .2) at e) ∙ is .0)
+      is .2 (sym (flip-gives s (m .1)) ∙ (rw (m .2) at e) ∙ is .0)
 
   -- .. and no other job does
   pub flip-keeps : (i : ℕ) → (In i (jobs p) → ⊥) → holderOf (flip b p) i ≡ holderOf b i

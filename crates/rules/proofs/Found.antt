@@ -1,7 +1,7 @@
 -- What a search finds is what the rules name: distances, the end bench by the rule's order, and the first list, give the chosen path.
 use Prim.Native.Nat.{ℕ, suc, _+_, _≤_, _<_}
 use native.Mathlib.Omega.{arith}
-use native.Mathlib.Decide.{decLt}
+use native.Mathlib.Decide.{decLt, decLe}
 use mathlib.Core.Path.{_≡_, sym, ap, subst, _∙_}
 use mathlib.Core.Logic.{_⊎_, inl, inr, _↔_}
 use mathlib.Core.List.{List, _∷_}
@@ -15,7 +15,7 @@ use Rattle.rules.specs.Sharing.{arrivalKey, closingKey, arrivalChoice, c
 use Rattle.rules.proofs.Basics.{T→true, in-empty}
 use Rattle.rules.proofs.Paths.{benchesOf, jobsOf, improvingFrom-only, improvingFrom-every, improves-loads, loads-improve, improves-start, improving-only, improving-every, improvingTo-only, improvingTo-every, level-exact}
 use Rattle.rules.proofs.Choice.{least-empty, ArrivalFirst, ClosingFirst, LevellingFirst, First, arrival-choice, closing-choice, levelling-choice}
-use Rattle.rules.proofs.Walks.{Reach, reach-join, fewest-once, path-reach, reach-bench, level-reach}
+use Rattle.rules.proofs.Walks.{Reach, reach-more, reach-all, fewest-once, path-reach, reach-bench, level-reach}
 use Rattle.rules.proofs.Distances.{To, Away}
 
 -- r is a walk from x to y with d - 1 steps, and its list of jobs is the first among the walks with so many
@@ -37,6 +37,32 @@ by-length {A} {E} {D} m n r k y z s t d (inr (e, inr (h, l))) = inr (e, go (decL
     go (no i) (no j) = inr (omega arith, inr (omega arith, d (omega arith) (omega arith)))
 
 module _ (b : Board) where
+  -- y is a bench where an improving path from x may end: f are the distances from x
+  pub record Lower (x : ℕ) (f : ℕ → ℕ) (y : ℕ) : Type 0 where
+    pub bench : T (within 1 (b .benches) y)
+    pub reached : 1 ≤ f y
+    pub lower : load (b .holders) y + 2 ≤ load (b .holders) x
+
+  -- "lowest last load, then fewest jobs, then lowest last bench"
+  pub record ArrivalEnd (x : ℕ) (f : ℕ → ℕ) (y : ℕ) : Type 0 where
+    pub is : Lower x f y
+    pub first : (z : ℕ) → Lower x f z → (load (b .holders) y < load (b .holders) z) ⊎ ((load (b .holders) y ≡ load (b .holders) z) × ((f y < f z) ⊎ ((f y ≡ f z) × (y ≤ z))))
+
+  -- z is a bench where an improving path to x may start: d are the distances to x
+  pub record Higher (x : ℕ) (d : ℕ → ℕ) (z : ℕ) : Type 0 where
+    pub bench : T (within 1 (b .benches) z)
+    pub reaches : 1 ≤ d z
+    pub higher : load (b .holders) x + 2 ≤ load (b .holders) z
+
+  -- "greatest first load, then fewest jobs, lowest first bench"
+  pub record ClosingStart (x : ℕ) (d : ℕ → ℕ) (z : ℕ) : Type 0 where
+    pub is : Higher x d z
+    pub first : (w : ℕ) → Higher x d w → (load (b .holders) w < load (b .holders) z) ⊎ ((load (b .holders) z ≡ load (b .holders) w) × ((d z < d w) ⊎ ((d z ≡ d w) × (z ≤ w))))
+
+  -- bench x starts an improving path
+  abbrev pub StartsOne : ℕ → Type 0
+  StartsOne x = (y : ℕ) × Reach (steps b) x y × (load (b .holders) y + 2 ≤ load (b .holders) x)
+
   -- the steps of a path from x are a walk from x with the same end
   walk-from : (x : ℕ) (q : BenchPath) → IsPath b q → q .start ≡ x → Walk (steps b) x (q .route) × (endOf x (q .route) ≡ last q)
   walk-from x q h s = (subst (λ (z : ℕ). Walk (steps b) z (q .route)) s (h .walk), ap (λ (z : ℕ). endOf z (q .route)) (sym s))
@@ -52,19 +78,8 @@ module _ (b : Board) where
   first-jobs x y d r l q h s e n = let w = walk-from x q h s in l .first (q .route) (w .0) (w .1 ∙ e) (sym n)
 
 module _ (b : Board) (v : Valid b) where
-  -- y is a bench where an improving path from x may end: f are the distances from x
-  pub record Lower (x : ℕ) (f : ℕ → ℕ) (y : ℕ) : Type 0 where
-    pub bench : T (within 1 (b .benches) y)
-    pub reached : 1 ≤ f y
-    pub lower : load (b .holders) y + 2 ≤ load (b .holders) x
-
-  -- "lowest last load, then fewest jobs, then lowest last bench"
-  pub record ArrivalEnd (x : ℕ) (f : ℕ → ℕ) (y : ℕ) : Type 0 where
-    pub is : Lower x f y
-    pub first : (z : ℕ) → Lower x f z → (load (b .holders) y < load (b .holders) z) ⊎ ((load (b .holders) y ≡ load (b .holders) z) × ((f y < f z) ⊎ ((f y ≡ f z) × (y ≤ z))))
-
-  -- an improving path from x ends there
-  lower-end : (x : ℕ) (f : ℕ → ℕ) → Away (b .benches) (steps b) x f → (q : BenchPath) → In q (improvingFrom b x) → Lower x f (last q) × (f (last q) ≤ suc (length (q .route)))
+  -- an improving path from x ends at a bench where one may end, and is no shorter than its distance
+  lower-end : (x : ℕ) (f : ℕ → ℕ) → Away (b .benches) (steps b) x f → (q : BenchPath) → In q (improvingFrom b x) → Lower b x f (last q) × (f (last q) ≤ suc (length (q .route)))
   lower-end x f a q i =
       let h = improvingFrom-only b x q i in
       let w = reach-bench b v (q .start) (last q) (improves-start b v q (h .0) (h .2)) (path-reach b q (h .0)) in
@@ -72,8 +87,8 @@ module _ (b : Board) (v : Valid b) where
       let s = a .short (last q) (q .route) w (u .0) (u .1) in
       (record { bench = w; reached = s .0; lower = omega (arith, improves-loads b q (h .2), ap (load (b .holders)) (h .1)) }, s .1)
 
-  -- an arrival at x chooses the first list to that end ..
-  pub arrival-found : (x y : ℕ) (f : ℕ → ℕ) (r : List Step) → Away (b .benches) (steps b) x f → ArrivalEnd x f y → FirstList b x y (f y) r → arrivalChoice b x ≡ some (pathBy x r)
+  -- an arrival at x chooses the first list to the end bench by the rule's order ..
+  pub arrival-found : (x y : ℕ) (f : ℕ → ℕ) (r : List Step) → Away (b .benches) (steps b) x f → ArrivalEnd b x f y → FirstList b x y (f y) r → arrivalChoice b x ≡ some (pathBy x r)
   arrival-found x y f r a e l = (arrival-choice b x (pathBy x r)) .1 (record { listed-is = listed; before = before })
     where
       path : IsPath b (pathBy x r)
@@ -92,30 +107,19 @@ module _ (b : Board) (v : Valid b) where
           (e .first (last q) (z .0)))
 
   -- .. and nothing where there is none
-  pub arrival-not-found : (x : ℕ) (f : ℕ → ℕ) → Away (b .benches) (steps b) x f → ((z : ℕ) → Lower x f z → ⊥) → arrivalChoice b x ≡ none
+  pub arrival-not-found : (x : ℕ) (f : ℕ → ℕ) → Away (b .benches) (steps b) x f → ((z : ℕ) → Lower b x f z → ⊥) → arrivalChoice b x ≡ none
   unfolding arrivalChoice
   arrival-not-found x f a n = least-empty (arrivalKey b) (improvingFrom b x) (in-empty (improvingFrom b x) (λ q i. n (last q) (lower-end x f a q i .0)))
 
-  -- z is a bench where an improving path to x may start: d are the distances to x
-  pub record Higher (x : ℕ) (d : ℕ → ℕ) (z : ℕ) : Type 0 where
-    pub bench : T (within 1 (b .benches) z)
-    pub reaches : 1 ≤ d z
-    pub higher : load (b .holders) x + 2 ≤ load (b .holders) z
-
-  -- "greatest first load, then fewest jobs, lowest first bench"
-  pub record ClosingStart (x : ℕ) (d : ℕ → ℕ) (z : ℕ) : Type 0 where
-    pub is : Higher x d z
-    pub first : (w : ℕ) → Higher x d w → (load (b .holders) w < load (b .holders) z) ⊎ ((load (b .holders) z ≡ load (b .holders) w) × ((d z < d w) ⊎ ((d z ≡ d w) × (z ≤ w))))
-
-  -- an improving path to x starts there
-  higher-start : (x : ℕ) (d : ℕ → ℕ) → To (b .benches) (steps b) x d → (q : BenchPath) → In q (improvingTo b x) → Higher x d (q .start) × (d (q .start) ≤ suc (length (q .route)))
+  -- an improving path to x starts at a bench where one may start, and is no shorter than its distance
+  higher-start : (x : ℕ) (d : ℕ → ℕ) → To (b .benches) (steps b) x d → (q : BenchPath) → In q (improvingTo b x) → Higher b x d (q .start) × (d (q .start) ≤ suc (length (q .route)))
   higher-start x d t q i =
       let h = improvingTo-only b x q i in
       let s = t .short (q .start) (q .route) (h .1) (h .0 .walk) (h .2) in
       (record { bench = h .1; reaches = s .0; higher = omega (arith, improves-loads b q (h .3), ap (load (b .holders)) (h .2)) }, s .1)
 
-  -- a closing at x chooses the first list from that start ..
-  pub closing-found : (x z : ℕ) (d : ℕ → ℕ) (r : List Step) → To (b .benches) (steps b) x d → ClosingStart x d z → FirstList b z x (d z) r → closingChoice b x ≡ some (pathBy z r)
+  -- a closing at x: one search to x, the first bench by the rule's order, and the first list from there are the choice ..
+  pub closing-found : (x z : ℕ) (d : ℕ → ℕ) (r : List Step) → To (b .benches) (steps b) x d → ClosingStart b x d z → FirstList b z x (d z) r → closingChoice b x ≡ some (pathBy z r)
   closing-found x z d r t s l = (closing-choice b x (pathBy z r)) .1 (record { listed-is = listed; before = before })
     where
       path : IsPath b (pathBy z r)
@@ -135,22 +139,18 @@ module _ (b : Board) (v : Valid b) where
           (s .first (q .start) (w .0))
 
   -- .. and nothing where there is none
-  pub closing-not-found : (x : ℕ) (d : ℕ → ℕ) → To (b .benches) (steps b) x d → ((z : ℕ) → Higher x d z → ⊥) → closingChoice b x ≡ none
+  pub closing-not-found : (x : ℕ) (d : ℕ → ℕ) → To (b .benches) (steps b) x d → ((z : ℕ) → Higher b x d z → ⊥) → closingChoice b x ≡ none
   unfolding closingChoice
   closing-not-found x d t n = least-empty (closingKey b) (improvingTo b x) (in-empty (improvingTo b x) (λ q i. n (q .start) (higher-start x d t q i .0)))
 
-  -- bench x starts an improving path
-  abbrev pub StartsOne : ℕ → Type 0
-  StartsOne x = (y : ℕ) × Reach (steps b) x y × (load (b .holders) y + 2 ≤ load (b .holders) x)
-
   -- a board is level exactly if no bench starts an improving path
-  pub level-starts : T (level b) ↔ ((x : ℕ) → T (within 1 (b .benches) x) → StartsOne x → ⊥)
+  pub level-starts : T (level b) ↔ ((x : ℕ) → T (within 1 (b .benches) x) → StartsOne b x → ⊥)
   level-starts =
       (λ l x t s. omega (arith, s .2, (level-reach b v) .0 l x (s .0) (s .1)), λ f. (level-exact b v) .1 (λ p h t. f (p .start) (improves-start b v p h t) (last p, path-reach b p h, improves-loads b p t)))
 
   -- levelling turns what an arrival at z would, if z has the greatest load and then the lowest number among those that start one;
   -- where no bench starts one the board is level, and it turns none (level-choice)
-  pub levelling-found : (z : ℕ) (p : BenchPath) → arrivalChoice b z ≡ some p → ((w : ℕ) → T (within 1 (b .benches) w) → StartsOne w → (load (b .holders) w < load (b .holders) z) ⊎ ((load (b .holders) z ≡ load (b .holders) w) × (z ≤ w))) → levellingChoice b ≡ some p
+  pub levelling-found : (z : ℕ) (p : BenchPath) → arrivalChoice b z ≡ some p → ((w : ℕ) → T (within 1 (b .benches) w) → StartsOne b w → (load (b .holders) w < load (b .holders) z) ⊎ ((load (b .holders) z ≡ load (b .holders) w) × (z ≤ w))) → levellingChoice b ≡ some p
   levelling-found z p e first = (levelling-choice b p) .1 (record { listed-is = improving-every b v p (h .0) (h .2); before = before })
     where
       chosen : First (improvingFrom b z) (ArrivalFirst b) p
@@ -176,6 +176,16 @@ module _ (b : Board) (v : Valid b) where
           go (inl l) = inl (omega (arith, ap (load (b .holders)) (h .1)))
           go (inr (l, m)) = inr (ap (load (b .holders)) (h .1) ∙ l, tie m (decLt (p .start) (q .start)))
 
-  -- a bench that is no heavier than one that reaches it, where that one starts no improving path, starts none either: it need not be searched
-  pub searched : (x y : ℕ) → Reach (steps b) x y → load (b .holders) y ≤ load (b .holders) x → (StartsOne x → ⊥) → StartsOne y → ⊥
-  searched x y w l n s = n (s .0, reach-join (steps b) x y (s .0) w (s .1), omega (arith, s .2))
+module _ (b : Board) where
+  -- marks that every step hands on, all at benches of load k - 1 or more: no marked bench of load k or less starts an improving path
+  pub marked-none : (Marked : ℕ → Type 0) (k : ℕ) → ((z : ℕ) (s : Step) → Marked z → In s (steps b z) → Marked (s .to)) → ((y : ℕ) → Marked y → k ≤ load (b .holders) y + 1) → (w : ℕ) → Marked w → load (b .holders) w ≤ k → StartsOne b w → ⊥
+  marked-none Marked k shut high w m l (y, r, d) = omega (arith, high y (reach-all (steps b) Marked shut w y m r))
+
+  -- so a bench that is no heavier than one that reaches it, where that one starts no improving path, starts none either: it need not be
+  -- searched
+  pub searched : (x y : ℕ) → Reach (steps b) x y → load (b .holders) y ≤ load (b .holders) x → (StartsOne b x → ⊥) → StartsOne b y → ⊥
+  searched x y w l n =
+      marked-none (Reach (steps b) x) (load (b .holders) x) (λ z s r i. reach-more (steps b) x z s r i) high y w l
+    where
+      high : (z : ℕ) → Reach (steps b) x z → load (b .holders) x ≤ load (b .holders) z + 1
+      high z r = elim (decLe (load (b .holders) x) (load (b .holders) z + 1)) [ yes h ↦ h | no h ↦ absurd (n (z, r, omega arith)) ]

@@ -29,6 +29,7 @@ pub mod Levelling
 pub mod Distances
 pub mod Found
 pub mod Search
+pub mod SearchInstance
 pub mod Outcomes
 pub mod Results
 pub mod Demand3

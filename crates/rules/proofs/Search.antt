@@ -1,21 +1,24 @@
 -- What a search has to leave in its array, bench by bench, and that this is enough: the array then holds the distances, and the
--- end bench by the rule's order with the greedy route to it is the path that the rule names.
-use Prim.Native.Nat.{ℕ, zero, suc, _+_, _≤_}
+-- end bench by the rule's order with the first list to it is the path that the rule names.
+use Prim.Native.Nat.{ℕ, zero, suc, _+_, _≤_, _<_}
 use native.Mathlib.Omega.{arith}
 use mathlib.Core.Path.{_≡_, refl, sym, ap, subst, _∙_}
+use mathlib.Core.Logic.{_↔_}
 use mathlib.Core.List.{List, [], _∷_, _++_}
 use mathlib.Core.Option.{some}
 use lib.Dec.{T}
-use lib.ListN.{length}
+use lib.ListN.{length, length-map}
 use Rattle.rules.specs.Lists.{within, In}
-use Rattle.rules.specs.Board.{Board, Valid}
-use Rattle.rules.specs.Paths.{Step, steps, pathBy, endOf, Walk}
+use Rattle.rules.specs.Board.{Board, Valid, holderOf}
+use Rattle.rules.specs.Paths.{Step, stepBy, steps, pathBy, endOf, Walk}
 use Rattle.rules.specs.Sharing.{arrivalChoice, closingChoice}
-use Rattle.rules.proofs.Paths.{step-bench}
-use Rattle.rules.proofs.Distances.{To, Away, Stays, Greedy, Smallest, OneOther, greedy-walk, smallest-first, greedy-smallest}
+use Rattle.rules.proofs.Counting.{different-count, few}
+use Rattle.rules.proofs.Paths.{named-stands, holder-bench, step-is, step-bench, benchesOf, walk-benches}
+use Rattle.rules.proofs.Walks.{fewest-once}
+use Rattle.rules.proofs.Distances.{To, Away, Stays, Nearer, Next, Smallest, Greedy, OneOther, greedy-walk, smallest-first, greedy-smallest}
 use Rattle.rules.proofs.Found.{FirstList, ArrivalEnd, ClosingStart, arrival-found, closing-found}
 
-module _ (benches : ℕ) (out : ℕ → List Step) (stays : Stays benches out) where
+module _ (benches : ℕ) (out : ℕ → List Step) where
   -- numbers away from v: v alone has 1, each higher one comes by a step from one lower, and no step leads from a numbered bench to one
   -- without a number or more than one higher
   pub record NumberedAway (v : ℕ) (f : ℕ → ℕ) : Type 0 where
@@ -24,11 +27,19 @@ module _ (benches : ℕ) (out : ℕ → List Step) (stays : Stays benches out) w
     pub from : (y n : ℕ) → T (within 1 benches y) → f y ≡ suc (suc n) → (z : ℕ) × (s : Step) × T (within 1 benches z) × In s (out z) × (s .to ≡ y) × (f z ≡ suc n)
     pub on : (z : ℕ) (s : Step) → T (within 1 benches z) → 1 ≤ f z → In s (out z) → (1 ≤ f (s .to)) × (f (s .to) ≤ suc (f z))
 
+  -- numbers towards t: the same with the steps taken backwards
+  pub record NumberedTo (t : ℕ) (d : ℕ → ℕ) : Type 0 where
+    pub here : d t ≡ 1
+    pub only : (x : ℕ) → T (within 1 benches x) → d x ≡ 1 → x ≡ t
+    pub from : (x n : ℕ) → T (within 1 benches x) → d x ≡ suc (suc n) → (s : Step) × In s (out x) × (d (s .to) ≡ suc n)
+    pub on : (x : ℕ) (s : Step) → T (within 1 benches x) → In s (out x) → 1 ≤ d (s .to) → (1 ≤ d x) × (d x ≤ suc (d (s .to)))
+
+module _ (benches : ℕ) (out : ℕ → List Step) (stays : Stays benches out) where
   walk-on : (x : ℕ) (r : List Step) (s : Step) → Walk out x r → In s (out (endOf x r)) → Walk out x (r ++ (s ∷ [])) × (endOf x (r ++ (s ∷ [])) ≡ s .to) × (length (r ++ (s ∷ [])) ≡ suc (length r))
   walk-on x [] s w i = ((i, tt), refl, refl)
   walk-on x (q ∷ r) s w i = let h = walk-on (q .to) r s (w .1) i in ((w .0, h .0), h .1, ap suc (h .2))
 
-  module _ (v : ℕ) (f : ℕ → ℕ) (a : NumberedAway v f) where
+  module _ (v : ℕ) (f : ℕ → ℕ) (a : NumberedAway benches out v f) where
     away-walk : (n y : ℕ) → T (within 1 benches y) → f y ≡ suc n → (r : List Step) × Walk out v r × (endOf v r ≡ y) × (length r ≡ n)
     away-walk zero y w e = ([], tt, sym (a .only y w e), refl)
     away-walk (suc n) y w e =
@@ -55,14 +66,7 @@ module _ (benches : ℕ) (out : ℕ → List Step) (stays : Stays benches out) w
               (subst (λ (x : ℕ). 1 ≤ f x) e (h .0), omega (arith, h .1, ap f e, a .here .1));
         }
 
-  -- numbers towards t: the same with the steps taken backwards
-  pub record NumberedTo (t : ℕ) (d : ℕ → ℕ) : Type 0 where
-    pub here : d t ≡ 1
-    pub only : (x : ℕ) → T (within 1 benches x) → d x ≡ 1 → x ≡ t
-    pub from : (x n : ℕ) → T (within 1 benches x) → d x ≡ suc (suc n) → (s : Step) × In s (out x) × (d (s .to) ≡ suc n)
-    pub on : (x : ℕ) (s : Step) → T (within 1 benches x) → In s (out x) → 1 ≤ d (s .to) → (1 ≤ d x) × (d x ≤ suc (d (s .to)))
-
-  module _ (t : ℕ) (d : ℕ → ℕ) (a : NumberedTo t d) where
+  module _ (t : ℕ) (d : ℕ → ℕ) (a : NumberedTo benches out t d) where
     to-walk : (n x : ℕ) → T (within 1 benches x) → d x ≡ suc n → (r : List Step) × Walk out x r × (endOf x r ≡ t) × (length r ≡ n)
     to-walk zero x w e = ([], tt, a .only x w e, refl)
     to-walk (suc n) x w e =
@@ -118,12 +122,59 @@ module _ (b : Board) (v : Valid b) where
           let i = a .walk y m u e in
           omega (arith, (a .short y (h .0) u (h .1) (h .2)) .1, (t .short x (i .0) w (i .1) (i .2)) .1, h .3, i .3)
 
-  -- an arrival: search from x, the end bench y by the rule's order, search to y, the greedy route
-  pub arrival-search : OneOther (b .benches) (steps b) → (x y : ℕ) (f d : ℕ → ℕ) (r : List Step) → T (within 1 (b .benches) x) → Away (b .benches) (steps b) x f → ArrivalEnd b v x f y → To (b .benches) (steps b) y d → d x ≡ suc (length r) → Greedy (b .benches) (steps b) d x r → arrivalChoice b x ≡ some (pathBy x r)
-  arrival-search one x y f d r w a e t l g =
-      let far = away-to x y f d w (e .is .bench) a t in
-      arrival-found b v x y f r a e (subst (λ (n : ℕ). FirstList b x y n r) (sym far) (greedy-list one x y d r w t l g))
+  -- an arrival: search from x, the end bench y by the rule's order, search to y, the first list; a closing needs one search, and
+  -- `closing-found` says it
+  pub arrival-search : (x y : ℕ) (f d : ℕ → ℕ) (r : List Step) → T (within 1 (b .benches) x) → Away (b .benches) (steps b) x f → ArrivalEnd b x f y → To (b .benches) (steps b) y d → FirstList b x y (d x) r → arrivalChoice b x ≡ some (pathBy x r)
+  arrival-search x y f d r w a e t l =
+      arrival-found b v x y f r a e (subst (λ (n : ℕ). FirstList b x y n r) (sym (away-to x y f d w (e .is .bench) a t)) l)
 
-  -- a closing: search to x, the first bench z by the rule's order, the greedy route
-  pub closing-search : OneOther (b .benches) (steps b) → (x z : ℕ) (d : ℕ → ℕ) (r : List Step) → To (b .benches) (steps b) x d → ClosingStart b v x d z → d z ≡ suc (length r) → Greedy (b .benches) (steps b) d z r → closingChoice b x ≡ some (pathBy z r)
-  closing-search one x z d r t s l g = closing-found b v x z d r t s (greedy-list one z x d r (s .is .bench) t l g)
+  -- the same with the greedy route, where each job leads to one bench only ..
+  pub arrival-greedy : OneOther (b .benches) (steps b) → (x y : ℕ) (f d : ℕ → ℕ) (r : List Step) → T (within 1 (b .benches) x) → Away (b .benches) (steps b) x f → ArrivalEnd b x f y → To (b .benches) (steps b) y d → d x ≡ suc (length r) → Greedy (b .benches) (steps b) d x r → arrivalChoice b x ≡ some (pathBy x r)
+  arrival-greedy one x y f d r w a e t l g = arrival-search x y f d r w a e t (greedy-list one x y d r w t l g)
+
+  -- .. and for a closing
+  pub closing-greedy : OneOther (b .benches) (steps b) → (x z : ℕ) (d : ℕ → ℕ) (r : List Step) → To (b .benches) (steps b) x d → ClosingStart b x d z → d z ≡ suc (length r) → Greedy (b .benches) (steps b) d z r → closingChoice b x ≡ some (pathBy z r)
+  closing-greedy one x z d r t s l g = closing-found b v x z d r t s (greedy-list one z x d r (s .is .bench) t l g)
+
+  -- a bench that a walk leaves for one of 1 to B is one of them
+  walk-start : (x : ℕ) (r : List Step) → Walk (steps b) x r → T (within 1 (b .benches) (endOf x r)) → T (within 1 (b .benches) x)
+  walk-start x [] k w = w
+  walk-start x (s ∷ r) k w =
+      let i = step-is b x s (k .0) in
+      subst (λ (z : ℕ). T (within 1 (b .benches) z)) (i .0) (holder-bench b v (s .job) (named-stands b (s .job) (s .to) (i .1)))
+
+  -- a walk with the fewest steps to its end has fewer steps than there are benches ..
+  pub fewest-most : (x : ℕ) (r : List Step) → T (within 1 (b .benches) x) → Walk (steps b) x r → ((q : List Step) → Walk (steps b) x q → endOf x q ≡ endOf x r → length r ≤ length q) → length r < b .benches
+  fewest-most x r w k f =
+      let o = fewest-once (steps b) x r k f in
+      omega (arith, few (b .benches) (x ∷ benchesOf r) (different-count (x ∷ benchesOf r) o) (w, walk-benches b v x r k), length-map r (λ (s : Step). s .to))
+
+  -- .. so no number in an array of distances is more than the benches are ..
+  pub to-most : (t : ℕ) (d : ℕ → ℕ) → To (b .benches) (steps b) t d → (x : ℕ) → T (within 1 (b .benches) x) → d x ≤ b .benches
+  to-most t d a x w = go (d x) refl
+    where
+      go : (n : ℕ) → d x ≡ n → n ≤ b .benches
+      go zero e = omega arith
+      go (suc n) e =
+          let (r, k, f, l) = a .walk x n w e in
+          omega (arith, fewest-most x r w k (λ q u g. omega (arith, (a .short x q w u (g ∙ f)) .1)))
+
+  -- .. away from a bench too
+  pub away-most : (x : ℕ) (f : ℕ → ℕ) → Away (b .benches) (steps b) x f → (y : ℕ) → T (within 1 (b .benches) y) → f y ≤ b .benches
+  away-most x f a y w = go (f y) refl
+    where
+      go : (n : ℕ) → f y ≡ n → n ≤ b .benches
+      go zero e = omega arith
+      go (suc n) e =
+          let (r, k, g, l) = a .walk y n w e in
+          omega (arith, fewest-most x r (walk-start x r k (rw g w)) k (λ q u h. omega (arith, (a .short y q w u (h ∙ g)) .1)))
+
+-- the benches behind a step are known from its job alone: its holder, and what it leads to
+pub frontier : (b : Board) (d : ℕ → ℕ) (At : ℕ → Type 0) (j z : ℕ) → Next (b .benches) (steps b) d At j z ↔ (At (holderOf b j) × Nearer (b .benches) (steps b) d (holderOf b j) (stepBy j z))
+frontier b d At j z = (there, λ r. (holderOf b j, stepBy j z, r .0, r .1, refl, refl))
+  where
+    there : Next (b .benches) (steps b) d At j z → At (holderOf b j) × Nearer (b .benches) (steps b) d (holderOf b j) (stepBy j z)
+    there (y, q, a, n, e, f) =
+        let h : y ≡ holderOf b j = sym ((step-is b y q (n .0)) .0) ∙ ap (holderOf b) e in
+        let k : q ≡ stepBy j z = λ i. record { job = e i; to = f i } in
+        (subst At h a, subst (Nearer (b .benches) (steps b) d (holderOf b j)) k (subst (λ (u : ℕ). Nearer (b .benches) (steps b) d u q) h n))

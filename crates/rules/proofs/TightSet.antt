@@ -10,11 +10,11 @@ use lib.ListN.{length}
 use borrow.Author.Tests.{eqb-true, eqb-false}
 use Rattle.rules.specs.Lists.{within, member, different, rising, keep, In}
 use Rattle.rules.specs.Board.{Board, Valid, load}
-use Rattle.rules.specs.Paths.{Step, BenchPath, steps, last, IsPath}
-use Rattle.rules.specs.Sharing.{widen, widest, tightSet}
+use Rattle.rules.specs.Paths.{Step, BenchPath, steps, last, IsPath, improves}
+use Rattle.rules.specs.Sharing.{level, widen, widest, tightSet}
 use Rattle.rules.proofs.Basics.{either, or-left, or-right, tests-same, T-leb, leb-T, in-keep, keep-in, keep-same, length-keep, in-map, map-in, in-flatMap, flatMap-in, member-in, in-member, bench-listed, listed-bench, length-rising, keep-different, keep-own, rising-different}
-use Rattle.rules.proofs.Paths.{benchesOf, step-bench}
-use Rattle.rules.proofs.Walks.{Reach, reach-here, reach-more, reach-all, reach-path}
+use Rattle.rules.proofs.Paths.{step-bench, benchesOf, improves-loads, improves-start, level-exact}
+use Rattle.rules.proofs.Walks.{Reach, reach-here, reach-more, reach-all, reach-path, path-reach, level-reach}
 use Rattle.rules.proofs.Certificate.{Proves}
 
 -- the benches that those which pass the test bring in, themselves among them
@@ -231,3 +231,14 @@ tight-marked b v h mark f = tight-rising b h ∙ keep-same (λ y. member y set) 
         let g = f y (listed-bench (b .benches) y i) in
         let r = tight-reached b v h y in
         tests-same (member y set) (mark y) (λ t. g .1 (r .0 (member-in y set t)), λ t. in-member y set (r .1 (g .0 t)))
+
+-- a board is level exactly if no tight set has a bench whose load is below its height by two or more
+pub level-closure : (b : Board) → Valid b → T (level b) ↔ ((h y : ℕ) → In y (tightSet b (suc h)) → h ≤ load (b .holders) y)
+level-closure b v =
+    (λ l h y i. let (x, t, m, w) = (tight-reached b v (suc h) y) .0 i in omega (arith, (level-reach b v) .0 l x y w), λ f. (level-exact b v) .1 (λ p w t. low f p w t))
+  where
+    low : ((h y : ℕ) → In y (tightSet b (suc h)) → h ≤ load (b .holders) y) → (p : BenchPath) → IsPath b p → T (improves b p) → ⊥
+    low f p w t =
+        let h = suc (load (b .holders) (last p)) in
+        let l : suc h ≤ load (b .holders) (p .start) = omega (arith, improves-loads b p t) in
+        omega (arith, f h (last p) ((tight-reached b v (suc h) (last p)) .1 (p .start, improves-start b v p w t, l, path-reach b p w)))
