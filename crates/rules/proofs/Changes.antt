@@ -1,15 +1,16 @@
 -- What an arrival and a closing do to any valid board.
-use Prim.Native.Nat.{ℕ, _≤_}
+use Prim.Native.Nat.{ℕ, _≤_, _<_}
 use native.Mathlib.Omega.{arith}
 use mathlib.Core.Path.{_≡_, refl, sym, ap, subst, _∙_}
 use mathlib.Core.Logic.{_≢_, _↔_}
 use mathlib.Core.Bool.{Bool, not, _&&_}
-use mathlib.Core.List.{List, []}
+use mathlib.Core.List.{List, [], _∷_}
 use mathlib.Core.Option.{Option, none, some}
 use lib.Dec.{T, eqb}
+use borrow.Author.Tests.{lt-ltb, le-ltb}
 use lib.ListN.{length}
 use Rattle.rules.specs.Lists.{within, different, keep, In, empty, nth, change}
-use Rattle.rules.specs.Board.{Board, Valid, namesOf, holderOf, stands, put, namesFit}
+use Rattle.rules.specs.Board.{load, Board, Valid, namesOf, holderOf, stands, put, namesFit}
 use Rattle.rules.specs.Paths.{BenchPath, last, jobs, IsPath, flip}
 use Rattle.rules.specs.Sharing.{Change, getter, arrivalChoice, closingChoice, afterArrival, afterClosing, arrive, close}
 use Rattle.rules.specs.Demand2.{OneMore, handed}
@@ -180,3 +181,13 @@ closing-does b v j s = go (closingChoice c x) refl
     go (some p) q =
         let only = improvingTo-only c x p (((closing-choice c x p) .0 q) .listed-is) in
         (does-flip b v j [] 0 vc p (only .0) (p .start) (jobs p) (λ k. (λ m. (gone p (only .0) k m, m), λ d. d .1)) (path-jobs c vc p (only .0)), less-turned c vc p (only .0) (b .holders) (only .1) (subst (OneMore (b .benches) (c .holders) (b .holders)) (sym (only .2)) (put-falls b v j s)))
+
+-- "The lighter named bench gets the job ..
+pub arrive-lighter : (b : Board) (j x y : ℕ) → load (b .holders) y < load (b .holders) x → let c = put b j (x ∷ y ∷ []) y in arrive b j (x ∷ y ∷ []) ≡ afterArrival c j y (arrivalChoice c y)
+unfolding arrive
+arrive-lighter b j x y h = rw (lt-ltb (load (b .holders) y) (load (b .holders) x) h)
+
+-- .. if they are equal, the first-named"
+pub arrive-first : (b : Board) (j x y : ℕ) → load (b .holders) x ≤ load (b .holders) y → let c = put b j (x ∷ y ∷ []) x in arrive b j (x ∷ y ∷ []) ≡ afterArrival c j x (arrivalChoice c x)
+unfolding arrive
+arrive-first b j x y h = rw (le-ltb (load (b .holders) y) (load (b .holders) x) h)

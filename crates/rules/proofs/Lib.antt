@@ -31,6 +31,7 @@ pub mod Found
 pub mod Search
 pub mod SearchInstance
 pub mod Outcomes
+pub mod Refused
 pub mod Results
 pub mod Demand3
 pub mod TallyRun

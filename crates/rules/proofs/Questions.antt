@@ -2,27 +2,41 @@
 use Prim.Native.Nat.{ℕ, _+_, _-_, _*_, _≤_, _<_}
 use native.Mathlib.Omega.{arith}
 use mathlib.Core.Path.{_≡_, refl, sym, ap, _∙_}
-use mathlib.Core.Logic.{_↔_}
-use mathlib.Core.Bool.{Bool, true, false, cond, not}
+use mathlib.Core.Logic.{_⊎_, inl, inr, _↔_}
+use mathlib.Core.Bool.{Bool, true, false, cond, not, _||_}
 use mathlib.Core.List.{List, [], _∷_}
-use lib.Dec.{T, not-T, eqb, ltb}
-use lib.ListN.{length}
+use lib.Dec.{T, not-T, eqb, ltb, lt→ltb}
+use lib.ListN.{length, take, drop, length-drop, length-append}
+use lib.Seq.{take-at, drop-at}
 use borrow.Author.Tests.{eqb-false, ltb-false, ne-eqb, lt-ltb, le-ltb}
-use Rattle.rules.specs.Lists.{within}
+use Rattle.rules.specs.Lists.{within, Each}
 use Rattle.rules.specs.Board.{load, heaviest, excess}
-use Rattle.rules.specs.Table.{fits, sound, decode}
+use Rattle.rules.specs.Table.{mostBenches, words, bytesOf, fits, sound, decode}
 use Rattle.rules.specs.Paths.{BenchPath, IsPath, improves}
 use Rattle.rules.specs.Sharing.{level, tightSet, inside, density}
-use Rattle.rules.specs.Answers.{firstHolding, isRefused, refuse, settled, refused, sizes, unsound, benchNumber, listTooShort, loadIs, heaviestIs, tightSetIs, isSound, levelYes, levelNo}
+use Rattle.rules.specs.Answers.{Refusal, firstHolding, isRefused, refuse, settled, refused, sizes, unsound, benchNumber, height, listTooShort, loadIs, heaviestIs, tightSetIs, isSound, levelYes, levelNo}
 use Rattle.rules.specs.Calls.{loadOf, heaviestLoad, tightSetOf, formCheck, levelCheck, conditions, answering, accepted, outcome, tightSetOutcome}
-use Rattle.rules.proofs.Basics.{neither, true→T, T→true, not→false}
+use Rattle.rules.proofs.Basics.{or-left, or-right, eqb-T, within-high, in-each, neither, true→T, T→true, not→false}
 use Rattle.rules.proofs.Sound.{sound-storable}
 use Rattle.rules.proofs.Paths.{level-exact, unlevel-improves}
 use Rattle.rules.proofs.Levels.{level-demand2, tight-density}
-use Rattle.rules.proofs.Refusals.{accepted-by}
+use Rattle.rules.proofs.Refusals.{accepted-by, refused-by}
+use Rattle.rules.proofs.TightSet.{tight-bench}
+use Rattle.rules.proofs.Words.{words-append, length-bytesOf}
 use Rattle.rules.proofs.ChainOrder.{sound-outcome}
 
+-- "A refused call changes no lent byte": the lent list is as it was
+pub tight-refused-leaves : (t : List ℕ) (h : ℕ) (list : List ℕ) (r : Refusal) → (outcome (tightSetOf h list) t) .answer ≡ refused r → (outcome (tightSetOf h list) t) .list ≡ list
+tight-refused-leaves t h list r e = (refused-by (tightSetOf h list) t r e) .list
+
 module _ (t : List ℕ) (s : T (sound t)) where
+  -- bench numbers fit words
+  set-small : (h : ℕ) → Each (λ w. w < 65536) (tightSet (decode t) h)
+  set-small h =
+      let b = decode t in
+      let st = sound-storable t s in
+      in-each (λ w. w < 65536) (tightSet b h) (λ x i. omega (arith, within-high 1 (b .benches) x (tight-bench b h x i), within-high 1 mostBenches (b .benches) (st .benches)))
+
   -- the load of a bench of 1 to B ..
   pub load-answered : (x : ℕ) → within 1 ((decode t) .benches) x ≡ true → (outcome (loadOf x) t) .answer ≡ loadIs (load ((decode t) .holders) x)
   unfolding conditions accepted
@@ -47,6 +61,15 @@ module _ (t : List ℕ) (s : T (sound t)) where
       ap (λ o. o .answer) (sound-outcome (tightSetOf h list) t s)
       ∙ rw (ne-eqb h 0 (λ e. omega arith), le-ltb (heaviest (decode t)) h u, lt-ltb (length list) (2 * length (tightSet (decode t) h)) r)
 
+  -- "height 0, or above the heaviest load" gives 7
+  pub tight-height-refused : (h : ℕ) (list : List ℕ) → (h ≡ 0) ⊎ (heaviest (decode t) < h) → (outcome (tightSetOf h list) t) .answer ≡ refused height
+  unfolding conditions accepted
+  tight-height-refused h list c = ap (λ o. o .answer) (sound-outcome (tightSetOf h list) t s) ∙ rw (T→true (eqb h 0 || ltb (heaviest (decode t)) h) (wrong c))
+    where
+      wrong : (h ≡ 0) ⊎ (heaviest (decode t) < h) → T (eqb h 0 || ltb (heaviest (decode t)) h)
+      wrong (inl e) = or-left (eqb h 0) (ltb (heaviest (decode t)) h) (eqb-T h 0 e)
+      wrong (inr l) = or-right (eqb h 0) (ltb (heaviest (decode t)) h) (lt→ltb (heaviest (decode t)) h l)
+
   -- what the numbers of an accepted tight set are: "the number of benches, the number of jobs with both benches inside"
   pub record TightAnswer (h n i : ℕ) : Type 0 where
     pub low : 1 ≤ h
@@ -65,6 +88,22 @@ module _ (t : List ℕ) (s : T (sound t)) where
     where
       positive : (h : ℕ) → (h ≡ 0 → ⊥) → 1 ≤ h
       positive h f = omega arith
+
+  -- "the bench numbers, rising, as words in a lent list of bytes; the list beyond them is untouched"
+  pub record TightList (h n : ℕ) (list left : List ℕ) : Type 0 where
+    pub benches : take n (words left) ≡ tightSet (decode t) h
+    pub beyond : drop (2 * n) left ≡ drop (2 * n) list
+    pub long : length left ≡ length list
+
+  pub tight-list : (h : ℕ) (list : List ℕ) (n i : ℕ) → (outcome (tightSetOf h list) t) .answer ≡ tightSetIs n i → TightList h n list ((outcome (tightSetOf h list) t) .list)
+  unfolding conditions accepted tightSetOutcome
+  tight-list h list n i e =
+      let set = tightSet (decode t) h in
+      let a = accepted-by (tightSetOf h list) t (ap isRefused e) in
+      let k = ltb-false (length list) (2 * length set) (a .0 .1 .1 .1 .0) in
+      let rest = drop (2 * length set) list in
+      rw (sym ((tight-says h list n i e) .benches), ap (λ o. o .list) (a .1))
+      (record { benches = ap (take (length set)) (words-append set rest (set-small h)) ∙ take-at set (words rest) (length set) refl; beyond = drop-at (bytesOf set) rest (2 * length set) (length-bytesOf set); long = length-append (bytesOf set) rest ∙ omega (arith, length-bytesOf set, length-drop (2 * length set) list) })
 
   -- "On a level table, inside jobs less (h − 1) × benches is the overhang above h − 1."
   pub tight-overhang : T (level (decode t)) → (h : ℕ) (list : List ℕ) (n i : ℕ) → (outcome (tightSetOf h list) t) .answer ≡ tightSetIs n i → i ≡ (h - 1) * n + excess ((decode t) .benches) ((decode t) .holders) (h - 1)

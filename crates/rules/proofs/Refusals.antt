@@ -7,12 +7,17 @@ use mathlib.Core.Bool.{Bool, true, false, cond, _&&_, false≢true}
 use mathlib.Core.List.{List, [], _∷_, _++_, map}
 use mathlib.Core.Option.{Option, none, some, Option·some-injective, Option·none-ne-some, Option·some-ne-none}
 use lib.Dec.{T, ltb}
-use Rattle.rules.specs.Lists.{Each}
+use Rattle.rules.specs.Lists.{rising, Each}
 use Rattle.rules.specs.Table.{decode}
 use Rattle.rules.specs.Sharing.{level, relevel}
 use Rattle.rules.specs.Board.{Board}
 use Rattle.rules.specs.Answers.{Refusal, Condition, refusalNumber, firstHolding, isRefused, settled, refused, levelYes, levelNo, levelled, stopped}
+use Rattle.rules.specs.Answers.{sizes, unsound, jobNumber, benchNumber, alreadyStanding, notStanding, height, listTooShort, countFull, unreadable}
 use Rattle.rules.specs.Calls.{Call, arrival, closing, levelling, loadOf, heaviestLoad, tightSetOf, formCheck, levelCheck, formConditions, conditions, lentList, accepted, outcome, arrivalOutcome, closingOutcome, levellingOutcome, tightSetOutcome}
+
+-- "returned": 1 to 10, in the table's order
+pub refusals-told : map refusalNumber (sizes ∷ unsound ∷ jobNumber ∷ benchNumber ∷ alreadyStanding ∷ notStanding ∷ height ∷ listTooShort ∷ countFull ∷ unreadable ∷ []) ≡ rising 1 10
+refusals-told = refl
 
 -- each number is below the next
 abbrev rise : List ℕ → Bool

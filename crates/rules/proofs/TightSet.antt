@@ -242,3 +242,8 @@ level-closure b v =
         let h = suc (load (b .holders) (last p)) in
         let l : suc h ≤ load (b .holders) (p .start) = omega (arith, improves-loads b p t) in
         omega (arith, f h (last p) ((tight-reached b v (suc h) (last p)) .1 (p .start, improves-start b v p w t, l, path-reach b p w)))
+
+-- and one of 1 to B
+pub tight-bench : (b : Board) (h y : ℕ) → In y (tightSet b h) → T (within 1 (b .benches) y)
+unfolding tightSet
+tight-bench b h y i = brought-bench b (λ x. leb h (load (b .holders) x)) y i

@@ -1,9 +1,9 @@
 -- Words and bytes: what is written reads back, a board's words fit its table, and a blanked table is the board without jobs.
 use Prim.Native.Nat.{ℕ, suc, _+_, _*_, _/_, _%_, _≤_, _<_}
 use native.Mathlib.Omega.{arith}
-use mathlib.Core.Path.{_≡_, refl, ap, _∙_}
+use mathlib.Core.Path.{_≡_, refl, sym, ap, _∙_}
 use mathlib.Core.Bool.{Bool, true, false, cond, not, _&&_, _||_}
-use mathlib.Core.List.{List, [], _∷_, _++_, map, flatMap}
+use mathlib.Core.List.{List, [], _∷_, _++_, map, flatMap, append-nil}
 use lib.Dec.{T, eqb, leb}
 use lib.ListN.{length, take, drop, length-append, length-map}
 use lib.Seq.{take-at, drop-at}
@@ -14,10 +14,14 @@ use Rattle.rules.proofs.Basics.{both, T-eqb, eqb-T, leb-T, within-high,
 
 -- words and bytes
 
--- bytes of words below 65,536 read back as the same words
+-- bytes of words below 65,536 read back as the same words, whatever bytes follow ..
+pub words-append : (ws rest : List ℕ) → Each (λ w. w < 65536) ws → words (bytesOf ws ++ rest) ≡ ws ++ words rest
+words-append [] rest s = refl
+words-append (w ∷ ws) rest s = let e : w % 256 + 256 * (w / 256 % 256) ≡ w = omega arith in rw (e, words-append ws rest (s .1))
+
+-- .. or none
 pub words-bytesOf : (ws : List ℕ) → Each (λ w. w < 65536) ws → words (bytesOf ws) ≡ ws
-words-bytesOf [] s = refl
-words-bytesOf (w ∷ ws) s = let e : w % 256 + 256 * (w / 256 % 256) ≡ w = omega arith in rw (e, words-bytesOf ws (s .1))
+words-bytesOf ws s = ap words (sym (append-nil (bytesOf ws))) ∙ words-append ws [] s ∙ append-nil ws
 
 -- two bytes are written for each word
 pub length-bytesOf : (ws : List ℕ) → length (bytesOf ws) ≡ 2 * length ws
