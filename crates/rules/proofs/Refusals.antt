@@ -11,13 +11,17 @@ use Rattle.rules.specs.Lists.{rising, Each}
 use Rattle.rules.specs.Table.{decode}
 use Rattle.rules.specs.Sharing.{level, relevel}
 use Rattle.rules.specs.Board.{Board}
-use Rattle.rules.specs.Answers.{Refusal, Condition, refusalNumber, firstHolding, isRefused, settled, refused, levelYes, levelNo, levelled, stopped}
+use Rattle.rules.specs.Answers.{Refusal, Condition, refusalNumber, inNumbers, firstHolding, isRefused, settled, refused, levelYes, levelNo, levelled, stopped}
 use Rattle.rules.specs.Answers.{sizes, unsound, jobNumber, benchNumber, alreadyStanding, notStanding, height, listTooShort, countFull, unreadable}
 use Rattle.rules.specs.Calls.{Call, arrival, closing, levelling, loadOf, heaviestLoad, tightSetOf, formCheck, levelCheck, formConditions, conditions, lentList, accepted, outcome, arrivalOutcome, closingOutcome, levellingOutcome, tightSetOutcome}
 
 -- "returned": 1 to 10, in the table's order
 pub refusals-told : map refusalNumber (sizes ∷ unsound ∷ jobNumber ∷ benchNumber ∷ alreadyStanding ∷ notStanding ∷ height ∷ listTooShort ∷ countFull ∷ unreadable ∷ []) ≡ rising 1 10
 refusals-told = refl
+
+-- a level check's and a levelling's answers in numbers: yes and level are 1, no and stopped 0
+pub level-told : (n : ℕ) → map inNumbers (levelYes ∷ levelNo ∷ levelled n ∷ stopped n ∷ []) ≡ (0 ∷ 1 ∷ []) ∷ (0 ∷ 0 ∷ []) ∷ (0 ∷ n ∷ 1 ∷ []) ∷ (0 ∷ n ∷ 0 ∷ []) ∷ []
+level-told n = refl
 
 -- each number is below the next
 abbrev rise : List ℕ → Bool
