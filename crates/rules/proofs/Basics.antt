@@ -6,7 +6,7 @@ use mathlib.Core.Logic.{_⊎_, inl, inr, _≢_, _↔_}
 use mathlib.Core.Bool.{Bool, true, false, cond, not, _&&_, _||_, false≢true}
 use mathlib.Core.List.{List, [], _∷_, _++_, map, flatMap}
 use lib.Dec.{T, T-not, not-T, eqb, leb}
-use lib.ListN.{length, getD, set, length-set}
+use lib.ListN.{length, getD, set, length-set, List·getD-map}
 use lib.Seq.{getD-set-same, getD-set-other, set-set, set-getD}
 use borrow.Author.Tests.{eqb-true, eqb-false, eq-eqb, leb-true, le-leb}
 use Rattle.rules.specs.Board.{Shares, namesFit}
@@ -28,6 +28,10 @@ not→false false t = refl
 
 pub false→not : (a : Bool) → a ≡ false → T (not a)
 false→not a e = subst (λ (x : Bool). T (not x)) (sym e) tt
+
+pub not-false : (a : Bool) → not a ≡ false → T a
+not-false true e = tt
+not-false false e = subst T e tt
 
 pub both : (a b : Bool) → T a → T b → T (a && b)
 both true b s t = t
@@ -268,6 +272,21 @@ module _ {A : Type 0} where
       let e : 1 + i ≡ suc i = omega arith in
       subst (λ (j : ℕ). In (j, getD l i d) (numbered 1 l)) e (in-numbered-at 1 i l d (omega arith))
 
+  -- what stands in the numbered list is the element at its number
+  numbered-at : (n : ℕ) (s : ℕ × A) (l : List A) (d : A) → In s (numbered n l) → (i : ℕ) × (i < length l) × (s .0 ≡ n + i) × (s .1 ≡ getD l i d)
+  numbered-at n s [] d m = absurd m
+  numbered-at n s (x ∷ l) d (inl e) = (0, omega arith, omega (arith, ap (λ (s : ℕ × A). s .0) e), ap (λ (s : ℕ × A). s .1) e)
+  numbered-at n s (x ∷ l) d (inr m) =
+      let r = numbered-at (suc n) s l d m in
+      (suc (r .0), omega (arith, r .1), omega (arith, r .2), r .3)
+
+  -- counted from 1
+  pub numbered-nth : (s : ℕ × A) (l : List A) (d : A) → In s (numbered 1 l) → (1 ≤ s .0) × (s .0 ≤ length l) × (s .1 ≡ nth l (s .0) d)
+  numbered-nth s l d m =
+      let r = numbered-at 1 s l d m in
+      let e : suc (r .0) ≡ s .0 = omega (arith, r .2) in
+      (omega arith, omega (arith, r .1), r .3 ∙ ap (λ (j : ℕ). nth l j d) e)
+
   pub length-keep : (p : A → Bool) (l : List A) → length (keep p l) ≤ length l
   length-keep p [] = omega arith
   length-keep p (x ∷ l) = go (p x) (length-keep p l)
@@ -290,6 +309,10 @@ module _ {A B : Type 0} where
   pub each-map : (P : B → Type 0) (f : A → B) (l : List A) → ((a : A) → In a l → P (f a)) → Each P (map f l)
   each-map P f [] g = tt
   each-map P f (x ∷ l) g = (g x (inl refl), each-map P f l (λ a i. g a (inr i)))
+
+  pub nth-map : (f : A → B) (l : List A) (j : ℕ) (d : A) → nth (map f l) j (f d) ≡ f (nth l j d)
+  nth-map f l zero d = refl
+  nth-map f l (suc i) d = List·getD-map f l i d
 
   pub in-flatMap : (f : A → List B) (b : B) (a : A) (l : List A) → In a l → In b (f a) → In b (flatMap f l)
   unfolding flatMap

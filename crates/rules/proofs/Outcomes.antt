@@ -2,7 +2,7 @@
 use Prim.Native.Nat.{ℕ, _≤_}
 use mathlib.Core.Path.{_≡_, refl, sym, ap, subst, _∙_}
 use mathlib.Core.Logic.{_⊎_, inl, inr}
-use mathlib.Core.Bool.{Bool, true, false, cond, not, _&&_, _||_, false≢true}
+use mathlib.Core.Bool.{Bool, true, false, cond, not, _&&_, _||_}
 use mathlib.Core.List.{List, [], _∷_}
 use mathlib.Core.Option.{Option, none, some}
 use lib.Dec.{T, eqb}
@@ -16,7 +16,7 @@ use Rattle.rules.specs.Answers.{Refusal, Outcome, firstHolding, isRefuse
 use Rattle.rules.specs.Answers.{refused, levelYes, levelNo, levelled, stopped}
 use Rattle.rules.specs.Calls.{Call, arrival, closing, levelling, loadOf, heaviestLoad, tightSetOf, formCheck, levelCheck, noBench, conditions, lentList, accepted, outcome, arrivalOutcome, closingOutcome, levellingOutcome, tightSetOutcome}
 use Rattle.rules.specs.Demand2.{OneMore}
-use Rattle.rules.proofs.Basics.{neither, false→not, both, not-member, length-change, each-change}
+use Rattle.rules.proofs.Basics.{not-false, neither, false→not, both, not-member, length-change, each-change}
 use Rattle.rules.proofs.Refusals.{accepted-by, accepted-answers, isQuestion, question-leaves}
 use Rattle.rules.proofs.ChainOrder.{sound-outcome}
 use Rattle.rules.proofs.Tally.{isChange}
@@ -57,11 +57,6 @@ pub record MayArrive (b : Board) (j x y : ℕ) : Type 0 where
   pub free : T (not (stands b j))
   pub fit : T (namesFit (b .benches) (x ∷ y ∷ []))
 
--- what a condition that does not hold denies, holds
-holds : (z : Bool) → not z ≡ false → T z
-holds true e = tt
-holds false e = absurd (false≢true (sym e))
-
 may-arrive : (b : Board) (j x y : ℕ) → Each (λ k. k .holds ≡ false) (conditions (arrival j x y) b) → MayArrive b j x y
 unfolding conditions
 may-arrive b j x y e =
@@ -71,9 +66,9 @@ may-arrive b j x y e =
     let wy = within 1 (b .benches) y in
     let apart : T (not (eqb y x || false)) = not-member x (y ∷ []) (λ i. different i (eqb-false x y (f .1))) in
     record {
-      number = holds (within 1 (length (b .named)) j) (e .0);
+      number = not-false (within 1 (length (b .named)) j) (e .0);
       free = false→not (stands b j) (e .1 .1 .0);
-      fit = both (wx && (wy && true)) (not (eqb y x || false) && true) (both wx (wy && true) (holds wx (g .0)) (both wy true (holds wy (g .1)) tt)) (both (not (eqb y x || false)) true apart tt);
+      fit = both (wx && (wy && true)) (not (eqb y x || false) && true) (both wx (wy && true) (not-false wx (g .0)) (both wy true (not-false wy (g .1)) tt)) (both (not (eqb y x || false)) true apart tt);
     }
   where
     different : In x (y ∷ []) → (x ≡ y → ⊥) → ⊥
@@ -82,7 +77,7 @@ may-arrive b j x y e =
 
 may-close : (b : Board) (j : ℕ) → Each (λ k. k .holds ≡ false) (conditions (closing j) b) → T (stands b j)
 unfolding conditions
-may-close b j e = holds (stands b j) (e .1 .0)
+may-close b j e = not-false (stands b j) (e .1 .0)
 
 -- what an accepted arrival leaves of a sound table: one bench's load rose by one, the one in the answer, and the number of moved jobs is true
 pub record Arrives (t : List ℕ) (j x y : ℕ) (c : Change) : Type 0 where

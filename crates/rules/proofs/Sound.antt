@@ -4,17 +4,17 @@ use native.Mathlib.Omega.{arith}
 use native.Mathlib.Nat.{add-assoc}
 use native.Mathlib.Decide.{decLe}
 use mathlib.Core.Path.{_≡_, refl, sym, ap, _∙_, subst}
-use mathlib.Core.Logic.{_⊎_, inl, inr, _≢_}
+use mathlib.Core.Logic.{_⊎_, inl, inr, _≢_, _↔_}
 use mathlib.Core.Bool.{Bool, true, false, cond, not, _&&_, _||_}
 use mathlib.Core.List.{List, [], _∷_, map}
 use lib.Dec.{T, eqb, leb, not-T}
 use lib.ListN.{length, getD, drop, length-take, length-drop, length-map, List·getD-eq-default}
 use lib.Seq.{getD-take, getD-drop}
 use Rattle.rules.specs.Lists.{keep, bit, within, count, member, different, all, Each, In, empty, nth, numbered}
-use Rattle.rules.specs.Board.{standing, Shares, mayHold, namesFit}
-use Rattle.rules.specs.Table.{words, lengthFor, mostBenches, mostJobs, sizesFit, Entry, vacant, filled, holderIn, Layout, entriesIn, layout, follow, chains, standingIn, entryFits, placed, onlyStanding, formed, fits, sound, boardOf, decode, Storable}
-use Rattle.rules.proofs.Basics.{true→T, not→false, left, right, or-right, Compared, same, other, compared, T-eqb, eqb-T, T-leb, within-low, within-high, within-both, in-keep, all-in, each-in, in-each, in-getD, in-nth, in-numbered, in-numbered-nth, in-map, each-map, member-in, in-member, different-head, fit-bench}
-use Rattle.rules.proofs.Counting.{bit-le, bit-same, bit-other, count-none, few}
+use Rattle.rules.specs.Board.{holderOf, stands, standing, Shares, mayHold, namesFit}
+use Rattle.rules.specs.Table.{words, lengthFor, mostBenches, mostJobs, sizesFit, Entry, vacant, filled, holderIn, Layout, entriesIn, layout, follow, chains, standingIn, entryFits, placed, onlyStanding, formed, fits, sound, boardOf, decode, entryWords, Storable}
+use Rattle.rules.proofs.Basics.{true→T, T→true, not→false, not-false, both, left, right, or-right, Compared, same, other, compared, T-eqb, eqb-T, T-leb, within-low, within-high, within-both, in-left, in-right, in-either, in-keep, keep-in, all-in, in-all, each-in, in-each, in-getD, in-nth, in-numbered, in-numbered-nth, numbered-nth, in-map, nth-map, each-map, member-in, in-member, Member, is-in, not-in, membered, different-head, fit-bench}
+use Rattle.rules.proofs.Counting.{bit-le, bit-same, bit-other, count-none, count-some, few}
 
 -- the table's places
 
@@ -79,12 +79,15 @@ entry-at ws (suc i) l h =
 -- sizes that fit
 
 -- the five tests of a conjunction, one by one
-five : (a b c d e : Bool) → T (a && b && c && d && e) → T a × T b × T c × T d × T e
-five a b c d e t =
-    let t₄ = left (a && b && c && d) e t in
-    let t₃ = left (a && b && c) d t₄ in
-    let t₂ = left (a && b) c t₃ in
-    (left a b t₂, right a b t₂, right (a && b) c t₃, right (a && b && c) d t₄, right (a && b && c && d) e t)
+five : (a b c d e : Bool) → T (a && b && c && d && e) ↔ (T a × T b × T c × T d × T e)
+five a b c d e = (split, λ p. both (a && b && c && d) e (both (a && b && c) d (both (a && b) c (both a b (p .0) (p .1)) (p .2)) (p .3)) (p .4))
+  where
+    split : T (a && b && c && d && e) → T a × T b × T c × T d × T e
+    split t =
+        let t₄ = left (a && b && c && d) e t in
+        let t₃ = left (a && b && c) d t₄ in
+        let t₂ = left (a && b) c t₃ in
+        (left a b t₂, right a b t₂, right (a && b) c t₃, right (a && b && c) d t₄, right (a && b && c && d) e t)
 
 -- what it is for a byte length to fit B and J
 pub record Sized (len benches jobs : ℕ) : Type 0 where
@@ -98,7 +101,7 @@ pub record Sized (len benches jobs : ℕ) : Type 0 where
 pub sized : (len benches jobs : ℕ) → T (sizesFit len benches jobs) → Sized len benches jobs
 unfolding sizesFit
 sized len benches jobs t =
-    let p = five (eqb (len % 2) 0) (leb 8 len) (within 1 mostBenches benches) (within 1 mostJobs jobs) (eqb len (lengthFor benches jobs)) t in
+    let p = (five (eqb (len % 2) 0) (leb 8 len) (within 1 mostBenches benches) (within 1 mostJobs jobs) (eqb len (lengthFor benches jobs))) .0 t in
     record {
       even = T-eqb (len % 2) 0 (p .0);
       long = T-leb 8 len (p .1);
@@ -140,6 +143,46 @@ fits-entries t f =
     let b = getD (words t) 0 0 in
     entriesIn-length (getD (words t) 1 0) (drop (4 + b) (words t)) (omega (arith, fits-length t f, length-words t, length-drop (4 + b) (words t)))
 
+-- empty records
+
+-- "A job number that is not standing has four zero words ..
+pub vacant-words : (e : Entry) → filled e ≡ false → Each (λ w. w ≡ 0) (entryWords e)
+vacant-words e f = in-each (λ w. w ≡ 0) (entryWords e) (λ w i. go w (in-either w (e .names) (e .holder ∷ e .next ∷ []) i))
+  where
+    named : Bool
+    named = all (λ w. eqb w 0) (e .names)
+
+    zero-all : T (named && eqb (e .holder) 0 && eqb (e .next) 0)
+    zero-all = not-false (named && eqb (e .holder) 0 && eqb (e .next) 0) f
+
+    zero-but-next : T (named && eqb (e .holder) 0)
+    zero-but-next = left (named && eqb (e .holder) 0) (eqb (e .next) 0) zero-all
+
+    go : (w : ℕ) → In w (e .names) ⊎ In w (e .holder ∷ e .next ∷ []) → w ≡ 0
+    go w (inl i) = T-eqb w 0 (all-in (λ w. eqb w 0) w (e .names) (left named (eqb (e .holder) 0) zero-but-next) i)
+    go w (inr (inl d)) = d ∙ T-eqb (e .holder) 0 (right named (eqb (e .holder) 0) zero-but-next)
+    go w (inr (inr (inl d))) = d ∙ T-eqb (e .next) 0 (right (named && eqb (e .holder) 0) (eqb (e .next) 0) zero-all)
+    go w (inr (inr (inr i))) = absurd i
+
+-- .. any other record is a standing job's", and one of four zero words is none
+pub zero-words : (e : Entry) → Each (λ w. w ≡ 0) (entryWords e) → filled e ≡ false
+zero-words e z = ap not (T→true (named && eqb (e .holder) 0 && eqb (e .next) 0) zero-all)
+  where
+    named : Bool
+    named = all (λ w. eqb w 0) (e .names)
+
+    rest : List ℕ
+    rest = e .holder ∷ e .next ∷ []
+
+    zero-test : (w : ℕ) → In w (entryWords e) → T (eqb w 0)
+    zero-test w i = eqb-T w 0 (each-in (λ w. w ≡ 0) w (entryWords e) z i)
+
+    zero-all : T (named && eqb (e .holder) 0 && eqb (e .next) 0)
+    zero-all =
+        both (named && eqb (e .holder) 0) (eqb (e .next) 0)
+        (both named (eqb (e .holder) 0) (in-all (λ w. eqb w 0) (e .names) (λ w i. zero-test w (in-left w (e .names) rest i))) (zero-test (e .holder) (in-right (e .holder) (e .names) rest (inl refl))))
+        (zero-test (e .next) (in-right (e .next) (e .names) rest (inr (inl refl))))
+
 -- the clauses of the sound table
 
 -- a filled record's number is one of 1 to J
@@ -157,13 +200,21 @@ pub record Formed (l : Layout) : Type 0 where
   pub standing : (l .standing) ≡ length (standingIn (l .entries))
   pub spare : (l .spare) ≡ 0
 
--- a layout that passes the tests has these clauses
+-- the tests of a standing job's number and record
+abbrev fitIn : Layout → ℕ × Entry → Bool
+fitIn l s = entryFits (l .benches) (s .1)
+
+abbrev placedIn : Layout → ℕ × Entry → Bool
+placedIn l s = placed (chains l) (s .0) (holderIn (s .1))
+
+-- a layout that passes the tests has these clauses ..
 pub formed-is : (l : Layout) → T (formed l) → Formed l
 unfolding formed
 formed-is l t =
+    let p = (five (all (fitIn l) (standingIn es)) (all (placedIn l) (standingIn es)) (all (onlyStanding es) (chains l)) (eqb (l .standing) (length (standingIn es))) (eqb (l .spare) 0)) .0 t in
     record {
-      entry = λ e i f. let r = in-numbered 1 e es i in all-in fit (r .0, e) (standingIn es) (p .0) (in-keep full (r .0, e) (numbered 1 es) (r .1) f);
-      place = here;
+      entry = λ e i f. let r = in-numbered 1 e es i in all-in (fitIn l) (r .0, e) (standingIn es) (p .0) (in-keep full (r .0, e) (numbered 1 es) (r .1) f);
+      place = here (p .1);
       only = λ c i j k. all-in (λ j. filled (nth es j vacant)) j c (all-in (onlyStanding es) c (chains l) (p .2) i) k;
       standing = T-eqb (l .standing) (length (standingIn es)) (p .3);
       spare = T-eqb (l .spare) 0 (p .4);
@@ -175,20 +226,33 @@ formed-is l t =
     full : ℕ × Entry → Bool
     full s = filled (s .1)
 
-    fit : ℕ × Entry → Bool
-    fit s = entryFits (l .benches) (s .1)
-
-    put : ℕ × Entry → Bool
-    put s = placed (chains l) (s .0) (holderIn (s .1))
-
-    p : T (all fit (standingIn es)) × T (all put (standingIn es)) × T (all (onlyStanding es) (chains l)) × T (eqb (l .standing) (length (standingIn es))) × T (eqb (l .spare) 0)
-    p = five (all fit (standingIn es)) (all put (standingIn es)) (all (onlyStanding es) (chains l)) (eqb (l .standing) (length (standingIn es))) (eqb (l .spare) 0) t
-
-    here : (j : ℕ) → T (filled (nth es j vacant)) → T (placed (chains l) j (holderIn (nth es j vacant)))
-    here j f =
+    here : T (all (placedIn l) (standingIn es)) → (j : ℕ) → T (filled (nth es j vacant)) → T (placed (chains l) j (holderIn (nth es j vacant)))
+    here p j f =
         let s : ℕ × Entry = (j, nth es j vacant) in
         let w = filled-within es j f in
-        all-in put s (standingIn es) (p .1) (in-keep full s (numbered 1 es) (in-numbered-nth j es vacant (w .0) (w .1)) f)
+        all-in (placedIn l) s (standingIn es) p (in-keep full s (numbered 1 es) (in-numbered-nth j es vacant (w .0) (w .1)) f)
+
+-- .. and a layout that has them passes the tests
+pub formed-back : (l : Layout) → Formed l → T (formed l)
+unfolding formed
+formed-back l f =
+    (five (all (fitIn l) (standingIn es)) (all (placedIn l) (standingIn es)) (all (onlyStanding es) (chains l)) (eqb (l .standing) (length (standingIn es))) (eqb (l .spare) 0)) .1 (
+      in-all (fitIn l) (standingIn es) (λ s i. let r = there s i in f .entry (s .1) (r .0) (r .1)),
+      in-all (placedIn l) (standingIn es) (λ s i. (there s i) .2),
+      in-all (onlyStanding es) (chains l) (λ c i. in-all (λ j. filled (nth es j vacant)) c (f .only c i)),
+      eqb-T (l .standing) (length (standingIn es)) (f .standing),
+      eqb-T (l .spare) 0 (f .spare),
+    )
+  where
+    es : List Entry
+    es = l .entries
+
+    there : (s : ℕ × Entry) → In s (standingIn es) → In (s .1) es × T (filled (s .1)) × T (placedIn l s)
+    there s i =
+        let k = keep-in (λ s. filled (s .1)) s (numbered 1 es) i in
+        let r = numbered-nth s es vacant (k .0) in
+        let p = f .place (s .0) (subst (λ (e : Entry). T (filled e)) (r .2) (k .1)) in
+        (rw (r .2) (in-nth es (s .0) vacant (r .0) (r .1)), k .1, rw (r .2) p)
 
 -- a sound table fits
 pub sound-fits : (t : List ℕ) → T (sound t) → T (fits t)
@@ -199,6 +263,12 @@ sound-fits t s = left (fits t) (formed (layout (words t))) s
 pub sound-formed : (t : List ℕ) → T (sound t) → Formed (layout (words t))
 unfolding sound
 sound-formed t s = formed-is (layout (words t)) (right (fits t) (formed (layout (words t))) s)
+
+-- and these are all: a table is sound exactly if it fits and has them
+pub sound-exact : (t : List ℕ) → T (sound t) ↔ (T (fits t) × Formed (layout (words t)))
+unfolding sound
+sound-exact t =
+    (λ s. (sound-fits t s, sound-formed t s), λ p. both (fits t) (formed (layout (words t))) (p .0) (formed-back (layout (words t)) (p .1)))
 
 -- the board of a sound table
 
@@ -228,13 +298,8 @@ told (x ∷ l) (suc i) t = in-member (getD (x ∷ l) i 0) (x ∷ l) (in-getD (x 
 -- a record that is not a standing job's is no job on the board
 not-held : (e : Entry) → filled e ≡ false → holderIn e ≡ 0
 not-held e q =
-    let a = all (λ w. eqb w 0) (e .names) in
-    let t = not-not (a && eqb (e .holder) 0 && eqb (e .next) 0) q in
-    ap (λ (p : ℕ). nth (e .names) p 0) (T-eqb (e .holder) 0 (right a (eqb (e .holder) 0) (left (a && eqb (e .holder) 0) (eqb (e .next) 0) t)))
-  where
-    not-not : (a : Bool) → not a ≡ false → T a
-    not-not true q = tt
-    not-not false q = subst T q tt
+    let i : In (e .holder) (entryWords e) = in-right (e .holder) (e .names) (e .holder ∷ e .next ∷ []) (inl refl) in
+    ap (λ (p : ℕ). nth (e .names) p 0) (each-in (λ w. w ≡ 0) (e .holder) (entryWords e) (vacant-words e q) i)
 
 entry-job : (benches : ℕ) (e : Entry) → length (e .names) ≡ 2 → (T (filled e) → T (entryFits benches e)) → Job benches (namesIn e) (holderIn e)
 entry-job benches e two fits = go (filled e) refl
@@ -376,20 +441,28 @@ same-standing i (e ∷ es) f =
     go false true d h = cc
     go false false d h = h
 
+-- a record names benches on a sound table's board exactly if it is filled
+named-filled : (t : List ℕ) → T (sound t) → (e : Entry) → (T (filled e) → In e ((layout (words t)) .entries)) → not (empty (namesIn e)) ≡ filled e
+named-filled t s e i = go (filled e) refl
+  where
+    go : (z : Bool) → filled e ≡ z → not (empty (cond z (e .names) [])) ≡ z
+    go true d = let f = true→T (filled e) d in rw ((standing-record t s e (i f) f) .names) refl
+    go false d = refl
+
 -- "number of standing jobs": word 2 is the board's
 pub standing-word : (t : List ℕ) → T (sound t) → (layout (words t)) .standing ≡ standing (decode t)
 unfolding decode boardOf
-standing-word t s = (sound-formed t s) .standing ∙ same-standing 1 ((layout (words t)) .entries) (λ e i. go e i (filled e) refl)
-  where
-    go : (e : Entry) → In e ((layout (words t)) .entries) → (z : Bool) → filled e ≡ z → not (empty (cond z (e .names) [])) ≡ z
-    go e i true d = rw ((standing-record t s e i (true→T (filled e) d)) .names) refl
-    go e i false d = refl
+standing-word t s = (sound-formed t s) .standing ∙ same-standing 1 ((layout (words t)) .entries) (λ e i. named-filled t s e (λ f. i))
 
 -- how often a placed job is on a chain
 count-placed : (cs : List (List ℕ)) (j h x : ℕ) → T (placed cs j h) → 1 ≤ x → x ≤ length cs → count j (nth cs x []) ≡ bit (eqb x h)
 count-placed cs j h x p l u =
     let c : ℕ × List ℕ = (x, nth cs x []) in
     T-eqb (count j (c .1)) (bit (eqb x h)) (all-in (λ c. eqb (count j (c .1)) (bit (eqb (c .0) h))) c (numbered 1 cs) p (in-numbered-nth x cs [] l u))
+
+-- a table that fits has a chain for each bench
+pub fits-chains : (t : List ℕ) → T (fits t) → length (chains (layout (words t))) ≡ (layout (words t)) .benches
+fits-chains t f = simp length-map (fits-heads t f)
 
 -- it is "on its holder's chain once ..
 pub own-chain : (t : List ℕ) → T (sound t) → (j : ℕ) → T (filled (nth ((layout (words t)) .entries) j vacant)) → count j (nth (chains (layout (words t))) (holderIn (nth ((layout (words t)) .entries) j vacant)) []) ≡ 1
@@ -399,8 +472,7 @@ own-chain t s j f =
     let h = holderIn e in
     let w = filled-within (l .entries) j f in
     let r = holder-bench (l .benches) e (standing-record t s e (in-nth (l .entries) j vacant (w .0) (w .1)) f) in
-    let n : length (chains l) ≡ l .benches = simp length-map (fits-heads t (sound-fits t s)) in
-    count-placed (chains l) j h h ((sound-formed t s) .place j f) (r .0) (omega (arith, r .1)) ∙ bit-same h h refl
+    count-placed (chains l) j h h ((sound-formed t s) .place j f) (r .0) (omega (arith, r .1, fits-chains t (sound-fits t s))) ∙ bit-same h h refl
 
 -- .. and on no other"
 pub other-chain : (t : List ℕ) → T (sound t) → (j x : ℕ) → T (filled (nth ((layout (words t)) .entries) j vacant)) → x ≢ holderIn (nth ((layout (words t)) .entries) j vacant) → count j (nth (chains (layout (words t))) x []) ≡ 0
@@ -450,3 +522,48 @@ chain-ends t s h i = short-ends es (l .jobs) h (few (l .jobs) c (λ j. once j (m
         let p = all-in (λ (d : ℕ × List ℕ). eqb (count j (d .1)) (bit (eqb (d .0) x))) (r .0, c) (numbered 1 (chains l)) ((sound-formed t s) .place j f) (r .1) in
         omega (arith, T-eqb (count j c) (bit (eqb (r .0) x)) p, bit-le (eqb (r .0) x))
     once j false q = omega (arith, count-none j c (λ k. subst T q (in-member j c k)))
+
+-- the board's jobs by their records
+
+-- job j's holder is the bench that its record tells
+pub holder-record : (t : List ℕ) (j : ℕ) → holderOf (decode t) j ≡ holderIn (nth ((layout (words t)) .entries) j vacant)
+unfolding decode boardOf
+holder-record t j = nth-map holderIn ((layout (words t)) .entries) j vacant
+
+-- a job stands on a sound table's board exactly if its record is filled
+pub stands-record : (t : List ℕ) → T (sound t) → (j : ℕ) → stands (decode t) j ≡ filled (nth ((layout (words t)) .entries) j vacant)
+unfolding decode boardOf
+stands-record t s j =
+    let es = (layout (words t)) .entries in
+    ap (λ (n : List ℕ). not (empty n)) (nth-map namesIn es j vacant) ∙ named-filled t s (nth es j vacant) (λ f. let w = filled-within es j f in in-nth es j vacant (w .0) (w .1))
+
+-- a job is on bench x's chain exactly if it stands and x holds it
+pub on-chain : (t : List ℕ) → T (sound t) → (j x : ℕ) → 1 ≤ x → x ≤ (decode t) .benches → In j (nth (chains (layout (words t))) x []) ↔ (T (stands (decode t) j) × (holderOf (decode t) j ≡ x))
+unfolding decode boardOf
+on-chain t s j x low high = (λ i. let f = filled-on i in (rw (stands-record t s j) f, holder-record t j ∙ held f i (compared x h)), λ p. there p (membered j c))
+  where
+    l : Layout
+    l = layout (words t)
+
+    c : List ℕ
+    c = nth (chains l) x []
+
+    e : Entry
+    e = nth (l .entries) j vacant
+
+    h : ℕ
+    h = holderIn e
+
+    filled-on : In j c → T (filled e)
+    filled-on i = (sound-formed t s) .only c (in-nth (chains l) x [] low (omega (arith, fits-chains t (sound-fits t s)))) j i
+
+    held : T (filled e) → In j c → {z : Bool} → Compared x h z → h ≡ x
+    held f i (same q) = sym q
+    held f i (other d) = absurd (omega (arith, other-chain t s j x f d, count-some j c i))
+
+    there : T (stands (decode t) j) × (holderOf (decode t) j ≡ x) → {z : Bool} → Member j c z → In j c
+    there p (is-in i) = i
+    there p (not-in n) =
+        let q : h ≡ x = sym (holder-record t j) ∙ p .1 in
+        let one = subst (λ (y : ℕ). count j (nth (chains l) y []) ≡ 1) q (own-chain t s j (subst T (stands-record t s j) (p .0))) in
+        absurd (omega (arith, count-none j c n, one))
