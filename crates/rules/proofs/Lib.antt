@@ -35,4 +35,5 @@ pub mod Refused
 pub mod Results
 pub mod Demand3
 pub mod TallyRun
+pub mod CounterRun
 pub mod Instance

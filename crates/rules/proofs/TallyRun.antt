@@ -13,7 +13,6 @@ use Rattle.rules.specs.Board.{Board, stands, standing}
 use Rattle.rules.specs.Table.{sizesFit, lengthFor, sound, decode, blankTable}
 use Rattle.rules.specs.Sharing.{arrive, close, relevel}
 use Rattle.rules.specs.Answers.{Answer, Outcome}
-use Rattle.rules.specs.Answers.{blanked}
 use Rattle.rules.specs.Calls.{Call, arrival, closing, levelling, outcome, arrivalOutcome, closingOutcome, levellingOutcome}
 use Rattle.rules.specs.JobBook.{tableAfter, Runs, AsDefined}
 use Rattle.rules.specs.Tally.{Tally, Noted, zeroTally, noted, tallyAfter, NoNine}
@@ -26,7 +25,7 @@ use Rattle.rules.proofs.Outcomes.{Written, Arrives, Closes, levelling-q
 use Rattle.rules.proofs.Tally.{isChange, raised-new, other-noted}
 
 -- arrivals are closings and the jobs standing together
-abbrev Balanced : Tally → Board → Type 0
+abbrev pub Balanced : Tally → Board → Type 0
 Balanced y b = y .arrivals ≡ y .closings + standing b
 
 -- a job that comes or goes, as the number of standing jobs sees it
@@ -36,9 +35,9 @@ standing-written b j names d w e =
     ∙ keep-change (λ (n : List ℕ). not (empty n)) (b .named) j names [] (within-low 1 (length (b .named)) j w) (within-high 1 (length (b .named)) j w)
 
 -- what noting a call's answer keeps: the table is sound again, and the balance holds
-record Keeps (t : List ℕ) (o : Outcome) : Type 0 where
-  form : T (sound (o .table))
-  balance : (y : Tally) → Balanced y (decode t) → (noted y (o .answer)) .refusal ≡ none → Balanced ((noted y (o .answer)) .tally) (decode (o .table))
+pub record Keeps (t : List ℕ) (o : Outcome) : Type 0 where
+  pub form : T (sound (o .table))
+  pub balance : (y : Tally) → Balanced y (decode t) → (noted y (o .answer)) .refusal ≡ none → Balanced ((noted y (o .answer)) .tally) (decode (o .table))
 
 -- it is enough to know the answer and the board that is written
 keeps-as : (t : List ℕ) (o : Outcome) (a : Answer) (d : Board) → o .answer ≡ a → Written (o .table) d → ((y : Tally) → Balanced y (decode t) → (noted y a) .refusal ≡ none → Balanced ((noted y a) .tally) d) → Keeps t o
@@ -77,7 +76,8 @@ module _ (t : List ℕ) (s : T (sound t)) where
       keeps-as t o a d e w
       (λ y b m. subst (λ (u : Tally). Balanced u d) (sym (ap (λ (n : Noted). n .tally) (other-noted y a q))) (b ∙ ap (λ (named : List (List ℕ)). y .closings + length (keep (λ l. not (empty l)) named)) (sym n)))
 
-  keeps : (c : Call) → Keeps t (outcome c t)
+  -- every call keeps it
+  pub keeps : (c : Call) → Keeps t (outcome c t)
   keeps =
       by-call t s (λ c. Keeps t (outcome c t)) keeps-arrival keeps-closing
       (λ n a. let r = relevel n (decode t) in keeps-quiet (outcome (levelling n) t) ((levellingOutcome r) .answer) (r .board) (ap (λ o. o .answer) (a .is)) (a .writes) (levelling-quiet r) (a .does .named))
