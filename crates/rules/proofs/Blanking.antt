@@ -2,14 +2,14 @@
 use Prim.Native.Nat.{ℕ, zero, suc, _+_, _*_, _≤_}
 use native.Mathlib.Omega.{arith}
 use mathlib.Core.Path.{_≡_, refl}
-use mathlib.Core.Bool.{true, false, not, _||_}
+use mathlib.Core.Bool.{true, false, not}
 use mathlib.Core.List.{List, [], map, flatMap}
-use lib.Dec.{T, eqb}
+use lib.Dec.{T}
 use lib.ListN.{length, replicate, length-replicate, replicate-append-replicate}
 use borrow.Author.Tests.{ne-eqb}
 use Rattle.rules.specs.Lists.{within, rising, keep, Each, empty}
 use Rattle.rules.specs.Board.{Board, Shares, namesFit}
-use Rattle.rules.specs.Table.{mostBenches, mostJobs, sizesFit, firstHeld, entriesFrom, layoutOf, entryWords, flat, sound, decode, encode, blankTable, Storable}
+use Rattle.rules.specs.Table.{paired, mostBenches, mostJobs, sizesFit, firstHeld, entriesFrom, layoutOf, entryWords, flat, sound, decode, encode, blankTable, Storable}
 use Rattle.rules.specs.Answers.{Outcome, blanked, refused, sizes}
 use Rattle.rules.specs.Calls.{blanking}
 use Rattle.rules.proofs.Basics.{true→T}
@@ -35,7 +35,7 @@ storable-empty benches jobs b j =
       valid = record { names = each-replicate (λ names. T (namesFit benches names)) jobs tt; shares = shares-empty jobs };
       benches = b;
       jobs = rw (length-replicate {A = List ℕ} jobs []) j;
-      pairs = each-replicate (λ names. T (empty names || eqb (length names) 2)) jobs tt;
+      pairs = each-replicate (λ names. T (paired names)) jobs tt;
     }
 
 -- no job stands on it

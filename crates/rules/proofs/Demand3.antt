@@ -87,7 +87,7 @@ module _ (t : List ℕ) (s : T (sound t)) (l : T (level (decode t))) where
       let r = relevel allowance (decode t) in
       let e = ap (λ (q : Levelled). q .board) (level-rests allowance (decode t) l) in
       carried-as (levelling allowance) t (outcome (levelling allowance) t) ((levellingOutcome r) .answer) (r .board) (ap (λ o. o .answer) (a .is)) (a .writes)
-      (subst (λ (d : Board). T (level d)) (sym e) l) (a .does .benches) (a .does .named) tt
+      (subst (λ (d : Board). T (level d)) (sym e) l) (a .does .report .benches) (a .does .report .jobs) tt
 
   carried-left : (c : Call) → Left t c (outcome c t) → Carried c t (outcome c t)
   carried-left c a =
@@ -98,30 +98,45 @@ module _ (t : List ℕ) (s : T (sound t)) (l : T (level (decode t))) where
   carried : (c : Call) → Carried c t (outcome c t)
   carried = by-call t s (λ c. Carried c t (outcome c t)) carried-arrival carried-closing carried-levelling carried-left
 
--- the claim from any sound level table, by one call after another
-claim : (t : List ℕ) (k : Book) → T (sound t) → T (level (decode t)) → (decode t) .named ≡ k → (cs : List Call) (os : List Outcome) → Runs AsDefined t cs os → Claim t k cs os
-claim t k s l e [] [] r =
+-- what a whole list of calls leaves: the claim, and a sound level table again
+record Ended (t : List ℕ) (k : Book) (cs : List Call) (os : List Outcome) : Type 0 where
+  claim : Claim t k cs os
+  form : T (sound (tableAfter t os))
+  flat : T (level (decode (tableAfter t os)))
+
+-- from any sound level table, by one call after another
+ended : (t : List ℕ) (k : Book) → T (sound t) → T (level (decode t)) → (decode t) .named ≡ k → (cs : List Call) (os : List Outcome) → Runs AsDefined t cs os → Ended t k cs os
+ended t k s l e [] [] r =
     let v = (sound-storable t s) .valid in
     record {
-      benches = refl;
-      book = e;
-      shares = subst (λ (named : Book). Shares named ((decode t) .holders)) e (v .shares);
-      least = λ h holders m. level-least (decode t) v l h holders (subst (λ (named : Book). Shares named holders) (sym e) m);
-      oneLoad = tt;
-      answered = tt;
+      claim = record {
+        benches = refl;
+        book = e;
+        shares = subst (λ (named : Book). Shares named ((decode t) .holders)) e (v .shares);
+        least = λ h holders m. level-least (decode t) v l h holders (subst (λ (named : Book). Shares named holders) (sym e) m);
+        oneLoad = tt;
+        answered = tt;
+      };
+      form = s;
+      flat = l;
     }
-claim t k s l e [] (o ∷ os) r = absurd r
-claim t k s l e (c ∷ cs) [] r = absurd r
-claim t k s l e (c ∷ cs) (o ∷ os) r =
+ended t k s l e [] (o ∷ os) r = absurd r
+ended t k s l e (c ∷ cs) [] r = absurd r
+ended t k s l e (c ∷ cs) (o ∷ os) r =
     let d = subst (Carried c t) (sym (r .0)) (carried t s l c) in
-    let i = claim (o .table) (entered c (isRefused (o .answer)) k) (d .form) (d .flat) (d .book ∙ ap (entered c (isRefused (o .answer))) e) cs os (r .1) in
+    let i = ended (o .table) (entered c (isRefused (o .answer)) k) (d .form) (d .flat) (d .book ∙ ap (entered c (isRefused (o .answer))) e) cs os (r .1) in
+    let j = i .claim in
     record {
-      benches = i .benches ∙ d .benches;
-      book = i .book;
-      shares = i .shares;
-      least = λ h holders m. subst (λ (n : ℕ). excess n ((decode (tableAfter (o .table) os)) .holders) h ≤ excess n holders h) (d .benches) (i .least h holders m);
-      oneLoad = (d .oneLoad, i .oneLoad);
-      answered = r;
+      claim = record {
+        benches = j .benches ∙ d .benches;
+        book = j .book;
+        shares = j .shares;
+        least = λ h holders m. subst (λ (n : ℕ). excess n ((decode (tableAfter (o .table) os)) .holders) h ≤ excess n holders h) (d .benches) (j .least h holders m);
+        oneLoad = (d .oneLoad, j .oneLoad);
+        answered = r;
+      };
+      form = i .form;
+      flat = i .flat;
     }
 
 -- whatever does the calls as they are defined makes a run of the definition
@@ -160,21 +175,17 @@ blanking-starts benches jobs t e =
     let z = sized (length t) benches jobs (true→T (sizesFit (length t) benches jobs) e) in
     rw e (fromBlank benches jobs (subst (λ (n : ℕ). sizesFit n benches jobs ≡ true) (z .exact) e))
 
+-- so every list of calls from a start ends
+from-start : (t : List ℕ) (k : Book) → Start t k → (cs : List Call) (os : List Outcome) → Runs AsDefined t cs os → Ended t k cs os
+from-start t k start = let s = started t k start in ended t k (s .0) (s .1) (s .2)
+
 -- demand 3, whole
 pub demand-3 : Demand3
-demand-3 Does meets t k start cs os r =
-    let s = started t k start in
-    claim t k (s .0) (s .1) (s .2) cs os (as-defined Does meets t cs os r)
+demand-3 Does meets t k start cs os r = (from-start t k start cs os (as-defined Does meets t cs os r)) .claim
 
--- so after every list of calls the table is sound and level ..
+-- after every list of calls the table is sound and level ..
 pub level-after : (t : List ℕ) (k : Book) → Start t k → (cs : List Call) (os : List Outcome) → Runs AsDefined t cs os → T (sound (tableAfter t os)) × T (level (decode (tableAfter t os)))
-level-after t k start = let s = started t k start in go t (s .0) (s .1)
-  where
-    go : (t : List ℕ) → T (sound t) → T (level (decode t)) → (cs : List Call) (os : List Outcome) → Runs AsDefined t cs os → T (sound (tableAfter t os)) × T (level (decode (tableAfter t os)))
-    go t s l [] [] r = (s, l)
-    go t s l [] (o ∷ os) r = absurd r
-    go t s l (c ∷ cs) [] r = absurd r
-    go t s l (c ∷ cs) (o ∷ os) r = let d = subst (Carried c t) (sym (r .0)) (carried t s l c) in go (o .table) (d .form) (d .flat) cs os (r .1)
+level-after t k start cs os r = let e = from-start t k start cs os r in (e .form, e .flat)
 
 -- .. and demand 2 holds of it: its heaviest load is least, and its tight set proves it
 pub demand-2-after : (t : List ℕ) (k : Book) → Start t k → (cs : List Call) (os : List Outcome) → Runs AsDefined t cs os → Demand2 (decode (tableAfter t os))

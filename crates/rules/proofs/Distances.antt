@@ -4,14 +4,13 @@ use native.Mathlib.Omega.{arith}
 use native.Mathlib.Decide.{decLt}
 use mathlib.Core.Path.{_≡_, refl, sym, ap, subst, _∙_}
 use mathlib.Core.Logic.{inl, inr, _≢_}
-use mathlib.Core.Bool.{_||_}
 use mathlib.Core.List.{List, [], _∷_}
-use lib.Dec.{T, eqb, leb}
+use lib.Dec.{T, leb}
 use lib.ListN.{length}
-use Rattle.rules.specs.Lists.{within, different, dictionary, Each, In, empty}
+use Rattle.rules.specs.Lists.{within, different, dictionary, Each, In}
 use Rattle.rules.specs.Board.{Board, Valid, namesOf, holderOf}
 use Rattle.rules.specs.Paths.{Step, steps, endOf, Walk}
-use Rattle.rules.specs.Table.{Storable}
+use Rattle.rules.specs.Table.{paired, Storable}
 use Rattle.rules.proofs.Basics.{T-eqb, T-leb, leb-T, each-in, in-each, each-nth}
 use Rattle.rules.proofs.Paths.{shares-nth, held-named, step-is, benchesOf, jobsOf}
 use Rattle.rules.proofs.Choice.{dictionary-lower, dictionary-same}
@@ -174,7 +173,7 @@ storable-one-other b k =
     pairs-one-other b (k .valid) (in-each (λ names. T (leb (length names) 2)) (b .named) (λ names i. two names (each-in Pair names (b .named) (k .pairs) i)))
   where
     Pair : List ℕ → Type 0
-    Pair names = T (empty names || eqb (length names) 2)
+    Pair names = T (paired names)
 
     two : (names : List ℕ) → Pair names → T (leb (length names) 2)
     two [] t = tt

@@ -14,7 +14,7 @@ use Rattle.rules.specs.Board.{Board, Valid, load}
 use Rattle.rules.specs.Table.{Storable}
 use Rattle.rules.specs.Paths.{BenchPath, last, IsPath, improves, flip}
 use Rattle.rules.specs.Sharing.{levellingChoice, level, Levelled, relevel}
-use Rattle.rules.specs.Demand2.{Turns, rest, turn}
+use Rattle.rules.specs.Demand2.{Turns, rest, turn, LevellingReport}
 use Rattle.rules.specs.Answers.{levelled, stopped}
 use Rattle.rules.specs.Calls.{levellingOutcome}
 use Rattle.rules.proofs.Basics.{true→T, Compared, same, other, compared, eqb-refl, within-low, within-high, length-shares}
@@ -27,12 +27,8 @@ use Rattle.rules.proofs.Flip.{flip-loads, flip-valid}
 -- what levelling does to a valid board
 pub record Relevels (allowance : ℕ) (b : Board) (r : Levelled) : Type 0 where
   pub valid : Valid (r .board)
-  -- no job and no named bench changes
-  pub benches : (r .board) .benches ≡ b .benches
-  pub named : (r .board) .named ≡ b .named
-  -- the count is the number of steps of the rule, at most the allowance ..
-  pub turns : Turns (r .paths) b (r .board)
-  pub allowed : r .paths ≤ allowance
+  -- what it reports is true ..
+  pub report : LevellingReport b (r .board) allowance (r .paths)
   -- .. and with allowance left no improving path is
   pub done : r .paths < allowance → T (level (r .board))
 
@@ -44,25 +40,25 @@ turned n b o =
       | some p ↦ let r = relevel n (flip b p) in record { paths = suc (r .paths); board = r .board }
     ]
 
+-- no path turned
+unturned : (allowance : ℕ) (b : Board) → LevellingReport b b allowance 0
+unturned allowance b = record { benches = refl; jobs = refl; turned = rest b; allowed = omega arith }
+
 -- levelling does all of that
 pub levelling-does : (allowance : ℕ) (b : Board) → Valid b → Relevels allowance b (relevel allowance b)
 unfolding flip
-levelling-does zero b v =
-    record { valid = v; benches = refl; named = refl; turns = rest b; allowed = omega arith; done = λ h. absurd (omega arith) }
+levelling-does zero b v = record { valid = v; report = unturned zero b; done = λ h. absurd (omega arith) }
 levelling-does (suc n) b v = go (levellingChoice b) refl (λ p w. levelling-does n (flip b p) w)
   where
     go : (o : Option BenchPath) → levellingChoice b ≡ o → ((p : BenchPath) → Valid (flip b p) → Relevels n (flip b p) (relevel n (flip b p))) → Relevels (suc n) b (turned n b o)
-    go none e ih =
-        record { valid = v; benches = refl; named = refl; turns = rest b; allowed = omega arith; done = λ h. choice-level b e }
+    go none e ih = record { valid = v; report = unturned (suc n) b; done = λ h. choice-level b e }
     go (some p) e ih =
         let r = relevel n (flip b p) in
         let i = ih p (flip-valid b v p ((choice-improves b p e) .0)) in
+        let j = i .report in
         record {
           valid = i .valid;
-          benches = i .benches;
-          named = i .named;
-          turns = turn (r .paths) b (r .board) p e (i .turns);
-          allowed = omega (arith, i .allowed);
+          report = record { benches = j .benches; jobs = j .jobs; turned = turn (r .paths) b (r .board) p e (j .turned); allowed = omega (arith, j .allowed) };
           done = λ h. i .done (omega arith);
         }
 
@@ -80,30 +76,30 @@ turns-relevel n (suc a) b c (turn m _ _ p e s) l d =
     let h = turns-relevel m a (flip b p) c s (omega arith) (λ k. d (omega arith)) in
     ap (turned a b) e ∙ ap (λ (r : Levelled). record { paths = suc (r .paths); board = r .board }) h
 
--- what is reported, by the test
-says-level : (n : ℕ) (z : Bool) → (cond z (levelled n) (stopped n) ≡ levelled n) ↔ T z
-says-level n true = (λ e. tt, λ t. refl)
-says-level n false = (λ e. true→T false cc, λ t. absurd t)
+-- what an answer says of the test and the count behind it
+pub says-level : (n m : ℕ) (z : Bool) → (cond z (levelled n) (stopped n) ≡ levelled m) ↔ (T z × (n ≡ m))
+says-level n m true = (λ e. (tt, cc), λ d. ap levelled (d .1))
+says-level n m false = (λ e. absurd (true→T false cc), λ d. absurd (d .0))
 
-says-stopped : (n : ℕ) (z : Bool) → (cond z (levelled n) (stopped n) ≡ stopped n) ↔ T (not z)
-says-stopped n true = (λ e. true→T false cc, λ t. absurd t)
-says-stopped n false = (λ e. tt, λ t. refl)
+pub says-stopped : (n m : ℕ) (z : Bool) → (cond z (levelled n) (stopped n) ≡ stopped m) ↔ (T (not z) × (n ≡ m))
+says-stopped n m true = (λ e. absurd (true→T false cc), λ d. absurd (d .0))
+says-stopped n m false = (λ e. (tt, cc), λ d. ap stopped (d .1))
 
 -- "It reports the paths turned, and "level" if no improving path is left, else "stopped"."
 pub levelling-says-level : (r : Levelled) → Valid (r .board) → ((levellingOutcome r) .answer ≡ levelled (r .paths)) ↔ ((p : BenchPath) → IsPath (r .board) p → T (improves (r .board) p) → ⊥)
 unfolding levellingOutcome
 levelling-says-level r v =
-    let s = says-level (r .paths) (level (r .board)) in
+    let s = says-level (r .paths) (r .paths) (level (r .board)) in
     let l = level-exact (r .board) v in
-    (λ e. l .0 (s .0 e), λ f. s .1 (l .1 f))
+    (λ e. l .0 (s .0 e .0), λ f. s .1 (l .1 f, refl))
 
 -- .. and "stopped" exactly if one is
 pub levelling-says-stopped : (r : Levelled) → Valid (r .board) → ((levellingOutcome r) .answer ≡ stopped (r .paths)) ↔ ((p : BenchPath) × IsPath (r .board) p × T (improves (r .board) p))
 unfolding levellingOutcome
 levelling-says-stopped r v =
-    let s = says-stopped (r .paths) (level (r .board)) in
+    let s = says-stopped (r .paths) (r .paths) (level (r .board)) in
     let l = level-exact (r .board) v in
-    (λ e. unlevel-improves (r .board) (s .0 e), λ q. s .1 (not-T (level (r .board)) (λ t. l .0 t (q .0) (q .1) (q .2))))
+    (λ e. unlevel-improves (r .board) (s .0 e .0), λ q. s .1 (not-T (level (r .board)) (λ t. l .0 t (q .0) (q .1) (q .2)), refl))
 
 -- on a level board nothing moves
 pub level-rests : (allowance : ℕ) (b : Board) → T (level b) → relevel allowance b ≡ record { paths = 0; board = b }
@@ -175,7 +171,7 @@ pub levelling-ends : (allowance : ℕ) (b : Board) → Valid b → waiting b ≤
 levelling-ends allowance b v l =
     let r = relevel allowance b in
     let d = levelling-does allowance b v in
-    let w = turns-lower (r .paths) b (r .board) v (d .turns) in
+    let w = turns-lower (r .paths) b (r .board) v (d .report .turned) in
     elim (decLt (r .paths) allowance) [
       | yes h ↦ d .done h
       | no h ↦ (level-exact (r .board) (d .valid)) .1 (λ p q t. omega (arith, turn-lowers (r .board) (d .valid) p q t))

@@ -8,9 +8,9 @@ use mathlib.Core.Option.{Option, none, some}
 use lib.Dec.{T, eqb}
 use lib.ListN.{length}
 use borrow.Author.Tests.{eqb-false}
-use Rattle.rules.specs.Lists.{within, Each, In, empty}
+use Rattle.rules.specs.Lists.{within, Each, In}
 use Rattle.rules.specs.Board.{Board, Valid, stands, namesFit}
-use Rattle.rules.specs.Table.{mostBenches, mostJobs, sound, decode, encode, Storable}
+use Rattle.rules.specs.Table.{paired, mostBenches, mostJobs, sound, decode, encode, Storable}
 use Rattle.rules.specs.Sharing.{Change, arrive, close, Levelled, relevel, level}
 use Rattle.rules.specs.Answers.{Refusal, Outcome, firstHolding, isRefused, settled}
 use Rattle.rules.specs.Answers.{refused, levelYes, levelNo, levelled, stopped}
@@ -27,7 +27,7 @@ use Rattle.rules.proofs.Levelling.{Relevels, levelling-does, levelling-
 use Rattle.rules.proofs.Paths.{level-exact}
 
 -- a board with the sizes of a storable one, valid and with two benches for each job, is storable
-resized : (b c : Board) → Storable b → Valid c → c .benches ≡ b .benches → length (c .named) ≡ length (b .named) → Each (λ names. T (empty names || eqb (length names) 2)) (c .named) → Storable c
+resized : (b c : Board) → Storable b → Valid c → c .benches ≡ b .benches → length (c .named) ≡ length (b .named) → Each (λ names. T (paired names)) (c .named) → Storable c
 resized b c s v e l p =
     record {
       valid = v;
@@ -37,10 +37,10 @@ resized b c s v e l p =
     }
 
 -- so is one in which job j was taken to these names
-changed-storable : (b : Board) (j : ℕ) (names : List ℕ) (c : Change) → Storable b → T (empty names || eqb (length names) 2) → Changed b j names c → Storable (c .board)
+changed-storable : (b : Board) (j : ℕ) (names : List ℕ) (c : Change) → Storable b → T (paired names) → Changed b j names c → Storable (c .board)
 changed-storable b j names c s p d =
     resized b (c .board) s (d .valid) (d .benches) (ap length (d .named) ∙ length-change (b .named) j names)
-    (subst (Each (λ names. T (empty names || eqb (length names) 2))) (sym (d .named)) (each-change (λ names. T (empty names || eqb (length names) 2)) (b .named) j names p (s .pairs)))
+    (subst (Each (λ names. T (paired names))) (sym (d .named)) (each-change (λ names. T (paired names)) (b .named) j names p (s .pairs)))
 
 -- a table that a change writes: sound, and of that board
 pub record Written (u : List ℕ) (b : Board) : Type 0 where
@@ -143,8 +143,9 @@ levelling-accepted t s allowance =
     let st = sound-storable t s in
     let r = relevel allowance (decode t) in
     let d = levelling-does allowance (decode t) (st .valid) in
-    let p = subst (Each (λ names. T (empty names || eqb (length names) 2))) (sym (d .named)) (st .pairs) in
-    record { is = e; writes = written-as (r .board) (resized (decode t) (r .board) st (d .valid) (d .benches) (ap length (d .named)) p) (ap (λ o. o .table) e); does = d }
+    let q = d .report in
+    let p = subst (Each (λ names. T (paired names))) (sym (q .jobs)) (st .pairs) in
+    record { is = e; writes = written-as (r .board) (resized (decode t) (r .board) st (d .valid) (q .benches) (ap length (q .jobs)) p) (ap (λ o. o .table) e); does = d }
 
 -- "level" is answered, whatever the board, from an allowance of 7,998,000 on
 pub levelling-enough : (t : List ℕ) → T (sound t) → (allowance : ℕ) → 7998000 ≤ allowance → (outcome (levelling allowance) t) .answer ≡ levelled ((relevel allowance (decode t)) .paths)

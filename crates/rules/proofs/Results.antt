@@ -3,7 +3,6 @@ use Prim.Native.Nat.{ℕ}
 use native.Mathlib.Omega.{arith}
 use native.Mathlib.Decide.{decLt}
 use mathlib.Core.Path.{_≡_, sym, ap, subst, _∙_}
-use mathlib.Core.Bool.{Bool, true, false, cond, not}
 use mathlib.Core.List.{List, [], _∷_}
 use lib.Dec.{T, T-not}
 use lib.ListN.{length}
@@ -14,18 +13,9 @@ use Rattle.rules.specs.Sharing.{arrive, close, relevel, level}
 use Rattle.rules.specs.Answers.{isRefused, arrived, closed, levelled, stopped}
 use Rattle.rules.specs.Calls.{arrival, closing, levelling, outcome, arrivalOutcome, closingOutcome, levellingOutcome}
 use Rattle.rules.specs.Demand2.{OneMore, ArrivalReport, ClosingReport, LevellingReport}
-use Rattle.rules.proofs.Basics.{true→T}
 use Rattle.rules.proofs.Paths.{level-exact, unlevel-improves}
+use Rattle.rules.proofs.Levelling.{says-level, says-stopped}
 use Rattle.rules.proofs.Outcomes.{arrival-accepted, closing-accepted, levelling-accepted}
-
--- what a levelling's answer says of the test behind it
-said-level : (n m : ℕ) (z : Bool) → cond z (levelled n) (stopped n) ≡ levelled m → T z × (n ≡ m)
-said-level n m true e = (tt, cc)
-said-level n m false e = absurd (true→T false cc)
-
-said-stopped : (n m : ℕ) (z : Bool) → cond z (levelled n) (stopped n) ≡ stopped m → T (not z) × (n ≡ m)
-said-stopped n m true e = absurd (true→T false cc)
-said-stopped n m false e = (tt, cc)
 
 module _ (t : List ℕ) (s : T (sound t)) where
   -- an arrival's answer
@@ -39,6 +29,7 @@ module _ (t : List ℕ) (s : T (sound t)) where
       let m : length (c .moved) ≡ moved = cc in
       subst (λ (u : Board). ArrivalReport (decode t) u j (x ∷ y ∷ []) holder rose moved) (sym (a .writes .board))
       (record {
+        benches = a .does .benches;
         jobs = a .does .named;
         inTheEnd = cc;
         oneRose = subst (OneMore ((decode t) .benches) ((decode t) .holders) ((c .board) .holders)) k (a .rose);
@@ -56,6 +47,7 @@ module _ (t : List ℕ) (s : T (sound t)) where
       let m : length (c .moved) ≡ moved = cc in
       subst (λ (u : Board). ClosingReport (decode t) u j fell moved) (sym (a .writes .board))
       (record {
+        benches = a .does .benches;
         jobs = a .does .named;
         oneFell = subst (OneMore ((decode t) .benches) ((c .board) .holders) ((decode t) .holders)) k (a .fell);
         others = sym (a .does .number) ∙ m;
@@ -66,7 +58,7 @@ module _ (t : List ℕ) (s : T (sound t)) where
   levelling-result allowance =
       let a = levelling-accepted t s allowance in
       let r = relevel allowance (decode t) in
-      subst (λ (u : Board). LevellingReport (decode t) u allowance (r .paths)) (sym (a .writes .board)) (record { jobs = a .does .named; turned = a .does .turns; allowed = a .does .allowed })
+      subst (λ (u : Board). LevellingReport (decode t) u allowance (r .paths)) (sym (a .writes .board)) (a .does .report)
 
   -- "level": no improving path is left
   pub level-result : (allowance paths : ℕ) → (outcome (levelling allowance) t) .answer ≡ levelled paths → let after = decode ((outcome (levelling allowance) t) .table) in LevellingReport (decode t) after allowance paths × ((p : BenchPath) → IsPath after p → T (improves after p) → ⊥)
@@ -74,7 +66,7 @@ module _ (t : List ℕ) (s : T (sound t)) where
   level-result allowance paths e =
       let a = levelling-accepted t s allowance in
       let r = relevel allowance (decode t) in
-      let d = said-level (r .paths) paths (level (r .board)) (ap (λ o. o .answer) (sym (a .is)) ∙ e) in
+      let d = says-level (r .paths) paths (level (r .board)) .0 (ap (λ o. o .answer) (sym (a .is)) ∙ e) in
       (subst (LevellingReport (decode t) (decode ((outcome (levelling allowance) t) .table)) allowance) (d .1) (levelling-result allowance), subst (λ (u : Board). (p : BenchPath) → IsPath u p → T (improves u p) → ⊥) (sym (a .writes .board)) ((level-exact (r .board) (a .does .valid)) .0 (d .0)))
 
   -- "stopped": one is, and the allowance is used up
@@ -83,6 +75,6 @@ module _ (t : List ℕ) (s : T (sound t)) where
   stopped-result allowance paths e =
       let a = levelling-accepted t s allowance in
       let r = relevel allowance (decode t) in
-      let d = said-stopped (r .paths) paths (level (r .board)) (ap (λ o. o .answer) (sym (a .is)) ∙ e) in
-      let used : r .paths ≡ allowance = elim (decLt (r .paths) allowance) [ yes h ↦ absurd (T-not (level (r .board)) (d .0) (a .does .done h)) | no h ↦ omega (arith, a .does .allowed) ] in
+      let d = says-stopped (r .paths) paths (level (r .board)) .0 (ap (λ o. o .answer) (sym (a .is)) ∙ e) in
+      let used : r .paths ≡ allowance = elim (decLt (r .paths) allowance) [ yes h ↦ absurd (T-not (level (r .board)) (d .0) (a .does .done h)) | no h ↦ omega (arith, a .does .report .allowed) ] in
       (subst (LevellingReport (decode t) (decode ((outcome (levelling allowance) t) .table)) allowance) (d .1) (levelling-result allowance), subst (λ (u : Board). (p : BenchPath) × IsPath u p × T (improves u p)) (sym (a .writes .board)) (unlevel-improves (r .board) (d .0)), sym (d .1) ∙ used)

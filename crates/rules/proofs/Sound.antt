@@ -12,7 +12,7 @@ use lib.ListN.{length, getD, drop, length-take, length-drop, length-map, List·g
 use lib.Seq.{getD-take, getD-drop}
 use Rattle.rules.specs.Lists.{keep, bit, within, count, member, different, all, Each, In, empty, nth, numbered}
 use Rattle.rules.specs.Board.{holderOf, stands, standing, Shares, mayHold, namesFit}
-use Rattle.rules.specs.Table.{words, lengthFor, mostBenches, mostJobs, sizesFit, Entry, vacant, filled, holderIn, Layout, entriesIn, layout, follow, chains, standingIn, entryFits, placed, onlyStanding, formed, fits, sound, boardOf, decode, entryWords, Storable}
+use Rattle.rules.specs.Table.{paired, words, lengthFor, mostBenches, mostJobs, sizesFit, Entry, vacant, filled, holderIn, Layout, entriesIn, layout, follow, chains, standingIn, entryFits, placed, onlyStanding, formed, fits, sound, boardOf, decode, entryWords, Storable}
 use Rattle.rules.proofs.Basics.{true→T, T→true, not→false, not-false, both, left, right, or-right, Compared, same, other, compared, T-eqb, eqb-T, T-leb, within-low, within-high, within-both, in-left, in-right, in-either, in-keep, keep-in, all-in, in-all, each-in, in-each, in-getD, in-nth, in-numbered, in-numbered-nth, numbered-nth, in-map, nth-map, each-map, member-in, in-member, Member, is-in, not-in, membered, different-head, fit-bench}
 use Rattle.rules.proofs.Counting.{bit-le, bit-same, bit-other, count-none, count-some, few}
 
@@ -287,7 +287,7 @@ namesIn e = cond (filled e) (e .names) []
 record Job (benches : ℕ) (names : List ℕ) (h : ℕ) : Type 0 where
   fit : T (namesFit benches names)
   held : T (mayHold names h)
-  pair : T (empty names || eqb (length names) 2)
+  pair : T (paired names)
 
 -- the holder word 1 or 2 tells a bench that the job names
 told : (names : List ℕ) (p : ℕ) → T (within 1 (length names) p) → T (mayHold names (nth names p 0))

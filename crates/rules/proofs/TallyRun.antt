@@ -80,7 +80,7 @@ module _ (t : List ℕ) (s : T (sound t)) where
   pub keeps : (c : Call) → Keeps t (outcome c t)
   keeps =
       by-call t s (λ c. Keeps t (outcome c t)) keeps-arrival keeps-closing
-      (λ n a. let r = relevel n (decode t) in keeps-quiet (outcome (levelling n) t) ((levellingOutcome r) .answer) (r .board) (ap (λ o. o .answer) (a .is)) (a .writes) (levelling-quiet r) (a .does .named))
+      (λ n a. let r = relevel n (decode t) in keeps-quiet (outcome (levelling n) t) ((levellingOutcome r) .answer) (r .board) (ap (λ o. o .answer) (a .is)) (a .writes) (levelling-quiet r) (a .does .report .jobs))
       (λ c a. keeps-quiet (outcome c t) ((outcome c t) .answer) (decode t) refl (subst (λ (u : List ℕ). Written u (decode t)) (sym (a .table)) (record { sound = s; board = refl })) (a .quiet) refl)
 
 -- along a whole run

@@ -2,14 +2,14 @@
 use Prim.Native.Nat.{ℕ, suc, _+_, _*_, _/_, _%_, _≤_, _<_}
 use native.Mathlib.Omega.{arith}
 use mathlib.Core.Path.{_≡_, refl, sym, ap, _∙_}
-use mathlib.Core.Bool.{Bool, true, false, cond, not, _&&_, _||_}
+use mathlib.Core.Bool.{Bool, true, false, cond, not, _&&_}
 use mathlib.Core.List.{List, [], _∷_, _++_, map, flatMap, append-nil}
 use lib.Dec.{T, eqb, leb}
 use lib.ListN.{length, take, drop, length-append, length-map}
 use lib.Seq.{take-at, drop-at}
 use Rattle.rules.specs.Lists.{within, rising, Each, empty}
 use Rattle.rules.specs.Board.{Board, Shares, namesFit}
-use Rattle.rules.specs.Table.{words, bytesOf, mostBenches, mostJobs, lengthFor, sizesFit, Entry, Layout, entriesIn, layout, fits, firstHeld, placeOf, entryFor, entriesFrom, layoutOf, entryWords, flat, encode, Storable}
+use Rattle.rules.specs.Table.{paired, words, bytesOf, mostBenches, mostJobs, lengthFor, sizesFit, Entry, Layout, entriesIn, layout, fits, firstHeld, placeOf, entryFor, entriesFrom, layoutOf, entryWords, flat, encode, Storable}
 use Rattle.rules.proofs.Basics.{both, T-eqb, eqb-T, leb-T, within-high, in-each, each-append, each-map, length-keep, length-rising, length-shares, fit-bench}
 
 -- words and bytes
@@ -94,7 +94,7 @@ length-entries i (names ∷ named) [] s = absurd s
 length-entries i (names ∷ named) (h ∷ holders) s = ap suc (length-entries (suc i) named holders (s .1))
 
 -- the records have two names each
-entries-two : (i : ℕ) (named : List (List ℕ)) (holders : List ℕ) → Each (λ names. T (empty names || eqb (length names) 2)) named → Each (λ e. length (e .names) ≡ 2) (entriesFrom i named holders)
+entries-two : (i : ℕ) (named : List (List ℕ)) (holders : List ℕ) → Each (λ names. T (paired names)) named → Each (λ e. length (e .names) ≡ 2) (entriesFrom i named holders)
 entries-two i [] holders p = tt
 entries-two i (names ∷ named) [] p = tt
 entries-two i ([] ∷ named) (h ∷ holders) p = (refl, entries-two (suc i) named holders (p .1))
@@ -130,7 +130,7 @@ abbrev Small : ℕ → Type 0
 Small w = w < 65536
 
 -- no word of a record is above 65,535
-entry-small : (benches : ℕ) (names : List ℕ) (h n : ℕ) → benches ≤ mostBenches → n < 65536 → T (namesFit benches names) → T (empty names || eqb (length names) 2) → Each Small (entryWords (entryFor names h n))
+entry-small : (benches : ℕ) (names : List ℕ) (h n : ℕ) → benches ≤ mostBenches → n < 65536 → T (namesFit benches names) → T (paired names) → Each Small (entryWords (entryFor names h n))
 entry-small benches [] h n b m f p = omega arith
 entry-small benches (x ∷ l) h n b m f p =
     let names : List ℕ = x ∷ l in
@@ -139,7 +139,7 @@ entry-small benches (x ∷ l) h n b m f p =
     (omega (arith, placeOf-le h names, T-eqb (length names) 2 p))
 
 -- nor of the records of the jobs from i on
-entries-small : (benches i : ℕ) (named : List (List ℕ)) (holders : List ℕ) → benches ≤ mostBenches → i + length holders < 65536 → Each (λ names. T (namesFit benches names)) named → Each (λ names. T (empty names || eqb (length names) 2)) named → Each Small (flatMap entryWords (entriesFrom i named holders))
+entries-small : (benches i : ℕ) (named : List (List ℕ)) (holders : List ℕ) → benches ≤ mostBenches → i + length holders < 65536 → Each (λ names. T (namesFit benches names)) named → Each (λ names. T (paired names)) named → Each Small (flatMap entryWords (entriesFrom i named holders))
 unfolding flatMap
 entries-small benches i [] holders b m f p = tt
 entries-small benches i (names ∷ named) [] b m f p = tt

@@ -43,6 +43,7 @@ handed j before after =
 -- an arrival of job j for these benches reports "the bench that holds the new job in the end, the bench whose load rose, and the
 -- number of other jobs that changed holder"
 pub record ArrivalReport (before after : Board) (j : ℕ) (names : List ℕ) (holder rose moved : ℕ) : Type 0 where
+  pub benches : after .benches ≡ before .benches
   pub jobs : after .named ≡ change (before .named) j names
   pub inTheEnd : holderOf after j ≡ holder
   pub oneRose : OneMore (before .benches) (before .holders) (after .holders) rose
@@ -50,6 +51,7 @@ pub record ArrivalReport (before after : Board) (j : ℕ) (names : List ℕ) (ho
 
 -- a closing of job j reports "the bench whose load fell, and the jobs that changed holder"
 pub record ClosingReport (before after : Board) (j fell moved : ℕ) : Type 0 where
+  pub benches : after .benches ≡ before .benches
   pub jobs : after .named ≡ change (before .named) j []
   pub oneFell : OneMore (before .benches) (after .holders) (before .holders) fell
   pub others : handed j before after ≡ moved
@@ -61,6 +63,7 @@ pub data Turns : ℕ → Board → Board → Type 0 where
 
 -- a levelling reports "the paths turned", within the allowance; no job and no named bench changes
 pub record LevellingReport (before after : Board) (allowance paths : ℕ) : Type 0 where
+  pub benches : after .benches ≡ before .benches
   pub jobs : after .named ≡ before .named
   pub turned : Turns paths before after
   pub allowed : paths ≤ allowance

@@ -192,9 +192,13 @@ encode b = bytesOf (flat (layoutOf b))
 unfoldable pub blankTable : ℕ → ℕ → List ℕ
 blankTable benches jobs = bytesOf (benches ∷ jobs ∷ replicate (2 + benches + 4 * jobs) 0)
 
+-- no job, or a job that names two benches, as a record holds it
+abbrev pub paired : List ℕ → Bool
+paired names = empty names || eqb (length names) 2
+
 -- a board that a table can hold: sizes within the limits, and two benches for each job
 pub record Storable (b : Board) : Type 0 where
   pub valid : Valid b
   pub benches : T (within 1 mostBenches (b .benches))
   pub jobs : T (within 1 mostJobs (length (b .named)))
-  pub pairs : Each (λ names. T (empty names || eqb (length names) 2)) (b .named)
+  pub pairs : Each (λ names. T (paired names)) (b .named)
