@@ -79,7 +79,7 @@ digits-value n (c ∷ l) h t =
     ∙ ap (λ (i : ℕ). digits n n ++ (i ∷ l)) e
 
 -- what a number's digits are
-record Written (n : ℕ) (l : List ℕ) : Type 0 where
+record Spelled (n : ℕ) (l : List ℕ) : Type 0 where
   is : value 0 l ≡ n
   only : T (all digit l)
   lead : 1 ≤ n → T (leads l)
@@ -99,7 +99,7 @@ leads-before (c ∷ l) k t = t
 digit-of : (d : ℕ) → d < 10 → T (digit (code "0" + d))
 digit-of d h = within-both (code "0") (code "9") (code "0" + d) (omega arith) (omega arith)
 
-written-one : (n : ℕ) → n < 10 → Written n ((code "0" + n) ∷ [])
+written-one : (n : ℕ) → n < 10 → Spelled n ((code "0" + n) ∷ [])
 written-one n h =
     record {
       is = omega arith;
@@ -107,15 +107,15 @@ written-one n h =
       lead = λ p. differ (code "0" + n) (code "0") .0 (λ e. omega arith);
     }
 
-written : (k n : ℕ) → n ≤ k → Written n (digits k n)
+written : (k n : ℕ) → n ≤ k → Spelled n (digits k n)
 written zero n h = written-one n (omega arith)
 written (suc k) n h =
     elim (decLt n 10) [
-      | yes d ↦ subst (Written n) (sym (digits-one (suc k) n d)) (written-one n d)
-      | no d ↦ subst (Written n) (sym (digits-more k n (omega arith))) (more (omega arith) (written k (n / 10) (omega arith)))
+      | yes d ↦ subst (Spelled n) (sym (digits-one (suc k) n d)) (written-one n d)
+      | no d ↦ subst (Spelled n) (sym (digits-more k n (omega arith))) (more (omega arith) (written k (n / 10) (omega arith)))
     ]
   where
-    more : 10 ≤ n → Written (n / 10) (digits k (n / 10)) → Written n (digits k (n / 10) ++ ((code "0" + n % 10) ∷ []))
+    more : 10 ≤ n → Spelled (n / 10) (digits k (n / 10)) → Spelled n (digits k (n / 10) ++ ((code "0" + n % 10) ∷ []))
     more d w =
         record {
           is = value-behind 0 (code "0" + n % 10) (digits k (n / 10)) ∙ omega (arith, w .is);

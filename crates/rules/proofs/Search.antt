@@ -7,14 +7,14 @@ use mathlib.Core.Logic.{_↔_}
 use mathlib.Core.List.{List, [], _∷_, _++_}
 use mathlib.Core.Option.{some}
 use lib.Dec.{T}
-use lib.ListN.{length, length-map}
+use lib.ListN.{length, length-append, length-map}
 use Rattle.rules.specs.Lists.{within, In}
 use Rattle.rules.specs.Board.{Board, Valid, holderOf}
 use Rattle.rules.specs.Paths.{Step, stepBy, steps, pathBy, endOf, Walk}
 use Rattle.rules.specs.Sharing.{arrivalChoice, closingChoice}
 use Rattle.rules.proofs.Counting.{different-count, few}
 use Rattle.rules.proofs.Paths.{named-stands, holder-bench, step-is, step-bench, benchesOf, walk-benches}
-use Rattle.rules.proofs.Walks.{fewest-once}
+use Rattle.rules.proofs.Walks.{walk-join, end-join, fewest-once}
 use Rattle.rules.proofs.Distances.{To, Away, Stays, Nearer, Next, Smallest, Greedy, OneOther, greedy-walk, smallest-first, greedy-smallest}
 use Rattle.rules.proofs.Found.{FirstList, ArrivalEnd, ClosingStart, arrival-found, closing-found}
 
@@ -35,18 +35,14 @@ module _ (benches : ℕ) (out : ℕ → List Step) where
     pub on : (x : ℕ) (s : Step) → T (within 1 benches x) → In s (out x) → 1 ≤ d (s .to) → (1 ≤ d x) × (d x ≤ suc (d (s .to)))
 
 module _ (benches : ℕ) (out : ℕ → List Step) (stays : Stays benches out) where
-  walk-on : (x : ℕ) (r : List Step) (s : Step) → Walk out x r → In s (out (endOf x r)) → Walk out x (r ++ (s ∷ [])) × (endOf x (r ++ (s ∷ [])) ≡ s .to) × (length (r ++ (s ∷ [])) ≡ suc (length r))
-  walk-on x [] s w i = ((i, tt), refl, refl)
-  walk-on x (q ∷ r) s w i = let h = walk-on (q .to) r s (w .1) i in ((w .0, h .0), h .1, ap suc (h .2))
-
   module _ (v : ℕ) (f : ℕ → ℕ) (a : NumberedAway benches out v f) where
     away-walk : (n y : ℕ) → T (within 1 benches y) → f y ≡ suc n → (r : List Step) × Walk out v r × (endOf v r ≡ y) × (length r ≡ n)
     away-walk zero y w e = ([], tt, sym (a .only y w e), refl)
     away-walk (suc n) y w e =
         let (z, s, u, i, k, m) = a .from y n w e in
         let h = away-walk n z u m in
-        let j = walk-on v (h .0) s (h .1) (subst (λ (x : ℕ). In s (out x)) (sym (h .2)) i) in
-        (h .0 ++ (s ∷ []), j .0, j .1 ∙ k, j .2 ∙ ap suc (h .3))
+        let j : In s (out (endOf v (h .0))) = subst (λ (x : ℕ). In s (out x)) (sym (h .2)) i in
+        (h .0 ++ (s ∷ []), walk-join out v (h .0) (s ∷ []) (h .1) (j, tt), end-join out v (h .0) (s ∷ []) ∙ k, omega (arith, length-append (h .0) (s ∷ []), h .3))
 
     -- along a walk the numbers rise by one a step at most
     away-rises : (z : ℕ) (r : List Step) → T (within 1 benches z) → 1 ≤ f z → Walk out z r → (1 ≤ f (endOf z r)) × (f (endOf z r) ≤ f z + length r)

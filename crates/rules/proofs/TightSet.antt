@@ -214,6 +214,11 @@ tight-set b v h y = (λ i. forth ((tight-reached b v h y) .0 i), λ (p, w, t, l,
     forth : (x : ℕ) × T (within 1 (b .benches) x) × (h ≤ load (b .holders) x) × Reach (steps b) x y → (p : BenchPath) × IsPath b p × T (within 1 (b .benches) (p .start)) × (h ≤ load (b .holders) (p .start)) × (last p ≡ y)
     forth (x, t, l, w) = let r = reach-path b x y w in (r .0, r .1, rw (r .2) t, rw (r .2) l, r .3)
 
+-- only benches of 1 to B are in it
+pub tight-bench : (b : Board) (h y : ℕ) → In y (tightSet b h) → T (within 1 (b .benches) y)
+unfolding tightSet
+tight-bench b h y i = brought-bench b (λ x. leb h (load (b .holders) x)) y i
+
 -- "the bench numbers, rising": the set is the list of its own benches in rising order
 pub tight-rising : (b : Board) (h : ℕ) → tightSet b h ≡ keep (λ x. member x (tightSet b h)) (rising 1 (b .benches))
 unfolding tightSet
@@ -242,8 +247,3 @@ level-closure b v =
         let h = suc (load (b .holders) (last p)) in
         let l : suc h ≤ load (b .holders) (p .start) = omega (arith, improves-loads b p t) in
         omega (arith, f h (last p) ((tight-reached b v (suc h) (last p)) .1 (p .start, improves-start b v p w t, l, path-reach b p w)))
-
--- and one of 1 to B
-pub tight-bench : (b : Board) (h y : ℕ) → In y (tightSet b h) → T (within 1 (b .benches) y)
-unfolding tightSet
-tight-bench b h y i = brought-bench b (λ x. leb h (load (b .holders) x)) y i

@@ -28,11 +28,13 @@ module _ (out : ℕ → List Step) where
   pub reach-first : (x y : ℕ) (s : Step) → In s (out x) → Reach (s .to) y → Reach x y
   reach-first x y s i w = (s ∷ w .0, (i, w .1), w .2)
 
-  walk-join : (x : ℕ) (r q : List Step) → Walk out x r → Walk out (endOf x r) q → Walk out x (r ++ q)
+  -- a route behind another is a walk from where that ends ..
+  pub walk-join : (x : ℕ) (r q : List Step) → Walk out x r → Walk out (endOf x r) q → Walk out x (r ++ q)
   walk-join x [] q v w = w
   walk-join x (s ∷ r) q v w = (v .0, walk-join (s .to) r q (v .1) w)
 
-  end-join : (x : ℕ) (r q : List Step) → endOf x (r ++ q) ≡ endOf (endOf x r) q
+  -- .. to its own end
+  pub end-join : (x : ℕ) (r q : List Step) → endOf x (r ++ q) ≡ endOf (endOf x r) q
   end-join x [] q = refl
   end-join x (s ∷ r) q = end-join (s .to) r q
 
