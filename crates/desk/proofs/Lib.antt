@@ -1,0 +1,2 @@
+-- What the C calls return.
+pub mod Returned

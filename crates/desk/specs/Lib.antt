@@ -1,0 +1,2 @@
+-- What a C call returns.
+pub mod Desk

@@ -1,0 +1,53 @@
+-- A job's record as the code holds it, and the layout with one part of it written anew.
+use Prim.Native.Nat.{ℕ, _<_}
+use mathlib.Core.Path.{_≡_}
+use mathlib.Core.Bool.{cond}
+use mathlib.Core.List.{List, [], _∷_}
+use lib.Dec.{T}
+use Rattle.rules.specs.Lists.{nth, change}
+use Rattle.rules.specs.Table.{Entry, Layout, vacant}
+use Rattle.table.specs.Bytes.{laid}
+use Rattle.table.specs.Sizes.{SizeOf}
+use Rattle.table.specs.declared.size.Size.{Size}
+use Rattle.table.specs.declared.records.Record.{Record}
+
+-- the record that the code holds
+abbrev pub entryOf : Record → Entry
+entryOf r = record { names = r .first ∷ r .second ∷ []; holder = r .holder; next = r .next }
+
+-- each of the four is a word
+pub record Small (r : Record) : Type 0 where
+  pub first : r .first < 65536
+  pub second : r .second < 65536
+  pub holder : r .holder < 65536
+  pub next : r .next < 65536
+
+-- r is job j's record
+pub record RecordOf (t : List ℕ) (j : ℕ) (r : Record) : Type 0 where
+  pub entry : entryOf r ≡ nth ((laid t) .entries) j vacant
+  pub small : Small r
+
+-- the layout with another first job on bench x's chain
+abbrev pub withHead : Layout → ℕ → ℕ → Layout
+withHead l x j =
+    record { benches = l .benches; jobs = l .jobs; standing = l .standing; spare = l .spare; heads = change (l .heads) x j; entries = l .entries }
+
+-- the layout with other chains' heads
+abbrev pub withHeads : Layout → List ℕ → Layout
+withHeads l heads =
+    record { benches = l .benches; jobs = l .jobs; standing = l .standing; spare = l .spare; heads = heads; entries = l .entries }
+
+-- the layout with another record of job j
+abbrev pub withEntry : Layout → ℕ → Entry → Layout
+withEntry l j e =
+    record { benches = l .benches; jobs = l .jobs; standing = l .standing; spare = l .spare; heads = l .heads; entries = change (l .entries) j e }
+
+-- the layout with word 2 written anew and word 3 zero
+abbrev pub withStanding : Layout → ℕ → Layout
+withStanding l n =
+    record { benches = l .benches; jobs = l .jobs; standing = n; spare = 0; heads = l .heads; entries = l .entries }
+
+-- a table of size s that has the layout l: l fixes all its bytes
+pub record Laid (t : List ℕ) (s : Size) (l : Layout) : Type 0 where
+  pub size : SizeOf t s
+  pub layout : laid t ≡ l

@@ -1,0 +1,71 @@
+// Prints, for each table file that its arguments name, what the form check answers (sound, 1 or 2), and the heaviest load or the
+// same refusal. The files and the expected answers were made by another implementation of document 01.
+ghost use Rattle.table.specs.View.{SoundTable};
+use libc::STDOUT_FILENO;
+use table::form;
+use table::form::Form;
+use table::loads;
+use table::size::Size;
+
+fn heaviest(loads: &[u16; 501]) -> u16 {
+    let mut most = 0;
+    let mut x = 1;
+    while x < 501 {
+        let load = loads[x];
+        if most < load {
+            most = load;
+        }
+        x += 1;
+    }
+    most
+}
+
+fn print_sound(t: &[u8], s: Size)
+    requires { ⌜ SoundTable (now t) s ⌝ }
+{
+    let mut loads = [0u16; 501];
+    loads::loads(t, s, &mut loads);
+    io::write_all(STDOUT_FILENO, b" sound H");
+    io::print_decimal(STDOUT_FILENO, heaviest(&loads) as u64);
+    io::write_all(STDOUT_FILENO, b"\n");
+}
+
+fn print_table(t: &[u8]) {
+    match form::check(t) {
+        Form::Sizes => {
+            io::write_all(STDOUT_FILENO, b" 1 1\n");
+        }
+        Form::Unsound => {
+            io::write_all(STDOUT_FILENO, b" 2 2\n");
+        }
+        Form::Sound(s) => print_sound(t, s),
+    }
+}
+
+fn print_file(path: &[u8]) {
+    let fd = os::open_read(path);
+    if fd < 0 {
+        os::fail(path);
+        return;
+    }
+    let mut bytes = io::large_buffer();
+    let n = io::read_full(fd, &mut bytes);
+    libc::close(fd);
+    io::write_all(STDOUT_FILENO, path);
+    print_table(&bytes[..n]);
+}
+
+fn print_argument(i: usize) {
+    let mut path = io::buffer();
+    let n = os::arg(i, &mut path);
+    print_file(&path[..n]);
+}
+
+fn main() {
+    let count = os::arg_count();
+    let mut i = 1;
+    while i < count {
+        print_argument(i);
+        i += 1;
+    }
+}
