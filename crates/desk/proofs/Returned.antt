@@ -1,6 +1,6 @@
 -- The definition's answers in numbers.
 use Prim.Native.Nat.{ℕ}
-use mathlib.Core.Path.{_≡_, refl, ap, _∙_}
+use mathlib.Core.Path.{_≡_, refl, ap}
 use mathlib.Core.Bool.{Bool, true, false, cond, not}
 use mathlib.Core.List.{List, [], _∷_}
 use lib.ListN.{length}
@@ -10,9 +10,9 @@ use Rattle.rules.specs.Calls.{outcome, formCheck, blanking, answering}
 use Rattle.rules.proofs.Questions.{form-check}
 use Rattle.table.specs.Bytes.{laid}
 use Rattle.table.specs.Sizes.{fitIf, sizeIn}
-use Rattle.table.specs.View.{formIf, formIn}
-use Rattle.table.specs.declared.form.Form.{Form}
-use Rattle.table.specs.declared.form.Form.the-variants.{Sizes, Unsound, Sound}
+use Rattle.form.specs.Check.{formIf, formIn}
+use Rattle.form.specs.declared.Form.{Form}
+use Rattle.form.specs.declared.Form.the-variants.{Sizes, Unsound, Sound}
 use Rattle.desk.specs.Desk.{returned}
 
 -- the number of each answer of the form check

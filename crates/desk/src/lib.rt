@@ -2,8 +2,8 @@
 ghost use mathlib.Core.Path.{_≡_};
 ghost use Rattle.rules.specs.Calls.{outcome, blanking, formCheck};
 ghost use Rattle.desk.specs.Desk.{returned};
-use table::form;
-use table::form::Form;
+use form::Form;
+use table::header;
 
 // Writes a table without jobs; 1 where the length is not that of so many benches and jobs.
 #[no_mangle]
@@ -11,7 +11,7 @@ pub extern "C" fn jobboard_blank(table: &mut [u8], benches: u32, jobs: u32) -> u
     ensures { λ r. ⌜ r ≡ returned (blanking benches jobs (now (table .entry)) .answer) ⌝ }
     ensures { λ r. ⌜ now (table .exit) ≡ blanking benches jobs (now (table .entry)) .table ⌝ }
 {
-    if form::blank(table, benches as usize, jobs as usize) {
+    if header::blank(table, benches as usize, jobs as usize) {
         0
     } else {
         1

@@ -8,11 +8,10 @@ use lib.Seq.{take-set-le, take-set-lt, drop-set-lt, drop-set-add, getD-set-other
 use Rattle.rules.specs.Lists.{nth, change}
 use Rattle.rules.specs.Table.{words, Entry, vacant, entriesIn, entryWords, Layout, layout, flat}
 use Rattle.rules.proofs.Basics.{nth-change-same}
-use Rattle.rules.proofs.Sound.{length-words, entryFrom, entry-at}
-use Rattle.table.specs.Bytes.{setWord, laid}
+use Rattle.rules.proofs.Sound.{length-words, entryFrom, head-at, entry-at}
+use Rattle.table.specs.Bytes.{IsWord, setWord, laid}
 use Rattle.table.specs.Sizes.{SizeOf, JobIn, BenchIn}
-use Rattle.table.specs.Records.{withHead, withEntry, withStanding, Laid}
-use Rattle.table.specs.Chains.{withNext, cleared}
+use Rattle.table.specs.Records.{HeadOf, withNext, withHead, cleared, withEntry, withStanding, Laid}
 use Rattle.table.specs.declared.size.Size.{Size}
 use Rattle.table.proofs.Bytes.{words-setWord, length-setWord}
 use Rattle.table.proofs.Sizes.{size-kept, words-long, entries-long}
@@ -260,3 +259,23 @@ flat-layout (a ∷ b ∷ c ∷ d ∷ ws) jobs e =
 -- .. and so are a table's
 pub flat-laid : (t : List ℕ) (s : Size) → SizeOf t s → flat (laid t) ≡ words t
 flat-laid t s z = flat-layout (words t) (s .jobs) (omega (arith, words-long t s z, z .benches))
+
+-- words read
+
+-- word 2
+pub standing-read : (t : List ℕ) (r : ℕ) → IsWord t 2 r → r ≡ (laid t) .standing
+unfolding layout
+standing-read t r w = w .value
+
+-- word 3
+pub spare-read : (t : List ℕ) (r : ℕ) → IsWord t 3 r → r ≡ (laid t) .spare
+unfolding layout
+spare-read t r w = w .value
+
+-- word 3 + x
+pub head-read : (t : List ℕ) (s : Size) (x r : ℕ) → SizeOf t s → BenchIn s x → IsWord t (3 + x) r → HeadOf t x r
+head-read t s x r z b w =
+    record {
+      head = w .value ∙ sym (head-at (words t) x (b .least) (omega (arith, b .most, z .benches)));
+      small = w .small;
+    }

@@ -1,8 +1,4 @@
--- What the table's functions do. `View` is for the crate above: the table as a board, and what each promise says. The others are
--- for this crate: words in bytes, sizes, records and chains as the code goes through them.
+-- The table's bytes: words, sizes, and the parts that words make up.
 pub mod Bytes
 pub mod Sizes
 pub mod Records
-pub mod View
-pub mod Chains
-pub mod Check

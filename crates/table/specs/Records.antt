@@ -1,15 +1,18 @@
 -- A job's record as the code holds it, and the layout with one part of it written anew.
 use Prim.Native.Nat.{ℕ, _<_}
 use mathlib.Core.Path.{_≡_}
-use mathlib.Core.Bool.{cond}
 use mathlib.Core.List.{List, [], _∷_}
-use lib.Dec.{T}
+use lib.ListN.{replicate}
 use Rattle.rules.specs.Lists.{nth, change}
 use Rattle.rules.specs.Table.{Entry, Layout, vacant}
 use Rattle.table.specs.Bytes.{laid}
 use Rattle.table.specs.Sizes.{SizeOf}
 use Rattle.table.specs.declared.size.Size.{Size}
 use Rattle.table.specs.declared.records.Record.{Record}
+
+-- job j's record
+abbrev pub recordIn : List ℕ → ℕ → Entry
+recordIn t j = nth ((laid t) .entries) j vacant
 
 -- the record that the code holds
 abbrev pub entryOf : Record → Entry
@@ -24,8 +27,21 @@ pub record Small (r : Record) : Type 0 where
 
 -- r is job j's record
 pub record RecordOf (t : List ℕ) (j : ℕ) (r : Record) : Type 0 where
-  pub entry : entryOf r ≡ nth ((laid t) .entries) j vacant
+  pub entry : entryOf r ≡ recordIn t j
   pub small : Small r
+
+-- j is the first job on bench x's chain
+pub record HeadOf (t : List ℕ) (x j : ℕ) : Type 0 where
+  pub head : j ≡ nth ((laid t) .heads) x 0
+  pub small : j < 65536
+
+-- a record with another holder word ..
+abbrev pub withHolder : Entry → ℕ → Entry
+withHolder e h = record { names = e .names; holder = h; next = e .next }
+
+-- .. and with another next job
+abbrev pub withNext : Entry → ℕ → Entry
+withNext e n = record { names = e .names; holder = e .holder; next = n }
 
 -- the layout with another first job on bench x's chain
 abbrev pub withHead : Layout → ℕ → ℕ → Layout
@@ -36,6 +52,10 @@ withHead l x j =
 abbrev pub withHeads : Layout → List ℕ → Layout
 withHeads l heads =
     record { benches = l .benches; jobs = l .jobs; standing = l .standing; spare = l .spare; heads = heads; entries = l .entries }
+
+-- no chain has a job
+abbrev pub cleared : Layout → Layout
+cleared l = withHeads l (replicate (l .benches) 0)
 
 -- the layout with another record of job j
 abbrev pub withEntry : Layout → ℕ → Entry → Layout

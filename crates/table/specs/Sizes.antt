@@ -6,8 +6,7 @@ use mathlib.Core.List.{List}
 use lib.Dec.{T}
 use lib.ListN.{length}
 use Rattle.rules.specs.Lists.{within}
-use Rattle.rules.specs.Board.{Board}
-use Rattle.rules.specs.Table.{mostBenches, mostJobs, lengthFor, fits, decode, Layout}
+use Rattle.rules.specs.Table.{mostBenches, mostJobs, lengthFor, fits, sound, decode}
 use Rattle.table.specs.Bytes.{laid}
 use Rattle.table.specs.declared.size.Size.{Size}
 use Rattle.table.specs.declared.size.Sizing.{Sizing}
@@ -52,3 +51,8 @@ pub record JobIn (s : Size) (j : ℕ) : Type 0 where
 pub record BenchIn (s : Size) (x : ℕ) : Type 0 where
   pub least : 1 ≤ x
   pub most : x ≤ s .benches
+
+-- a sound table of size s
+pub record SoundTable (t : List ℕ) (s : Size) : Type 0 where
+  pub size : SizeOf t s
+  pub sound : T (sound t)

@@ -1,8 +1,7 @@
-// The job board's table: the one crate that knows where a word lies.
-// A crate above sees a table as a board (specs/View.antt) and names no word.
-pub mod chains;
-pub mod form;
-pub mod loads;
+// The job board's table: the one crate that knows where a word lies. It reads and writes the parts of document 01's table of words.
+// What the parts mean together is said above: crate `form` checks it, crate `board` sees a board in it.
+pub mod header;
+pub mod heads;
 pub mod records;
 pub mod size;
 pub mod words;

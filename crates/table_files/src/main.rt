@@ -1,10 +1,9 @@
 // Prints, for each table file that its arguments name, what the form check answers (sound, 1 or 2), and the heaviest load or the
 // same refusal. The files and the expected answers were made by another implementation of document 01.
-ghost use Rattle.table.specs.View.{SoundTable};
+ghost use Rattle.table.specs.Sizes.{SoundTable};
+use board::loads;
+use form::Form;
 use libc::STDOUT_FILENO;
-use table::form;
-use table::form::Form;
-use table::loads;
 use table::size::Size;
 
 fn heaviest(loads: &[u16; 501]) -> u16 {

@@ -1,7 +1,7 @@
 -- The number of the form check's answer is the definition's.
 use mathlib.Core.Path.{_≡_, sym, ap, _∙_}
-use Rattle.table.specs.View.{formIn}
-use Rattle.table.specs.declared.form.Form.the-variants.{Sizes, Unsound, Sound}
+use Rattle.form.specs.Check.{formIn}
+use Rattle.form.specs.declared.Form.the-variants.{Sizes, Unsound, Sound}
 use Rattle.desk.proofs.Returned.{formNumber, form-returned}
 use borrow.Author.Needs.{needs}
 use Rattle.desk.proofs.jobboard_check.Statement.{statement}

@@ -1,5 +1,5 @@
 -- A sound table's records hold its board.
-use Rattle.table.proofs.Boards.{sound-kept}
+use Rattle.board.proofs.Boards.{sound-kept}
 use borrow.Author.Needs.{needs}
 use Rattle.table_files.proofs.print_sound.Statement.{statement}
 use Rattle.table_files.proofs.print_sound.Tie as tie

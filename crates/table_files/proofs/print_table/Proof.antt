@@ -1,5 +1,5 @@
 -- The table that the form check finds sound is sound.
-use Rattle.table.proofs.ChainView.{form-sound}
+use Rattle.form.proofs.Answer.{form-sound}
 use borrow.Author.Needs.{needs}
 use Rattle.table_files.proofs.print_table.Statement.{statement}
 use Rattle.table_files.proofs.print_table.Tie as tie

@@ -1,0 +1,96 @@
+-- Loads counted job by job.
+use Prim.Native.Nat.{ℕ, zero, suc, _+_, _≤_, _<_}
+use native.Mathlib.Omega.{arith}
+use native.Mathlib.Numerals.{add-one}
+use mathlib.Core.Path.{_≡_, refl, sym, ap, _∙_}
+use mathlib.Core.Bool.{Bool}
+use mathlib.Core.List.{List, [], _∷_, _++_, map}
+use lib.Dec.{eqb}
+use lib.ListN.{length, getD, take, set, replicate, length-map, length-set, length-replicate, getD-replicate}
+use lib.Seq.{length-take-le, take-all, take-suc, getD-set-same, getD-set-other, ext-getD}
+use Rattle.rules.specs.Lists.{bit, count, rising, nth}
+use Rattle.rules.specs.Board.{Board, holderOf, load}
+use Rattle.rules.specs.Table.{decode}
+use Rattle.rules.proofs.Basics.{Compared, same, other, compared, length-rising, length-shares}
+use Rattle.rules.proofs.Counting.{bit-same, bit-other, bit-le}
+use Rattle.board.specs.View.{Kept, Loaded}
+use Rattle.table.specs.declared.size.Size.{Size}
+use Rattle.board.proofs.Boards.{holder-most}
+
+-- a number stands in a list at most as often as the list is long ..
+count-most : (x : ℕ) (l : List ℕ) → count x l ≤ length l
+count-most x [] = omega arith
+count-most x (y ∷ l) = omega (arith, count-most x l, bit-le (eqb y x))
+
+-- .. and a number at the end is counted as one anywhere
+count-last : (x y : ℕ) (l : List ℕ) → count x (l ++ (y ∷ [])) ≡ count x l + bit (eqb y x)
+count-last x y [] = omega arith
+count-last x y (z ∷ l) = omega (arith, count-last x y l)
+
+-- the value at a place of a list over rising numbers ..
+map-rising-from : (f : ℕ → ℕ) (s n i : ℕ) → i < n → getD (map f (rising s n)) i 0 ≡ f (s + i)
+map-rising-from f s zero i h = absurd (omega arith)
+map-rising-from f s (suc n) zero h = ap f (omega arith)
+map-rising-from f s (suc n) (suc i) h = map-rising-from f (suc s) n i (omega arith) ∙ ap f (omega arith)
+
+-- .. from 0
+map-rising : (f : ℕ → ℕ) (n i : ℕ) → i < n → getD (map f (rising 0 n)) i 0 ≡ f i
+map-rising f n i h = let e : 0 + i ≡ i = omega arith in rw e at (map-rising-from f 0 n i h)
+
+-- at each number below n how many of the first `done` jobs it holds
+pub record Counted (n : ℕ) (holders : List ℕ) (done : ℕ) (loads : List ℕ) : Type 0 where
+  pub most : done ≤ length holders
+  pub long : length loads ≡ n
+  pub held : (x : ℕ) → x < n → getD loads x 0 ≡ load (take done holders) x
+
+-- no job counted: all loads are zero ..
+pub count-start : (n : ℕ) (holders : List ℕ) → Counted n holders 0 (replicate n 0)
+count-start n holders =
+    record { most = omega arith; long = length-replicate n 0; held = λ x h. getD-replicate n x 0 0 h }
+
+module _ {n : ℕ} {holders : List ℕ} {done : ℕ} {loads : List ℕ} where
+  -- .. the next job is one more for its holder, and for no other ..
+  pub count-turn : (x : ℕ) → Counted n holders done loads → done < length holders → x ≡ nth holders (done + 1) 0 → x < n → Counted n holders (done + 1) (set loads x (getD loads x 0 + 1))
+  count-turn x c d e h =
+      record { most = omega arith; long = length-set loads x _ ∙ c .long; held = λ y k. go y k (compared x y) }
+    where
+      more : (y : ℕ) → load (take (done + 1) holders) y ≡ load (take done holders) y + bit (eqb x y)
+      more y =
+          let f : x ≡ getD holders done 0 = rw add-one at e in
+          rw (add-one, take-suc holders done 0 d, f) (count-last y (getD holders done 0) (take done holders))
+
+      go : (y : ℕ) → y < n → {b : Bool} → Compared x y b → getD (set loads x (getD loads x 0 + 1)) y 0 ≡ load (take (done + 1) holders) y
+      go y k (same i) =
+          rw (← i) (omega (arith, getD-set-same loads x (getD loads x 0 + 1) 0 (omega arith), c .held x h, more x, bit-same x x refl))
+      go y k (other i) =
+          omega (arith, getD-set-other loads x y (getD loads x 0 + 1) 0 (λ j. i (sym j)), c .held y k, more y, bit-other x y i)
+
+  -- .. no load is above the number of jobs counted ..
+  pub count-few : (x : ℕ) → Counted n holders done loads → x < n → getD loads x 0 ≤ done
+  count-few x c h =
+      omega (arith, c .held x h, count-most x (take done holders), length-take-le done holders (c .most))
+
+  -- .. when all jobs are counted, each load is that of all holders ..
+  count-all : Counted n holders done loads → length holders ≤ done → (x : ℕ) → x < n → getD loads x 0 ≡ load holders x
+  count-all c h x l = rw (take-all done holders h) at (c .held x l)
+
+  -- .. so they are the loads, as one list ..
+  count-whole : Counted n holders done loads → length holders ≤ done → loads ≡ map (load holders) (rising 0 n)
+  count-whole c h =
+      let whole = map (load holders) (rising 0 n) in
+      let e : length whole ≡ n = length-map (rising 0 n) (load holders) ∙ length-rising 0 n in
+      ext-getD 0 loads whole (omega arith) (λ x l. let m : x < n = omega arith in count-all c h x m ∙ sym (map-rising (load holders) n x m))
+
+-- .. and as the contract says it
+pub count-end : {b : Board} {done : ℕ} {loads : List ℕ} → Counted 501 (b .holders) done loads → length (b .holders) ≤ done → Loaded b loads
+count-end c h = record { whole = count-whole c h; bench = λ x l. count-all c h x (omega arith) }
+
+module _ {t : List ℕ} {s : Size} (k : Kept t s) where
+  -- a holder for each job number
+  pub holders-long : length ((decode t) .holders) ≡ s .jobs
+  holders-long =
+      length-shares ((decode t) .named) ((decode t) .holders) (k .storable .valid .shares) ∙ k .size .board-jobs
+
+  -- "Benches are numbered 1 to 500": there is a load for each holder, and for 0
+  pub holder-few : (j : ℕ) → holderOf (decode t) j < 501
+  holder-few j = omega (arith, holder-most t s j k)

@@ -1,0 +1,18 @@
+-- A standing job's record tells the next job on its chain.
+use borrow.Author.Needs.{needs}
+use Rattle.board.proofs.ChainView.{next-read}
+use Rattle.board.proofs.chains.next.Statement.{statement}
+use Rattle.board.proofs.chains.next.Tie as tie
+
+read-record-requires : tie.Need-read-record-requires
+read-record-requires c κs = search needs
+
+returns : tie.Need-returns
+returns c =
+    let start = c .before .before in
+    let args = start .args in
+    let pre = start .pre in
+    next-read (args .t .now) (args .s) (args .j) (c .read-record .result) (pre .0) (pre .1 .0) (pre .1 .1) (c .read-record .ensures)
+
+pub next-spec : {M : Type 1} → statement M
+next-spec = tie.close (tie.spec read-record-requires returns)

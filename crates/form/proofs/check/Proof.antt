@@ -1,0 +1,42 @@
+-- `form::check` meets its contract: refusal 1 where the sizes do not fit, and else what `is_formed` tells.
+use borrow.Author.Needs.{needs}
+use mathlib.Core.Path.{sym, _∙_}
+use mathlib.Core.Bool.{true, false}
+use Rattle.table.proofs.Sizes.{fit-size}
+use Rattle.form.proofs.Answer.{misfit-form, fit-form}
+use Rattle.form.proofs.check.Statement.{statement}
+use Rattle.form.proofs.check.Tie as tie
+
+of-requires : tie.Need-of-requires
+of-requires c κs = search needs
+
+enum-told : tie.Need-enum-told
+enum-told c = search needs
+
+enum-known-s : tie.Need-enum-known-s
+enum-known-s c = search needs
+
+is-formed-requires : tie.Need-is-formed-requires
+is-formed-requires c κs =
+    let t = c .before .before .before .before .before .args .t .now in
+    fit-size t (c .before .s .given .0 .0) cc
+
+returns : tie.Need-returns
+returns c =
+    let t = c .before .before .before .before .args .t .now in
+    sym (misfit-form t cc)
+
+returns-2 : tie.Need-returns-2
+returns-2 c =
+    let t = c .before .before .before .before .before .before .before .args .t .now in
+    sym (fit-form t (c .before .before .before .s .given .0 .0) true (cc) (sym (c .if1 .taken) ∙ c .before .is-formed .ensures))
+
+returns-3 : tie.Need-returns-3
+returns-3 c =
+    let t = c .before .before .before .before .before .before .before .args .t .now in
+    sym (fit-form t (c .before .before .before .s .given .0 .0) false (cc) (sym (c .if1 .left) ∙ c .before .is-formed .ensures))
+
+pub check-spec : {M : Type 1} → statement M
+check-spec =
+    tie.close
+    (tie.spec of-requires enum-told enum-known-s is-formed-requires returns returns-2 returns-3)

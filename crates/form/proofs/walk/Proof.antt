@@ -1,0 +1,103 @@
+-- One chain from its head. Invariant: what is left of the walk from job j on is the whole walk. The measure is the number of
+-- jobs that may still be on the chain.
+use Prim.Native.Nat.{_-_}
+use native.Mathlib.Omega.{arith}
+use mathlib.Core.Path.{_≡_, sym, ap, _∙_}
+use mathlib.Core.Logic.{⊎-elim}
+use lib.Dec.{eqb}
+use borrow.Author.Needs.{needs}
+use borrow.Author.Tests.{eq-eqb, ne-eqb, ltb-true, ltb-false}
+use Rattle.rules.specs.Lists.{nth}
+use Rattle.table.specs.Bytes.{laid}
+use Rattle.table.specs.Records.{entryOf}
+use Rattle.form.specs.Check.{onlyIf, walked}
+use Rattle.table.proofs.Sizes.{entries-long}
+use Rattle.form.proofs.Passes.{walk-end, walk-full, walk-step, walk-above}
+use Rattle.form.proofs.walk.Statement.{statement}
+use Rattle.form.proofs.walk.Tie as tie
+
+abbrev Inv-loop : tie.InvT-loop
+Inv-loop t s x left jobs left₀ j₀ left' j =
+    walked ((laid t) .entries) x left' j ≡ walked ((laid t) .entries) x left (nth ((laid t) .heads) x 0)
+
+abbrev μ-loop : tie.MeasureT-loop
+μ-loop t s x left jobs left₀ j₀ left' j = left'
+
+jobs-requires : tie.Need-jobs-requires Inv-loop μ-loop
+jobs-requires c κs = search needs
+
+head-requires : tie.Need-head-requires Inv-loop μ-loop
+head-requires c κs = search needs
+
+loop-holds : tie.Need-loop-holds Inv-loop μ-loop
+loop-holds c =
+    let a = c .before .before .before .args in
+    ap (walked ((laid (a .t .now)) .entries) (a .x) (a .left)) (c .head .ensures .head)
+
+returns : tie.Need-returns Inv-loop μ-loop
+returns c =
+    let start = c .before .before .before .before .before .before in
+    let a = start .args in
+    let l = c .before .before .loop in
+    let es = (laid (a .t .now)) .entries in
+    let long = entries-long (a .t .now) (a .s) (start .pre .0) in
+    ⊎-elim
+    (λ w. walk-full es (a .x) (l .left) (l .j) (omega arith) (omega arith) ∙ l .inv)
+    (λ w. walk-above es (a .x) (l .left) (l .j) (omega arith) (omega (arith, ltb-true)) ∙ l .inv)
+    (c .if1 .came)
+
+read-record-requires : tie.Need-read-record-requires Inv-loop μ-loop
+read-record-requires c κs = (search needs, omega (arith, ltb-false))
+
+holder-bench-requires : tie.Need-holder-bench-requires Inv-loop μ-loop
+holder-bench-requires c κs = search needs
+
+-- what is left of the walk after job j's record is read
+turn : (c : tie.After-holder-bench Inv-loop μ-loop) → let a = c .before .before .before .before .before .before .before .before .before .args in let l = c .before .before .before .before .before .loop in let es = (laid (a .t .now)) .entries in walked es (a .x) (a .left) (nth ((laid (a .t .now)) .heads) (a .x) 0) ≡ onlyIf (eqb (c .holder-bench .result) (a .x)) (walked es (a .x) (l .left - 1) (c .before .read-record .result .next))
+turn c =
+    let a = c .before .before .before .before .before .before .before .before .before .args in
+    let l = c .before .before .before .before .before .loop in
+    let es = (laid (a .t .now)) .entries in
+    let r = c .before .read-record in
+    let step = walk-step es (a .x) (l .left) (l .j) (entryOf (r .result)) (r .ensures .entry) (omega arith) (omega arith) in
+    rw (c .holder-bench .ensures) (sym (l .inv) ∙ step)
+
+returns-2 : tie.Need-returns-2 Inv-loop μ-loop
+returns-2 c =
+    let a = c .before .before .before .before .before .before .before .before .before .before .args in
+    sym (rw (ne-eqb (c .before .holder-bench .result) (a .x) (c .if3 .taken)) at (turn (c .before)))
+
+sub-left : tie.Need-sub-left Inv-loop μ-loop
+sub-left c = search needs
+
+loop-less : tie.Need-loop-less Inv-loop μ-loop
+loop-less c = search needs
+
+loop-again : tie.Need-loop-again Inv-loop μ-loop
+loop-again c =
+    let a = c .before .before .before .before .before .before .before .before .before .before .args in
+    sym (rw (eq-eqb (c .before .holder-bench .result) (a .x) (c .if3 .left)) at (turn (c .before)))
+
+returns-3 : tie.Need-returns-3 Inv-loop μ-loop
+returns-3 c =
+    let a = c .before .before .before .before .before .args in
+    let l = c .before .loop in
+    walk-end ((laid (a .t .now)) .entries) (a .x) (l .left) (l .j) (omega arith) ∙ l .inv
+
+pub walk-spec : {M : Type 1} → statement M
+walk-spec =
+    tie.close
+    (tie.spec
+    Inv-loop
+    μ-loop
+    jobs-requires
+    head-requires
+    loop-holds
+    returns
+    read-record-requires
+    holder-bench-requires
+    returns-2
+    sub-left
+    loop-less
+    loop-again
+    returns-3)

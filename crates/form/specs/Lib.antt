@@ -1,0 +1,2 @@
+-- The form check as the code goes.
+pub mod Check

@@ -1,0 +1,152 @@
+// The form check: refusal 1, refusal 2, or sound, for any bytes. One pass over the records, one walk along the chains.
+ghost use mathlib.Core.Path.{_≡_};
+ghost use Rattle.rules.specs.Lists.{nth};
+ghost use Rattle.rules.specs.Table.{formed};
+ghost use Rattle.table.specs.Bytes.{laid};
+ghost use Rattle.table.specs.Sizes.{SizeOf, BenchIn};
+ghost use Rattle.table.specs.Records.{entryOf};
+ghost use Rattle.form.specs.Check.{kindOf, counted, walked, allWalked, formIn};
+use table::header;
+use table::heads;
+use table::records;
+use table::records::Record;
+use table::size::Size;
+use table::size::Sizing;
+
+// What the form check answers.
+pub enum Form {
+    // Refusal 1.
+    Sizes,
+    // Refusal 2.
+    Unsound,
+    Sound(Size),
+}
+
+// What a record is.
+enum Kind {
+    Vacant,
+    Fitting,
+    Unfit,
+}
+
+// What a pass has seen: a number of jobs, or what no sound table has.
+enum Seen {
+    Jobs(usize),
+    Broken,
+}
+
+// Whether a record is no job's, or names two different benches of 1 to B and has holder 1 or 2.
+fn kind_of(benches: usize, r: Record) -> Kind
+    ensures { λ k. ⌜ k ≡ kindOf benches (entryOf r) ⌝ }
+{
+    let first = r.first;
+    let second = r.second;
+    let holder = r.holder;
+    let next = r.next;
+    if first == 0 && second == 0 && holder == 0 && next == 0 {
+        return Kind::Vacant;
+    }
+    if first < 1 || benches < first || second < 1 || benches < second {
+        return Kind::Unfit;
+    }
+    if first == second || holder < 1 || 2 < holder {
+        return Kind::Unfit;
+    }
+    Kind::Fitting
+}
+
+// The number of standing jobs' records.
+fn count_records(t: &[u8], s: Size) -> Seen
+    requires { ⌜ SizeOf (now t) s ⌝ }
+    ensures { λ r. ⌜ r ≡ counted (s .benches) 0 (laid (now (t .entry)) .entries) ⌝ }
+{
+    let benches = s.benches();
+    let jobs = s.jobs();
+    let mut count = 0;
+    let mut done = 0;
+    while done < jobs {
+        match kind_of(benches, records::read_record(t, s, done + 1)) {
+            Kind::Unfit => return Seen::Broken,
+            Kind::Fitting => count += 1,
+            Kind::Vacant => {}
+        }
+        done += 1;
+    }
+    Seen::Jobs(count)
+}
+
+// The chain of bench x, on which at most `left` jobs may be; how many may be on the other chains.
+fn walk(t: &[u8], s: Size, x: usize, left: usize) -> Seen
+    requires { ⌜ SizeOf (now t) s ⌝ }
+    requires { ⌜ BenchIn s x ⌝ }
+    ensures { λ r. ⌜ r ≡ walked (laid (now (t .entry)) .entries) x left (nth (laid (now (t .entry)) .heads) x 0) ⌝ }
+{
+    let jobs = s.jobs();
+    let mut left = left;
+    let mut j = heads::head(t, s, x);
+    while j != 0 {
+        if left == 0 || jobs < j {
+            return Seen::Broken;
+        }
+        let r = records::read_record(t, s, j);
+        if r.holder_bench() != x {
+            return Seen::Broken;
+        }
+        left -= 1;
+        j = r.next;
+    }
+    Seen::Jobs(left)
+}
+
+// All chains have together this number of jobs, each held by its chain's bench.
+fn walk_all(t: &[u8], s: Size, count: usize) -> bool
+    requires { ⌜ SizeOf (now t) s ⌝ }
+    ensures { λ r. ⌜ r ≡ allWalked (laid (now (t .entry)) .entries) 1 (laid (now (t .entry)) .heads) (Seen.Jobs count) ⌝ }
+{
+    let benches = s.benches();
+    let mut left = count;
+    let mut x = 1;
+    while x <= benches {
+        match walk(t, s, x, left) {
+            Seen::Broken => return false,
+            Seen::Jobs(n) => left = n,
+        }
+        x += 1;
+    }
+    left == 0
+}
+
+// The clauses of the sound table after its sizes.
+fn is_formed(t: &[u8], s: Size) -> bool
+    requires { ⌜ SizeOf (now t) s ⌝ }
+    ensures { λ r. ⌜ r ≡ formed (laid (now (t .entry))) ⌝ }
+{
+    if header::spare_word(t, s) != 0 {
+        return false;
+    }
+    match count_records(t, s) {
+        Seen::Broken => false,
+        Seen::Jobs(count) => {
+            if header::standing_word(t, s) != count {
+                return false;
+            }
+            walk_all(t, s, count)
+        }
+    }
+}
+
+// Refusal 1, refusal 2, or sound, for any bytes.
+pub fn check(t: &[u8]) -> Form
+    ensures { λ r. ⌜ r ≡ formIn (now (t .entry)) ⌝ }
+{
+    match Size::of(t) {
+        Sizing::Misfit => Form::Sizes,
+        Sizing::Fit(s) => {
+            if is_formed(t, s) {
+                Form::Sound(s)
+            } else {
+                Form::Unsound
+            }
+        }
+    }
+}

@@ -1,0 +1,35 @@
+-- One word of job j's record.
+use borrow.Author.Needs.{needs}
+use Rattle.table.proofs.Written.{laid-holder}
+use Rattle.table.proofs.records.write_holder.Statement.{statement}
+use Rattle.table.proofs.records.write_holder.Tie as tie
+
+benches-requires : tie.Need-benches-requires
+benches-requires c κs = search needs
+
+mul-write : tie.Need-mul-write
+mul-write c = search needs
+
+add-write : tie.Need-add-write
+add-write c = search needs
+
+add-write-2 : tie.Need-add-write-2
+add-write-2 c = search needs
+
+write-requires : tie.Need-write-requires
+write-requires c κs = search needs
+
+same-length : tie.Need-same-length
+same-length c = search needs
+
+returns : tie.Need-returns
+returns c =
+    let start = c .before .before .before .before .before .before in
+    let args = start .args in
+    rw (c .before .before .write .ensures, c .before .before .before .benches .ensures)
+    (laid-holder (args .t .now) (args .s) (args .j) (args .holder) (start .pre .0) (start .pre .1 .0) (start .pre .1 .1))
+
+pub write-holder-spec : {M : Type 1} → statement M
+write-holder-spec =
+    tie.close
+    (tie.spec benches-requires mul-write add-write add-write-2 write-requires same-length returns)
