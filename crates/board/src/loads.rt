@@ -6,14 +6,14 @@ ghost use Rattle.board.specs.View.{Kept, Loaded};
 use crate::jobs;
 use table::size::Size;
 
-fn clear(loads: &mut [u16; 501])
+fn clear(loads: &mut [u16; Size::MOST_BENCHES + 1])
     ensures { λ _. ⌜ now (loads .exit) ≡ replicate 501 0 ⌝ }
 {
-    *loads = [0; 501];
+    *loads = [0; Size::MOST_BENCHES + 1];
 }
 
 // At x the load of bench x, at 0 the number of jobs that do not stand.
-pub fn loads(t: &[u8], s: Size, loads: &mut [u16; 501])
+pub fn loads(t: &[u8], s: Size, loads: &mut [u16; Size::MOST_BENCHES + 1])
     requires { ⌜ Kept (now t) s ⌝ }
     ensures { λ _. ⌜ Loaded (decode (now (t .entry))) (now (loads .exit)) ⌝ }
 {

@@ -11,7 +11,7 @@ fn wide(byte: u8) -> usize
 }
 
 // Word i of a list of words.
-pub fn read(bytes: &[u8], i: usize) -> usize
+pub(crate) fn read(bytes: &[u8], i: usize) -> usize
     requires { ⌜ 2 * i + 1 < length (now bytes) ⌝ }
     ensures { λ r. ⌜ IsWord (now (bytes .entry)) i r ⌝ }
 {
@@ -29,7 +29,7 @@ pub fn write(bytes: &mut [u8], i: usize, word: usize)
 }
 
 // All bytes zero.
-pub fn clear(bytes: &mut [u8])
+pub(crate) fn clear(bytes: &mut [u8])
     ensures { λ _. ⌜ now (bytes .exit) ≡ replicate (length (now (bytes .entry))) 0 ⌝ }
 {
     let mut i = 0;

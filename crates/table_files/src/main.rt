@@ -6,10 +6,10 @@ use form::Form;
 use libc::STDOUT_FILENO;
 use table::size::Size;
 
-fn heaviest(loads: &[u16; 501]) -> u16 {
+fn heaviest(loads: &[u16; Size::MOST_BENCHES + 1]) -> u16 {
     let mut most = 0;
     let mut x = 1;
-    while x < 501 {
+    while x <= Size::MOST_BENCHES {
         let load = loads[x];
         if most < load {
             most = load;
@@ -22,7 +22,7 @@ fn heaviest(loads: &[u16; 501]) -> u16 {
 fn print_sound(t: &[u8], s: Size)
     requires { ⌜ SoundTable (now t) s ⌝ }
 {
-    let mut loads = [0u16; 501];
+    let mut loads = [0u16; Size::MOST_BENCHES + 1];
     loads::loads(t, s, &mut loads);
     io::write_all(STDOUT_FILENO, b" sound H");
     io::print_decimal(STDOUT_FILENO, heaviest(&loads) as u64);

@@ -1,6 +1,6 @@
--- `form::blank` meets its contract: sizes that fit are a size and its byte length, and a blank table is zero bytes with words 0 and 1 written.
+-- Sizes that fit are a size and its byte length, and a blank table is zero bytes with words 0 and 1 written.
 use native.Mathlib.Omega.{arith}
-use mathlib.Core.Path.{_≡_, refl, sym}
+use mathlib.Core.Path.{_≡_, refl, sym, _∙_}
 use lib.ListN.{length}
 use borrow.Author.Needs.{needs}
 use Rattle.rules.specs.Table.{lengthFor}
@@ -13,7 +13,7 @@ use Rattle.table.proofs.header.blank.Tie as tie
 
 -- the size that `new` returned is `benches` and `jobs` ..
 asked-size : (c : tie.After-known-told) → sizing (c .before .before .before .before .before .args .benches) (c .before .before .before .before .before .args .jobs) ≡ Fit (c .before .s .given .0 .0)
-asked-size c = cc
+asked-size c = sym (c .before .before .before .new .ensures) ∙ c .before .s .given .1
 
 -- .. and they are within the limits
 asked-limits : (c : tie.After-known-told) → let s = c .before .s .given .0 .0 in Limits s × (s .benches ≡ c .before .before .before .before .before .args .benches) × (s .jobs ≡ c .before .before .before .before .before .args .jobs)
@@ -52,7 +52,7 @@ write-requires-2 c κs = let f = asked-limits (c .before .before .before .before
 returns-2 : tie.Need-returns-2
 returns-2 c =
     let a = c .before .before .before .before .args in
-    (sym (sizes-refused (length (a .t .now)) (a .benches) (a .jobs) (cc)), refl)
+    (sym (sizes-refused (length (a .t .now)) (a .benches) (a .jobs) (sym (c .before .before .new .ensures) ∙ c .enum-told .given .1)), refl)
 
 same-length : tie.Need-same-length
 same-length c = search needs
@@ -62,10 +62,11 @@ returns-3 c =
     let p = c .before .before .before .before .before .before .before .before .before .before .before .before .before .before in
     let a = p .before .before .before .before .before .args in
     let s = p .before .s .given .0 .0 in
+    let write = c .before .before .before .before .before .before in
     let f = asked-limits p in
     let l : length (a .t .now) ≡ lengthFor (s .benches) (s .jobs) = omega arith in
     let n : length (a .t .now) ≡ lengthFor (a .benches) (a .jobs) = omega arith in
-    (sym (sizes-fit (length (a .t .now)) (a .benches) (a .jobs) s (asked-size p) l), cc (blank-bytes (a .benches) (a .jobs)))
+    (sym (sizes-fit (length (a .t .now)) (a .benches) (a .jobs) s (asked-size p) l), rw (c .before .before .write2 .ensures, write .write .ensures, write .before .before .before .before .clear .ensures, n) (blank-bytes (a .benches) (a .jobs)))
 
 pub blank-spec : {M : Type 1} → statement M
 blank-spec =
