@@ -1,5 +1,5 @@
 -- The table as the crate above sees it: a board, and what each promise says of it.
-use Prim.Native.Nat.{ℕ, suc, _≤_}
+use Prim.Native.Nat.{ℕ, suc, _+_, _≤_}
 use mathlib.Core.Path.{_≡_}
 use mathlib.Core.Logic.{_↔_}
 use mathlib.Core.List.{List, _∷_, map}
@@ -7,7 +7,7 @@ use lib.Dec.{T}
 use lib.ListN.{length, getD}
 use Rattle.rules.specs.Lists.{member, different, rising, In}
 use Rattle.rules.specs.Board.{Board, holderOf, stands, load, namesFit}
-use Rattle.rules.specs.Table.{decode, encode, follow, Storable}
+use Rattle.rules.specs.Table.{mostBenches, decode, encode, follow, Storable}
 use Rattle.table.specs.Bytes.{laid}
 use Rattle.table.specs.Sizes.{SizeOf, JobIn, SoundTable}
 use Rattle.table.specs.declared.size.Size.{Size}
@@ -53,5 +53,5 @@ pub record Settled (t u : List ℕ) (s : Size) : Type 0 where
 
 -- at each bench its load, at 0 the number of jobs that do not stand
 pub record Loaded (b : Board) (loads : List ℕ) : Type 0 where
-  pub whole : loads ≡ map (load (b .holders)) (rising 0 501)
-  pub bench : (x : ℕ) → x ≤ 500 → getD loads x 0 ≡ load (b .holders) x
+  pub whole : loads ≡ map (load (b .holders)) (rising 0 (mostBenches + 1))
+  pub bench : (x : ℕ) → x ≤ mostBenches → getD loads x 0 ≡ load (b .holders) x

@@ -15,9 +15,9 @@ use Rattle.table.specs.declared.size.Sizing.the-variants.{Fit, Misfit}
 -- "Benches are numbered 1 to 500, jobs 1 to 4,000"
 pub record Limits (s : Size) : Type 0 where
   pub benches-least : 1 ≤ s .benches
-  pub benches-most : s .benches ≤ 500
+  pub benches-most : s .benches ≤ mostBenches
   pub jobs-least : 1 ≤ s .jobs
-  pub jobs-most : s .jobs ≤ 4000
+  pub jobs-most : s .jobs ≤ mostJobs
 
 -- the size where the test passes
 abbrev pub fitIf : Bool → ℕ → ℕ → Sizing
