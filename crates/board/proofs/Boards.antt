@@ -13,19 +13,41 @@ use Rattle.rules.specs.Lists.{within, member, different, all, Each, In, empty, 
 use Rattle.rules.specs.Board.{Board, namesOf, holderOf, stands, put, heldBy, mayHold, namesFit}
 use Rattle.rules.specs.Table.{words, Entry, vacant, filled, holderIn, layout, entriesIn, placeOf, entryFor, boardOf, decode, paired, Storable}
 use Rattle.rules.proofs.Basics.{right, Compared, same, other, compared, T-eqb, within-low, within-high, each-nth, in-getD, in-nth, length-change, each-change, nth-map, member-in, different-head, fit-bench}
-use Rattle.rules.proofs.Paths.{named-stands, shares-nth, holder-bench, holder-none}
+use Rattle.rules.proofs.Paths.{stands-within, named-stands, named-bench, shares-nth, holder-bench, holder-none}
 use Rattle.rules.proofs.Flip.{put-valid}
 use Rattle.rules.proofs.Sound.{TwoBenches, sound-storable, vacant-words, holder-record}
+use Rattle.table.proofs.Sizes.{board-bench}
 use Rattle.table.specs.Bytes.{laid}
-use Rattle.table.specs.Sizes.{Limits, JobIn, SoundTable}
+use Rattle.table.specs.Sizes.{Limits, SizeOf, JobIn, SoundTable}
 use Rattle.table.specs.Records.{entryOf, RecordOf, withHolder, withEntry, Laid}
 use Rattle.table.specs.declared.records.Record.{Record}
-use Rattle.board.specs.View.{Kept, Holds, Fillable}
+use Rattle.board.specs.View.{NameOf, Kept, Holds, Fillable}
 use Rattle.table.specs.declared.size.Size.{Size}
 
 -- a sound table's records hold its board
 pub sound-kept : (t : List ℕ) (s : Size) → SoundTable t s → Kept t s
 sound-kept t s z = record { size = z .size; storable = sound-storable t (z .sound) }
+
+-- a standing job's number is one of 1 to J ..
+pub stands-job : (t : List ℕ) (s : Size) (j : ℕ) → SizeOf t s → T (stands (decode t) j) → JobIn s j
+stands-job t s j z p =
+    let w = stands-within (decode t) j p in
+    let n = length ((decode t) .named) in
+    record { least = within-low 1 n j w; most = omega (arith, within-high 1 n j w, z .board-jobs) }
+
+-- .. so is one of a job that names a bench
+pub names-job : (t : List ℕ) (s : Size) (j x : ℕ) → SizeOf t s → In x (namesOf (decode t) j) → JobIn s j
+names-job t s j x z i = stands-job t s j z (named-stands (decode t) j x i)
+
+-- the k-th name is one
+pub name-in : (t : List ℕ) (j k : ℕ) → (1 ≤ k) × (k ≤ length (namesOf (decode t) j)) → In (nth (namesOf (decode t) j) k 0) (namesOf (decode t) j)
+name-in t j k l = in-nth (namesOf (decode t) j) k 0 (l .0) (l .1)
+
+-- it is a bench
+pub name-of : (t : List ℕ) (s : Size) (j k x : ℕ) → Kept t s → (1 ≤ k) × (k ≤ length (namesOf (decode t) j)) → x ≡ nth (namesOf (decode t) j) k 0 → NameOf t s j k x
+name-of t s j k x z l e =
+    let i : In x (namesOf (decode t) j) = rw e (name-in t j k l) in
+    record { value = e; named = i; bench = board-bench x (z .size) (named-bench (decode t) (z .storable .valid) j x i) }
 
 -- one record
 

@@ -357,10 +357,11 @@ unfolding encode
 settle-bytes t u s k z b l =
     let bytes : u ≡ encode (decode t) =
     sym (bytesOf-words u (omega (arith, z .long)) b) ∙ ap bytesOf (sym (flat-laid u s z)) ∙ ap (λ (m : Layout). bytesOf (flat m)) l in
+    let board : decode u ≡ decode t = ap decode bytes ∙ decode-encode (decode t) (k .storable) in
     record {
       bytes = bytes;
-      sound = record { size = z; sound = rw bytes (encode-sound (decode t) (k .storable)) };
-      board = ap decode bytes ∙ decode-encode (decode t) (k .storable);
+      sound = record { size = z; sound = rw bytes (encode-sound (decode t) (k .storable)); storable = rw board (k .storable) };
+      board = board;
     }
 
 -- the heads cleared, all jobs pushed, and then their number written

@@ -5,11 +5,11 @@ use mathlib.Core.Logic.{_↔_}
 use mathlib.Core.List.{List, _∷_, map}
 use lib.Dec.{T}
 use lib.ListN.{length, getD}
-use Rattle.rules.specs.Lists.{member, different, rising, In}
-use Rattle.rules.specs.Board.{Board, holderOf, stands, load, namesFit}
+use Rattle.rules.specs.Lists.{member, different, rising, In, nth}
+use Rattle.rules.specs.Board.{Board, namesOf, holderOf, stands, load, namesFit}
 use Rattle.rules.specs.Table.{mostBenches, decode, encode, follow, Storable}
 use Rattle.table.specs.Bytes.{laid}
-use Rattle.table.specs.Sizes.{SizeOf, JobIn, SoundTable}
+use Rattle.table.specs.Sizes.{SizeOf, JobIn, BenchIn, SoundTable}
 use Rattle.table.specs.declared.size.Size.{Size}
 
 -- a table of size s whose records hold a board, whatever its chains are: what a change leaves until the chains are made anew
@@ -31,12 +31,20 @@ pub record ChainOf (t : List ℕ) (s : Size) (x j : ℕ) : Type 0 where
   pub held : (i : ℕ) → In i (chainFrom t j) ↔ (T (stands (decode t) i) × (holderOf (decode t) i ≡ x))
   pub once : T (different (chainFrom t j))
   pub few : length (chainFrom t j) ≤ s .jobs
-  pub number : j ≤ s .jobs
 
 -- after job j on its chain comes the chain from job n on
-pub record NextOf (t : List ℕ) (s : Size) (j n : ℕ) : Type 0 where
+pub record NextOf (t : List ℕ) (j n : ℕ) : Type 0 where
   pub chain : chainFrom t j ≡ j ∷ chainFrom t n
-  pub number : n ≤ s .jobs
+
+-- what is left of bench x's chain is the chain from job j on: x holds its jobs
+pub record Rest (t : List ℕ) (x j : ℕ) : Type 0 where
+  pub held : (i : ℕ) → In i (chainFrom t j) → T (stands (decode t) i) × (holderOf (decode t) i ≡ x)
+
+-- the k-th bench that job j names
+pub record NameOf (t : List ℕ) (s : Size) (j k x : ℕ) : Type 0 where
+  pub value : x ≡ nth (namesOf (decode t) j) k 0
+  pub named : In x (namesOf (decode t) j)
+  pub bench : BenchIn s x
 
 -- names and a holder for job j that a record can hold
 pub record Fillable (s : Size) (j : ℕ) (names : List ℕ) (h : ℕ) : Type 0 where

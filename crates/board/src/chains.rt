@@ -32,9 +32,8 @@ pub fn first(t: &[u8], s: Size, x: usize) -> usize
 // The job after job j on its chain, 0 for none.
 pub fn next(t: &[u8], s: Size, j: usize) -> usize
     requires { ⌜ SoundTable (now t) s ⌝ }
-    requires { ⌜ JobIn s j ⌝ }
     requires { ⌜ T (stands (decode (now t)) j) ⌝ }
-    ensures { λ r. ⌜ NextOf (now (t .entry)) s j r ⌝ }
+    ensures { λ r. ⌜ NextOf (now (t .entry)) j r ⌝ }
 {
     let r = records::read_record(t, s, j);
     r.next

@@ -4,11 +4,11 @@ ghost use Prim.Native.Nat.{_≤_};
 ghost use mathlib.Core.List.{[]};
 ghost use lib.Dec.{T};
 ghost use lib.ListN.{length};
-ghost use Rattle.rules.specs.Lists.{member, nth, change};
+ghost use Rattle.rules.specs.Lists.{member, change};
 ghost use Rattle.rules.specs.Board.{namesOf, holderOf, stands, put, heldBy};
 ghost use Rattle.rules.specs.Table.{decode};
 ghost use Rattle.table.specs.Sizes.{SizeOf, JobIn};
-ghost use Rattle.board.specs.View.{Kept, Holds, Fillable};
+ghost use Rattle.board.specs.View.{NameOf, Kept, Holds, Fillable};
 use table::records;
 use table::records::Record;
 use table::size::Size;
@@ -35,9 +35,8 @@ pub fn name_count(t: &[u8], s: Size, j: usize) -> usize
 // The k-th bench that job j names, counted from 1.
 pub fn name(t: &[u8], s: Size, j: usize, k: usize) -> usize
     requires { ⌜ Kept (now t) s ⌝ }
-    requires { ⌜ JobIn s j ⌝ }
     requires { ⌜ (1 ≤ k) × (k ≤ length (namesOf (decode (now t)) j)) ⌝ }
-    ensures { λ r. ⌜ r ≡ nth (namesOf (decode (now (t .entry))) j) k 0 ⌝ }
+    ensures { λ r. ⌜ NameOf (now (t .entry)) s j k r ⌝ }
 {
     let r = records::read_record(t, s, j);
     if k == 1 { r.first } else { r.second }
@@ -96,7 +95,6 @@ pub fn remove_job(t: &mut [u8], s: Size, j: usize)
 // Job j held by bench x, one of those it names.
 pub fn set_holder(t: &mut [u8], s: Size, j: usize, x: usize)
     requires { ⌜ Kept (now t) s ⌝ }
-    requires { ⌜ JobIn s j ⌝ }
     requires { ⌜ T (member x (namesOf (decode (now t)) j)) ⌝ }
     ensures { λ _. ⌜ Holds (now (t .exit)) s (heldBy (decode (now (t .entry))) (change (decode (now (t .entry)) .holders) j x)) ⌝ }
 {

@@ -1,29 +1,39 @@
 -- What the form check answers.
 use Prim.Native.Nat.{ℕ}
 use mathlib.Core.Path.{_≡_, refl, sym, ap}
-use mathlib.Core.Bool.{Bool, true, false}
+use mathlib.Core.Bool.{Bool, true, false, _&&_}
+use lib.Dec.{T}
 use mathlib.Core.List.{List}
 use Rattle.rules.specs.Table.{formed, fits, sound}
 use Rattle.rules.proofs.Basics.{true→T, T→true}
+use Rattle.rules.proofs.Sound.{sound-storable}
 use Rattle.table.specs.Bytes.{laid}
-use Rattle.table.specs.Sizes.{SoundTable, sizeIn}
+use Rattle.table.specs.Sizes.{fitIf, sizeIn}
 use Rattle.table.specs.declared.size.Size.{Size}
 use Rattle.table.specs.declared.size.Sizing.{Sizing}
 use Rattle.table.specs.declared.size.Sizing.the-variants.{Fit, Misfit}
-use Rattle.table.proofs.Sizes.{fit-size}
-use Rattle.form.specs.Check.{formIf, formIn}
-use Rattle.form.specs.declared.Form.the-variants.{Sizes, Sound}
+use Rattle.table.proofs.Sizes.{size-of, fit-size}
+use Rattle.form.specs.Check.{formIf, formIn, Checked}
+use Rattle.form.specs.declared.Form.{Form}
+use Rattle.form.specs.declared.Form.the-variants.{Sizes}
 
--- a table that the form check finds sound
-pub form-sound : (t : List ℕ) (s : Size) → formIn t ≡ Sound s → SoundTable t s
-unfolding formIn
-form-sound t s e = go (sound t) (sizeIn t) refl refl e
+-- each answer says what holds of the table
+pub checked : (t : List ℕ) (f : Form) → f ≡ formIn t → Checked t f
+unfolding formIn sizeIn sound
+checked t f e = rw e (go (fits t) (formed (laid t)) refl refl)
   where
-    go : (z : Bool) (y : Sizing) → sound t ≡ z → sizeIn t ≡ y → formIf z y ≡ Sound s → SoundTable t s
-    go true Misfit q p e = absurd (true→T false cc)
-    go false Misfit q p e = absurd (true→T false cc)
-    go true (Fit r) q p e = record { size = fit-size t s cc; sound = true→T (sound t) q }
-    go false (Fit r) q p e = absurd (true→T false cc)
+    b : ℕ
+    b = (laid t) .benches
+
+    j : ℕ
+    j = (laid t) .jobs
+
+    go : (y z : Bool) → fits t ≡ y → formed (laid t) ≡ z → Checked t (formIf (y && z) (fitIf y b j))
+    go true true p q =
+        let s : T (sound t) = rw (p, q) tt in
+        record { size = size-of t (record { benches = b; jobs = j }) (true→T (fits t) p) refl refl; sound = s; storable = sound-storable t s }
+    go true false p q = (p, rw (p, q))
+    go false z p q = p
 
 -- refusal 1 where the sizes do not fit ..
 pub misfit-form : (t : List ℕ) → sizeIn t ≡ Misfit → formIn t ≡ Sizes

@@ -1,11 +1,12 @@
 -- The form check as the code goes: the records one by one, then the chains one by one.
 use Prim.Native.Nat.{ℕ, zero, suc}
+use mathlib.Core.Path.{_≡_}
 use mathlib.Core.Bool.{Bool, true, false}
 use mathlib.Core.List.{List, [], _∷_}
 use lib.Dec.{eqb}
 use Rattle.rules.specs.Lists.{nth}
-use Rattle.rules.specs.Table.{Entry, vacant, filled, holderIn, entryFits, sound}
-use Rattle.table.specs.Sizes.{sizeIn}
+use Rattle.rules.specs.Table.{Entry, vacant, filled, holderIn, entryFits, fits, sound}
+use Rattle.table.specs.Sizes.{sizeIn, SoundTable}
 use Rattle.table.specs.declared.size.Sizing.{Sizing}
 use Rattle.table.specs.declared.size.Sizing.the-variants.{Fit, Misfit}
 use Rattle.form.specs.declared.Kind.{Kind}
@@ -66,3 +67,9 @@ formIf false (Fit s) = Unsound
 -- the form check: 1, 2, or sound with the table's size
 unfoldable pub formIn : List ℕ → Form
 formIn t = formIf (sound t) (sizeIn t)
+
+-- what each answer says of the table
+abbrev pub Checked : List ℕ → Form → Type 0
+Checked t Sizes = fits t ≡ false
+Checked t Unsound = (fits t ≡ true) × (sound t ≡ false)
+Checked t (Sound s) = SoundTable t s

@@ -12,7 +12,7 @@ use Rattle.rules.specs.Table.{words, lengthFor, mostBenches, mostJobs, sizesFit
 use Rattle.rules.proofs.Basics.{true→T, not→false, left, right, within-low, within-high}
 use Rattle.rules.proofs.Sound.{length-words, Sized, sized, short-refused, fits-sized, fits-heads, fits-entries}
 use Rattle.table.specs.Bytes.{laid}
-use Rattle.table.specs.Sizes.{Limits, SizeOf, fitIf, sizing, sizeIn}
+use Rattle.table.specs.Sizes.{Limits, SizeOf, JobIn, BenchIn, fitIf, sizing, sizeIn}
 use Rattle.table.specs.declared.size.Size.{Size}
 use Rattle.table.specs.declared.size.Sizing.the-variants.{Fit, Misfit}
 
@@ -152,3 +152,17 @@ entries-long t s z = fits-entries t (z .fit) ∙ z .jobs
 
 pub words-long : (t : List ℕ) (s : Size) → SizeOf t s → length (words t) ≡ 4 + s .benches + 4 * s .jobs
 words-long t s z = omega (arith, length-words t)
+
+-- numbers that pass the tests of a size ..
+pub job-in : (s : Size) (j : ℕ) → T (within 1 (s .jobs) j) → JobIn s j
+job-in s j w = record { least = within-low 1 (s .jobs) j w; most = within-high 1 (s .jobs) j w }
+
+pub bench-in : (s : Size) (x : ℕ) → T (within 1 (s .benches) x) → BenchIn s x
+bench-in s x w = record { least = within-low 1 (s .benches) x w; most = within-high 1 (s .benches) x w }
+
+-- .. or of a table's board
+pub board-job : {t : List ℕ} {s : Size} (j : ℕ) → SizeOf t s → T (within 1 (length ((decode t) .named)) j) → JobIn s j
+board-job {t} {s} j z w = job-in s j (subst (λ (n : ℕ). T (within 1 n j)) (z .board-jobs) w)
+
+pub board-bench : {t : List ℕ} {s : Size} (x : ℕ) → SizeOf t s → T (within 1 ((decode t) .benches) x) → BenchIn s x
+board-bench {t} {s} x z w = bench-in s x (subst (λ (n : ℕ). T (within 1 n x)) (z .board-benches) w)

@@ -6,7 +6,7 @@ use mathlib.Core.List.{List}
 use lib.Dec.{T}
 use lib.ListN.{length}
 use Rattle.rules.specs.Lists.{within}
-use Rattle.rules.specs.Table.{mostBenches, mostJobs, lengthFor, fits, sound, decode}
+use Rattle.rules.specs.Table.{mostBenches, mostJobs, lengthFor, fits, sound, decode, Storable}
 use Rattle.table.specs.Bytes.{laid}
 use Rattle.table.specs.declared.size.Size.{Size}
 use Rattle.table.specs.declared.size.Sizing.{Sizing}
@@ -56,3 +56,4 @@ pub record BenchIn (s : Size) (x : ℕ) : Type 0 where
 pub record SoundTable (t : List ℕ) (s : Size) : Type 0 where
   pub size : SizeOf t s
   pub sound : T (sound t)
+  pub storable : Storable (decode t)

@@ -1,6 +1,7 @@
 // How many benches and jobs a table is for.
 ghost use mathlib.Core.Path.{_≡_};
 ghost use Rattle.table.specs.Sizes.{Limits, sizing, sizeIn};
+ghost use Rattle.rules.specs.Lists.{within};
 ghost use Rattle.rules.specs.Table.{lengthFor};
 use crate::words;
 
@@ -64,6 +65,20 @@ impl Size {
         ensures { λ r. ⌜ r ≡ self .jobs ⌝ }
     {
         self.jobs
+    }
+
+    // Whether j is a job number of 1 to J.
+    pub fn has_job(self, j: usize) -> bool
+        ensures { λ r. ⌜ r ≡ within 1 (self .jobs) j ⌝ }
+    {
+        1 <= j && j <= self.jobs
+    }
+
+    // Whether x is a bench of 1 to B.
+    pub fn has_bench(self, x: usize) -> bool
+        ensures { λ r. ⌜ r ≡ within 1 (self .benches) x ⌝ }
+    {
+        1 <= x && x <= self.benches
     }
 
     // The byte length of a table of this size.

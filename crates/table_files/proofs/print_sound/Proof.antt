@@ -1,11 +1,10 @@
 -- A sound table's records hold its board.
-use Rattle.board.proofs.Boards.{sound-kept}
 use borrow.Author.Needs.{needs}
 use Rattle.table_files.proofs.print_sound.Statement.{statement}
 use Rattle.table_files.proofs.print_sound.Tie as tie
 
 loads-requires : tie.Need-loads-requires
-loads-requires c κs = let start = c .before .before in sound-kept (start .args .t .now) (start .args .s) (start .pre)
+loads-requires c κs = search needs
 
 slice-aggregate-write-all : tie.Need-slice-aggregate-write-all
 slice-aggregate-write-all c = search needs
