@@ -1,41 +1,21 @@
 -- Loads counted job by job.
-use Prim.Native.Nat.{ℕ, zero, suc, _+_, _≤_, _<_}
+use Prim.Native.Nat.{ℕ, _+_, _≤_, _<_}
 use native.Mathlib.Omega.{arith}
 use native.Mathlib.Numerals.{add-one}
-use mathlib.Core.Path.{_≡_, refl, sym, ap, _∙_}
+use mathlib.Core.Path.{_≡_, refl, sym, _∙_}
 use mathlib.Core.Bool.{Bool}
-use mathlib.Core.List.{List, [], _∷_, _++_, map}
+use mathlib.Core.List.{List, [], _∷_, map}
 use lib.Dec.{eqb}
-use lib.ListN.{length, getD, take, set, replicate, length-map, length-set, length-replicate, getD-replicate}
-use lib.Seq.{length-take-le, take-all, take-suc, getD-set-same, getD-set-other, ext-getD}
-use Rattle.rules.specs.Lists.{bit, count, rising, nth}
+use lib.ListN.{length, getD, take, set, replicate, length-set, length-replicate, getD-replicate}
+use lib.Seq.{length-take-le, take-all, take-suc, getD-set-same, getD-set-other}
+use Rattle.rules.specs.Lists.{bit, rising, nth}
 use Rattle.rules.specs.Board.{Board, holderOf, load}
 use Rattle.rules.specs.Table.{decode}
-use Rattle.rules.proofs.Basics.{Compared, same, other, compared, length-rising, length-shares}
-use Rattle.rules.proofs.Counting.{bit-same, bit-other, bit-le}
+use Rattle.rules.proofs.Basics.{Compared, same, other, compared, values-same, length-shares}
+use Rattle.rules.proofs.Counting.{bit-same, bit-other, count-most, count-append}
 use Rattle.board.specs.View.{Kept, Loaded}
 use Rattle.table.specs.declared.size.Size.{Size}
 use Rattle.board.proofs.Boards.{holder-most}
-
--- a number stands in a list at most as often as the list is long ..
-count-most : (x : ℕ) (l : List ℕ) → count x l ≤ length l
-count-most x [] = omega arith
-count-most x (y ∷ l) = omega (arith, count-most x l, bit-le (eqb y x))
-
--- .. and a number at the end is counted as one anywhere
-count-last : (x y : ℕ) (l : List ℕ) → count x (l ++ (y ∷ [])) ≡ count x l + bit (eqb y x)
-count-last x y [] = omega arith
-count-last x y (z ∷ l) = omega (arith, count-last x y l)
-
--- the value at a place of a list over rising numbers ..
-map-rising-from : (f : ℕ → ℕ) (s n i : ℕ) → i < n → getD (map f (rising s n)) i 0 ≡ f (s + i)
-map-rising-from f s zero i h = absurd (omega arith)
-map-rising-from f s (suc n) zero h = ap f (omega arith)
-map-rising-from f s (suc n) (suc i) h = map-rising-from f (suc s) n i (omega arith) ∙ ap f (omega arith)
-
--- .. from 0
-map-rising : (f : ℕ → ℕ) (n i : ℕ) → i < n → getD (map f (rising 0 n)) i 0 ≡ f i
-map-rising f n i h = let e : 0 + i ≡ i = omega arith in rw e at (map-rising-from f 0 n i h)
 
 -- at each number below n how many of the first `done` jobs it holds
 pub record Counted (n : ℕ) (holders : List ℕ) (done : ℕ) (loads : List ℕ) : Type 0 where
@@ -57,7 +37,7 @@ module _ {n : ℕ} {holders : List ℕ} {done : ℕ} {loads : List ℕ} where
       more : (y : ℕ) → load (take (done + 1) holders) y ≡ load (take done holders) y + bit (eqb x y)
       more y =
           let f : x ≡ getD holders done 0 = rw add-one at e in
-          rw (add-one, take-suc holders done 0 d, f) (count-last y (getD holders done 0) (take done holders))
+          rw (add-one, take-suc holders done 0 d, f) (omega (arith, count-append y (take done holders) (getD holders done 0 ∷ [])))
 
       go : (y : ℕ) → y < n → {b : Bool} → Compared x y b → getD (set loads x (getD loads x 0 + 1)) y 0 ≡ load (take (done + 1) holders) y
       go y k (same i) =
@@ -76,10 +56,7 @@ module _ {n : ℕ} {holders : List ℕ} {done : ℕ} {loads : List ℕ} where
 
   -- .. so they are the loads, as one list ..
   count-whole : Counted n holders done loads → length holders ≤ done → loads ≡ map (load holders) (rising 0 n)
-  count-whole c h =
-      let whole = map (load holders) (rising 0 n) in
-      let e : length whole ≡ n = length-map (rising 0 n) (load holders) ∙ length-rising 0 n in
-      ext-getD 0 loads whole (omega arith) (λ x l. let m : x < n = omega arith in count-all c h x m ∙ sym (map-rising (load holders) n x m))
+  count-whole c h = values-same (load holders) 0 n loads 0 (c .long) (λ x l. let e : 0 + x ≡ x = omega arith in rw e (count-all c h x l))
 
 -- .. and as the contract says it
 pub count-end : {b : Board} {done : ℕ} {loads : List ℕ} → Counted 501 (b .holders) done loads → length (b .holders) ≤ done → Loaded b loads

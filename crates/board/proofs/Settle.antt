@@ -3,17 +3,18 @@ use Prim.Native.Nat.{ℕ, zero, suc, _+_, _-_, _≤_, _<_}
 use native.Mathlib.Omega.{arith}
 use mathlib.Core.Path.{_≡_, refl, sym, ap, _∙_, subst}
 use mathlib.Core.Logic.{_⊎_, inl, inr, _≢_}
-use mathlib.Core.Bool.{Bool, true, false, cond, not}
+use mathlib.Core.Bool.{true, false, not}
 use mathlib.Core.List.{List, [], _∷_, _++_, map, append-nil}
 use lib.Dec.{eqb}
-use lib.ListN.{length, getD, take, drop, replicate, length-drop, length-replicate, getD-replicate, length-map}
-use lib.Seq.{length-take-le, take-length, drop-length, take-suc, drop-cons, append-snoc, getD-at, set-at, map-set-same, ext-getD}
+use lib.ListN.{length, getD, take, drop, length-drop}
+use lib.Seq.{length-take-le, take-length, drop-length, take-suc, drop-cons, append-snoc, getD-at, set-at, map-set-same}
 use borrow.Author.Tests.{ne-eqb}
 use Rattle.rules.specs.Lists.{bit, rising, keep, empty, nth, change}
 use Rattle.rules.specs.Board.{Board, namesOf, holderOf, standing, stands}
 use Rattle.rules.specs.Table.{Entry, vacant, filled, holderIn, Layout, layoutOf, boardOf, decode, encode, firstHeld, placeOf, entryFor, entriesFrom, bytesOf, flat, Storable}
-use Rattle.rules.proofs.Basics.{Compared, same, other, compared, eqb-refl, nth-change-same, nth-change-other, length-change, length-keep, length-rising}
-use Rattle.rules.proofs.Sound.{TwoBenches, holder-record}
+use Rattle.rules.proofs.Basics.{eqb-refl, length-keep, nth-rising, values-replicate, change-rising}
+use Rattle.rules.proofs.Counting.{keep-counts}
+use Rattle.rules.proofs.Sound.{namesIn, TwoBenches, holder-within, holder-record}
 use Rattle.rules.proofs.Encode.{encode-sound, decode-encode}
 use Rattle.table.specs.Bytes.{laid}
 use Rattle.table.specs.Sizes.{SizeOf, JobIn, BenchIn}
@@ -23,20 +24,12 @@ use Rattle.board.specs.Chains.{pushAt, pushFor, pushed, pushedFrom, Push
 use Rattle.table.specs.declared.size.Size.{Size}
 use Rattle.table.proofs.Bytes.{bytesOf-words}
 use Rattle.table.proofs.Sizes.{entries-long}
-use Rattle.table.proofs.Written.{flat-laid}
+use Rattle.table.proofs.Written.{withBoth, flat-laid}
 use Rattle.board.proofs.Boards.{Standing, kept-record, holder-most, stands-held}
 
 -- a standing job's record: "two different benches of 1 to B and holder 1 or 2"
 
--- its holder is a bench of 1 to B
-holder-bench : (benches : ℕ) (e : Entry) → TwoBenches benches e → (1 ≤ holderIn e) × (holderIn e ≤ benches)
-holder-bench benches e r = go (r .holder)
-  where
-    go : (e .holder ≡ 1) ⊎ (e .holder ≡ 2) → (1 ≤ holderIn e) × (holderIn e ≤ benches)
-    go (inl q) = rw (r .names, q) (r .first-bench)
-    go (inr q) = rw (r .names, q) (r .second-bench)
-
--- its holder word is the place of that bench among the two, for they differ
+-- its holder word is the place of its holder among the two, for they differ
 holder-place : (benches : ℕ) (e : Entry) → TwoBenches benches e → e .holder ≡ placeOf (holderIn e) (e .names)
 holder-place benches e r = go (r .holder)
   where
@@ -49,71 +42,25 @@ filled-next : (benches : ℕ) (e : Entry) (n : ℕ) → TwoBenches benches e →
 filled-next benches e n r = rw (r .names, ne-eqb (r .first) 0 (λ q. omega (arith, r .first-bench .0)))
 
 -- it is the record of its names and its holder with that next job
-entry-next : (benches : ℕ) (e : Entry) (n : ℕ) → Standing benches e → withNext e n ≡ entryFor (cond (filled e) (e .names) []) (holderIn e) n
+entry-next : (benches : ℕ) (e : Entry) (n : ℕ) → Standing benches e → withNext e n ≡ entryFor (namesIn e) (holderIn e) n
 entry-next benches e n r =
     let two = r .benches-two in
     let place : ℕ → Entry = λ h. record { names = e .names; holder = h; next = n } in
     ap place (holder-place benches e two) ∙ rw (r .is-filled, two .names)
 
--- numbers for benches 1 to n
-
--- the number for bench x
-nth-rising : (f : ℕ → ℕ) (n x : ℕ) → 1 ≤ x → x ≤ n → nth (map f (rising 1 n)) x 0 ≡ f x
-nth-rising f n zero l u = absurd (omega arith)
-nth-rising f n (suc k) l u = let e : 1 + k ≡ suc k = omega arith in at 1 n k u ∙ ap f e
-  where
-    at : (i n k : ℕ) → k < n → getD (map f (rising i n)) k 0 ≡ f (i + k)
-    at i zero k u = absurd (omega arith)
-    at i (suc n) zero u = let e : i ≡ i + 0 = omega arith in ap f e
-    at i (suc n) (suc k) u = let e : suc i + k ≡ i + suc k = omega arith in at (suc i) n k (omega arith) ∙ ap f e
-
--- a list that has the same number for each bench is the same list
-rising-same : (f : ℕ → ℕ) (n : ℕ) (l : List ℕ) → length l ≡ n → ((x : ℕ) → 1 ≤ x → x ≤ n → nth l x 0 ≡ f x) → l ≡ map f (rising 1 n)
-rising-same f n l e g =
-    ext-getD 0 l (map f (rising 1 n)) (e ∙ sym (length-map (rising 1 n) f ∙ length-rising 1 n))
-    (λ i u. g (suc i) (omega arith) (omega arith) ∙ sym (nth-rising f n (suc i) (omega arith) (omega arith)))
-
--- another number for bench h; for bench 0, none
-change-rising : (f : ℕ → ℕ) (n h j : ℕ) → h ≤ n → change (map f (rising 1 n)) h j ≡ map (λ x. cond (eqb h x) j (f x)) (rising 1 n)
-change-rising f n h j u =
-    rising-same (λ x. cond (eqb h x) j (f x)) n (change old h j) (length-change old h j ∙ long) (λ x l v. go x l v (compared h x))
-  where
-    old : List ℕ
-    old = map f (rising 1 n)
-
-    long : length old ≡ n
-    long = length-map (rising 1 n) f ∙ length-rising 1 n
-
-    go : (x : ℕ) → 1 ≤ x → x ≤ n → {z : Bool} → Compared h x z → nth (change old h j) x 0 ≡ cond z j (f x)
-    go x l v (same e) = rw e (nth-change-same old x j 0 l (omega (arith, long)))
-    go x l v (other d) = nth-change-other old h x j 0 (λ e. d (sym e)) ∙ nth-rising f n x l v
-
--- no number for any bench
-none-rising : (n : ℕ) → replicate {A = ℕ} n 0 ≡ map (λ x. 0) (rising 1 n)
-none-rising n = rising-same (λ x. 0) n (replicate n 0) (length-replicate n 0) none
-  where
-    none : (x : ℕ) → 1 ≤ x → x ≤ n → nth (replicate {A = ℕ} n 0) x 0 ≡ 0
-    none zero l u = refl
-    none (suc k) l u = getD-replicate n k 0 0 u
-
 -- the jobs one after the other, from the last down
 
 -- the benches that the records' jobs name, and their holders
 abbrev namedIn : List Entry → List (List ℕ)
-namedIn es = map (λ e. cond (filled e) (e .names) []) es
+namedIn es = map namesIn es
 
 abbrev holdersIn : List Entry → List ℕ
 holdersIn es = map holderIn es
 
--- the layout with other heads and other records
-abbrev withParts : Layout → List ℕ → List Entry → Layout
-withParts l heads entries =
-    record { benches = l .benches; jobs = l .jobs; standing = l .standing; spare = l .spare; heads = heads; entries = entries }
-
 -- the layout after the jobs from j + 1 on, with these records, were pushed; the records before them are as they were
 abbrev stage : Layout → ℕ → List Entry → List Entry → Layout
 stage l j front back =
-    withParts l
+    withBoth l
     (map (λ x. firstHeld (suc j) x (holdersIn back)) (rising 1 (l .benches)))
     (front ++ entriesFrom (suc j) (namedIn back) (holdersIn back))
 
@@ -122,7 +69,7 @@ turn-vacant : (l : Layout) (j : ℕ) (front back : List Entry) → stage l (suc 
 turn-vacant l j front back =
     let heads = change-rising (λ x. firstHeld (suc (suc j)) x (holdersIn back)) (l .benches) 0 (suc j) (omega arith) in
     let entries = append-snoc front vacant (entriesFrom (suc (suc j)) (namedIn back) (holdersIn back)) in
-    λ i. withParts l (heads i) (entries i)
+    λ i. withBoth l (heads i) (entries i)
 
 -- .. one with a holder comes before the later ones
 module _ (l : Layout) (j : ℕ) (front : List Entry) (e : Entry) (back : List Entry) (q : length front ≡ j) where
@@ -141,23 +88,23 @@ module _ (l : Layout) (j : ℕ) (front : List Entry) (e : Entry) (back : List En
 
   turn-standing : Standing (l .benches) e → pushAt old (suc j) (holderIn e) ≡ stage l j front (e ∷ back)
   turn-standing r =
-      let b = holder-bench (l .benches) e (r .benches-two) in
+      let b = holder-within (l .benches) e (r .benches-two) in
       let h : ℕ = holderIn e in
-      let new : Entry = entryFor (cond (filled e) (e .names) []) h (first h) in
+      let new : Entry = entryFor (namesIn e) h (first h) in
       let heads = change-rising first (l .benches) h (suc j) (b .1) in
       let next : withNext (nth (old .entries) (suc j) vacant) (nth (old .heads) h 0) ≡ new =
-      rw (here, nth-rising first (l .benches) h (b .0) (b .1)) (entry-next (l .benches) e (first h) r) in
+      rw (here, nth-rising first (l .benches) h 0 (b .0) (b .1)) (entry-next (l .benches) e (first h) r) in
       let entries : change (old .entries) (suc j) (withNext (nth (old .entries) (suc j) vacant) (nth (old .heads) h 0)) ≡ front ++ new ∷ late =
       rw (next, append-snoc front e late) (set-at front e late new j q) in
-      λ i. withParts l (heads i) (entries i)
+      λ i. withBoth l (heads i) (entries i)
 
 -- before the last job no chain has a job
 stage-none : (l : Layout) → cleared l ≡ stage l (length (l .entries)) (take (length (l .entries)) (l .entries)) (drop (length (l .entries)) (l .entries))
 stage-none l =
     let es : List Entry = l .entries in
-    let heads = none-rising (l .benches) in
+    let heads = sym (values-replicate {A = ℕ} (λ x. 0) 1 (l .benches) 0 (λ x u. refl)) in
     let entries = sym (append-nil es) in
-    rw (take-length es, drop-length es) (λ i. withParts l (heads i) (entries i))
+    rw (take-length es, drop-length es) (λ i. withBoth l (heads i) (entries i))
 
 -- what is held by a bench of 1 to B is put at the front of its chain
 push-some : (l : Layout) (j x : ℕ) → 1 ≤ x → pushFor l j x ≡ pushAt l j x
@@ -172,7 +119,7 @@ turn l j front e back q r = ap (λ (a : Entry). pushFor (old l j front e back q)
     go : (e ≡ vacant) ⊎ Standing (l .benches) e → pushFor (old l j front e back q) (suc j) (holderIn e) ≡ stage l j front (e ∷ back)
     go (inl v) = rw v (turn-vacant l j front back)
     go (inr w) =
-        push-some (old l j front e back q) (suc j) (holderIn e) (holder-bench (l .benches) e (w .benches-two) .0)
+        push-some (old l j front e back q) (suc j) (holderIn e) (holder-within (l .benches) e (w .benches-two) .0)
         ∙ turn-standing l j front e back q w
 
 -- all turns
@@ -215,9 +162,9 @@ pushed-kept t u s (suc j) k i l = same-board t u s (pushed (suc j) (laid t)) k l
     go (inl v) = rw v refl
     go (inr w) =
         let n : ℕ = nth ((laid t) .heads) (holderIn e) 0 in
-        let named = map-set-same (λ (a : Entry). cond (filled a) (a .names) []) es j (withNext e n) vacant (rw (filled-next (s .benches) e n (w .benches-two), w .is-filled)) in
+        let named = map-set-same namesIn es j (withNext e n) vacant (rw (filled-next (s .benches) e n (w .benches-two), w .is-filled)) in
         let holders = map-set-same holderIn es j (withNext e n) vacant refl in
-        ap boardOf (push-some (laid t) (suc j) (holderIn e) (holder-bench (s .benches) e (w .benches-two) .0))
+        ap boardOf (push-some (laid t) (suc j) (holderIn e) (holder-within (s .benches) e (w .benches-two) .0))
         ∙ (λ m. record { benches = (laid t) .benches; named = named m; holders = holders m })
 
 -- a job without a holder is pushed by leaving it ..
@@ -258,14 +205,9 @@ standingAfter b j = length (keep (λ names. not (empty names)) (drop j (b .named
 
 -- one job more, if it stands
 standing-step : (b : Board) (j : ℕ) → j < length (b .named) → standingAfter b j ≡ standingAfter b (suc j) + bit (stands b (suc j))
-standing-step b j u = rw (drop-cons (b .named) j [] u) (go (stands b (suc j)))
-  where
-    later : List (List ℕ)
-    later = keep (λ names. not (empty names)) (drop (suc j) (b .named))
-
-    go : (z : Bool) → length (cond z (namesOf b (suc j) ∷ later) later) ≡ length later + bit z
-    go true = omega arith
-    go false = omega arith
+standing-step b j u =
+    let more = keep-counts (λ (names : List ℕ). not (empty names)) (namesOf b (suc j)) (drop (suc j) (b .named)) in
+    rw (drop-cons (b .named) j [] u) (omega (arith, more))
 
 -- the table u is t after the jobs above j were pushed, n of which stand; the others are left to push
 pub record Pushing (t u : List ℕ) (s : Size) (n j : ℕ) : Type 0 where

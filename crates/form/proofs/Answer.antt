@@ -10,7 +10,6 @@ use Rattle.rules.proofs.Sound.{sound-storable}
 use Rattle.table.specs.Bytes.{laid}
 use Rattle.table.specs.Sizes.{fitIf, sizeIn}
 use Rattle.table.specs.declared.size.Size.{Size}
-use Rattle.table.specs.declared.size.Sizing.{Sizing}
 use Rattle.table.specs.declared.size.Sizing.the-variants.{Fit, Misfit}
 use Rattle.table.proofs.Sizes.{size-of, fit-size}
 use Rattle.form.specs.Check.{formIf, formIn, Checked}

@@ -3,54 +3,30 @@ use Prim.Native.Nat.{ℕ, zero, suc, _+_, _≤_}
 use native.Mathlib.Omega.{arith}
 use mathlib.Core.Path.{_≡_, refl, sym, ap, _∙_, subst}
 use mathlib.Core.Logic.{inl, inr}
-use mathlib.Core.Bool.{Bool, true, false, cond, not}
+use mathlib.Core.Bool.{Bool, true, false}
 use mathlib.Core.List.{List, [], _∷_, _++_, map, flatMap}
-use lib.Dec.{T, eqb, not-T}
+use lib.Dec.{T, eqb}
 use lib.ListN.{length, length-append, length-map}
 use borrow.Author.Tests.{eq-eqb}
-use Rattle.rules.specs.Lists.{bit, within, count, member, different, rising, total, keep, all, Each, In, nth, numbered}
-use Rattle.rules.specs.Board.{namesFit}
-use Rattle.rules.specs.Table.{Entry, vacant, filled, holderIn, entryWords, Layout, follow, chains, standingIn, entryFits, placed, formed}
-use Rattle.rules.proofs.Basics.{true→T, not→false, both, left, right, tests-same, Compared, same, other, compared, T-eqb, eqb-T, within-low, within-high, within-both, in-right, all-in, each-in, in-each, in-nth, in-numbered, numbered-nth, in-flatMap, rising-low, bench-listed, Member, is-in, not-in, membered, not-member, rising-different, fit-bench}
-use Rattle.rules.proofs.Counting.{bit-same, bit-other, bit-le, count-none, count-some, different-count, total-most, total-same, total-le, total-count, few}
-use Rattle.rules.proofs.Sound.{vacant-words, Formed, formed-is, formed-back, Ends}
+use Rattle.rules.specs.Lists.{bit, count, different, rising, total, all, In, nth, numbered}
+use Rattle.rules.specs.Table.{Entry, vacant, filled, holderIn, Layout, follow, chains, standingIn, entryFits, placed, formed}
+use Rattle.rules.proofs.Basics.{true→T, never→false, both, left, right, tests-same, Compared, same, other, compared, T-eqb, eqb-T, within-low, within-high, in-nth, in-numbered, in-flatMap, rising-low, bench-listed, Member, is-in, not-in, membered, rising-different, fit-bench}
+use Rattle.rules.proofs.Counting.{bit-same, bit-other, bit-le, count-none, count-some, count-append, different-count, total-first, total-most, total-same, total-tight, total-count}
+use Rattle.rules.proofs.Sound.{filled-within, filled-in, filled-each, Formed, formed-is, formed-back, entry-tests, not-held, Ends, standingFrom, standing-first, formed-own, own-few}
+use Rattle.rules.proofs.ChainEnds.{after, ends-different}
 use Rattle.form.specs.Check.{kindIf, kindOf, byKind, onlyIf, counted, walked, allWalked}
 use Rattle.form.specs.declared.Seen.{Seen}
 use Rattle.form.specs.declared.Seen.the-variants.{Jobs, Broken}
+use Rattle.form.proofs.Passes.{all-broken}
 
 -- a layout with a record for each job number and a head for each bench
 pub record Whole (l : Layout) : Type 0 where
   pub entries : length (l .entries) ≡ l .jobs
   pub heads : length (l .heads) ≡ l .benches
 
--- how often a number stands in a list after another
-count-append : (x : ℕ) (k l : List ℕ) → count x (k ++ l) ≡ count x k + count x l
-count-append x [] l = omega arith
-count-append x (y ∷ k) l = omega (arith, count-append x k l)
-
--- the first value of a total
-total-first : (n : ℕ) (f : ℕ → ℕ) → total (suc n) f ≡ f 1 + total n (λ x. f (suc x))
-total-first zero f = omega arith
-total-first (suc n) f = omega (arith, total-first n f)
-
--- a function nowhere above another on 1 to n, with the same total, is the same there
-total-tight : (n : ℕ) (f g : ℕ → ℕ) → ((x : ℕ) → 1 ≤ x → x ≤ n → f x ≤ g x) → total n f ≡ total n g → (x : ℕ) → 1 ≤ x → x ≤ n → f x ≡ g x
-total-tight zero f g h e x l u = absurd (omega arith)
-total-tight (suc n) f g h e x l u = go (total-tight n f g before) (compared x (suc n))
-  where
-    before : (y : ℕ) → 1 ≤ y → y ≤ n → f y ≤ g y
-    before y l u = h y l (omega arith)
-
-    last : f (suc n) ≤ g (suc n)
-    last = h (suc n) (omega arith) (omega arith)
-
-    go : (total n f ≡ total n g → (y : ℕ) → 1 ≤ y → y ≤ n → f y ≡ g y) → {z : Bool} → Compared x (suc n) z → f x ≡ g x
-    go ih (same q) = omega (arith, last, total-le n f g before, ap f q, ap g q)
-    go ih (other d) = ih (omega (arith, last, total-le n f g before)) x l (omega arith)
-
 -- without a clause of the sound table the definition says no
 refused : (l : Layout) → (Formed l → ⊥) → formed l ≡ false
-refused l f = not→false (formed l) (not-T (formed l) (λ t. f (formed-is l t)))
+refused l f = never→false (formed l) (λ t. f (formed-is l t))
 
 -- the records
 
@@ -65,18 +41,6 @@ holderAt es j = holderIn (nth es j vacant)
 abbrev AllFit : ℕ → List Entry → Type 0
 AllFit benches es = (e : Entry) → In e es → T (filled e) → T (entryFits benches e)
 
--- the filled records with their numbers, counted from i
-abbrev standingFrom : ℕ → List Entry → List (ℕ × Entry)
-standingFrom i es = keep (λ s. filled (s .1)) (numbered i es)
-
--- the first record is one of them if it is filled
-standing-first : (i : ℕ) (e : Entry) (es : List Entry) → length (standingFrom i (e ∷ es)) ≡ bit (filled e) + length (standingFrom (suc i) es)
-standing-first i e es = go (filled e)
-  where
-    go : (z : Bool) → length (cond z ((i, e) ∷ standingFrom (suc i) es) (standingFrom (suc i) es)) ≡ bit z + length (standingFrom (suc i) es)
-    go true = omega arith
-    go false = omega arith
-
 -- the filled records, counted by their numbers
 standing-total : (i : ℕ) (es : List Entry) → length (standingFrom i es) ≡ total (length es) (λ j. bit (filledAt es j))
 standing-total i [] = refl
@@ -87,46 +51,20 @@ standing-total i (e ∷ es) =
     later zero l u = absurd (omega arith)
     later (suc j) l u = refl
 
--- a filled record's number is one of 1 to J
-filled-within : (es : List Entry) (j : ℕ) → T (filledAt es j) → (1 ≤ j) × (j ≤ length es)
-filled-within es zero t = absurd t
-filled-within [] (suc i) t = absurd t
-filled-within (e ∷ es) (suc zero) t = omega arith
-filled-within (e ∷ es) (suc (suc i)) t = omega (arith, filled-within es (suc i) t)
-
--- so are the numbers of a list of standing jobs
-filled-each : (es : List Entry) (c : List ℕ) → ((j : ℕ) → In j c → T (filledAt es j)) → Each (λ j. T (within 1 (length es) j)) c
-filled-each es c f = in-each (λ j. T (within 1 (length es) j)) c (λ j i. let r = filled-within es j (f j i) in within-both 1 (length es) j (r .0) (r .1))
-
--- a record that is no standing job's tells no bench ..
-not-held : (e : Entry) → filled e ≡ false → holderIn e ≡ 0
-not-held e q =
-    let i : In (e .holder) (entryWords e) = in-right (e .holder) (e .names) (e .holder ∷ e .next ∷ []) (inl refl) in
-    ap (λ (p : ℕ). nth (e .names) p 0) (each-in (λ w. w ≡ 0) (e .holder) (entryWords e) (vacant-words e q) i)
-
--- .. and one that fits tells a bench of 1 to B
+-- a filled record that fits tells a bench of 1 to B, any other none
 holder-listed : (benches : ℕ) (e : Entry) → (T (filled e) → T (entryFits benches e)) → count (holderIn e) (rising 1 benches) ≡ bit (filled e)
 holder-listed benches e fits = go (filled e) refl
   where
     h : ℕ
     h = holderIn e
 
-    fit : Bool
-    fit = namesFit benches (e .names)
-
-    may : Bool
-    may = within 1 (length (e .names)) (e .holder)
-
-    bench : T fit → T may → In h (rising 1 benches)
-    bench f m =
-        let i = in-nth (e .names) (e .holder) 0 (within-low 1 (length (e .names)) (e .holder) m) (within-high 1 (length (e .names)) (e .holder) m) in
-        bench-listed benches h (fit-bench benches (e .names) h f i)
-
     go : (z : Bool) → filled e ≡ z → count h (rising 1 benches) ≡ bit z
     go true q =
-        let t = fits (true→T (filled e) q) in
-        let once = different-count (rising 1 benches) (rising-different 1 benches) h in
-        omega (arith, once, count-some h (rising 1 benches) (bench (left fit may t) (right fit may t)))
+        let t = (entry-tests benches e) .0 (fits (true→T (filled e) q)) in
+        let n = length (e .names) in
+        let i = in-nth (e .names) (e .holder) 0 (within-low 1 n (e .holder) (t .1)) (within-high 1 n (e .holder) (t .1)) in
+        let bench = bench-listed benches h (fit-bench benches (e .names) h (t .0) i) in
+        omega (arith, different-count (rising 1 benches) (rising-different 1 benches) h, count-some h (rising 1 benches) bench)
     go false q = count-none h (rising 1 benches) (λ i. omega (arith, rising-low h 1 benches i, not-held e q))
 
 -- a pass that is not broken saw only records that fit, and counted the filled ones
@@ -174,39 +112,6 @@ count-formed l n e d = refused l (λ f. d (omega (arith, f .standing, (counted-s
 -- one chain
 
 module _ (es : List Entry) where
-  -- the job after job j
-  abbrev after : ℕ → ℕ
-  after j = (nth es j vacant) .next
-
-  -- a chain that ends within k jobs ends within more ..
-  ends-more : (k j : ℕ) → Ends es k j → Ends es (suc k) j
-  ends-more zero zero e = tt
-  ends-more zero (suc i) e = absurd e
-  ends-more (suc k) zero e = tt
-  ends-more (suc k) (suc i) e = ends-more k (after (suc i)) e
-
-  -- .. and from every job on it
-  ends-on : (m k j i : ℕ) → Ends es m j → In i (follow es k j) → Ends es m i
-  ends-on m zero j i e h = absurd h
-  ends-on m (suc k) zero i e h = absurd h
-  ends-on zero (suc k) (suc j) i e h = absurd e
-  ends-on (suc m) (suc k) (suc j) i e (inl d) = subst (Ends es (suc m)) (sym d) e
-  ends-on (suc m) (suc k) (suc j) i e (inr h) = ends-more m i (ends-on m k (after (suc j)) i e h)
-
-  -- a chain that comes back to a job does not end ..
-  ends-never : (m k i : ℕ) → In (suc i) (follow es k (after (suc i))) → Ends es m (suc i) → ⊥
-  ends-never zero k i h e = e
-  ends-never (suc m) k i h e = ends-never m k i h (ends-on m k (after (suc i)) (suc i) e h)
-
-  -- .. so one that ends has no job twice
-  ends-different : (m k j : ℕ) → Ends es m j → T (different (follow es k j))
-  ends-different m zero j e = tt
-  ends-different m (suc k) zero e = tt
-  ends-different zero (suc k) (suc i) e = absurd e
-  ends-different (suc m) (suc k) (suc i) e =
-      let c = follow es k (after (suc i)) in
-      both (not (member (suc i) c)) (different c) (not-member (suc i) c (λ h. ends-never (suc m) k i h e)) (ends-different m k (after (suc i)) e)
-
   -- x holds every job on c
   abbrev Held : ℕ → List ℕ → Type 0
   Held x c = (j : ℕ) → In j c → holderAt es j ≡ x
@@ -249,7 +154,7 @@ module _ (es : List Entry) where
       holder = holderAt es (suc j)
 
       next : ℕ
-      next = after (suc j)
+      next = after es (suc j)
 
       first : holder ≡ x → Held x (follow es (suc k) next) → Held x (suc j ∷ follow es (suc k) next)
       first d r i (inl e) = ap (holderAt es) e ∙ d
@@ -265,7 +170,7 @@ module _ (es : List Entry) where
   walked-own : (x n j m k : ℕ) → walked es x n j ≡ Jobs m → n ≤ k → Own x (follow es (suc k) j) × (length (follow es (suc k) j) + m ≡ n)
   walked-own x n j m k q h =
       let p = walked-walk x n j m k q h in
-      (held-own x (follow es (suc k) j) (p .held) (ends-different n (suc k) j (p .ends)), p .long)
+      (held-own x (follow es (suc k) j) (p .held) (ends-different es (suc k) n j (p .ends)), p .long)
 
   -- .. and a chain of jobs that x holds is walked so
   held-walked : (x n j m k : ℕ) → Held x (follow es (suc k) j) → length (follow es (suc k) j) ≤ k → length (follow es (suc k) j) + m ≡ n → walked es x n j ≡ Jobs m
@@ -274,7 +179,7 @@ module _ (es : List Entry) where
   held-walked x (suc n) zero m k o s h = ap Jobs (omega arith)
   held-walked x (suc n) (suc j) m zero o s h = absurd (omega arith)
   held-walked x (suc n) (suc j) m (suc k) o s h =
-      rw (eq-eqb (holderAt es (suc j)) x (o (suc j) (inl refl))) (held-walked x n (after (suc j)) m k (λ i e. o i (inr e)) (omega arith) (omega arith))
+      rw (eq-eqb (holderAt es (suc j)) x (o (suc j) (inl refl))) (held-walked x n (after es (suc j)) m k (λ i e. o i (inr e)) (omega arith) (omega arith))
 
 -- all chains
 
@@ -285,11 +190,6 @@ together cs = flatMap (λ c. c) cs
 -- each chain, numbered from x on, has jobs of its bench only, none twice
 abbrev AllOwn : List Entry → ℕ → List (List ℕ) → Type 0
 AllOwn es x cs = (s : ℕ × List ℕ) → In s (numbered x cs) → Own es (s .0) (s .1)
-
--- nothing comes after a broken walk
-all-broken : (es : List Entry) (x : ℕ) (heads : List ℕ) → T (allWalked es x heads Broken) → ⊥
-all-broken es x [] t = t
-all-broken es x (j ∷ heads) t = t
 
 -- chains walked to the last of n jobs are such, with n jobs on them ..
 all-walked-own : (es : List Entry) (x k : ℕ) (heads : List ℕ) (n : ℕ) → T (allWalked es x heads (Jobs n)) → n ≤ k → AllOwn es x (map (follow es (suc k)) heads) × (length (together (map (follow es (suc k)) heads)) ≡ n)
@@ -312,7 +212,7 @@ all-walked-own es x k (j ∷ heads) n t h = go (walked es x n j) refl (λ m. all
         let p = walked-own es x n j m k q h in
         let r = ih m t (omega (arith, p .1)) in
         (first (p .0) (r .0), omega (arith, p .1, r .1, length-append c (together cs)))
-    go Broken q ih t = absurd (all-broken es (suc x) heads t)
+    go Broken q ih t = absurd (rw (all-broken es (suc x) heads) at t)
 
 -- .. and such chains are walked to the last job
 own-all-walked : (es : List Entry) (x k : ℕ) (heads : List ℕ) (n : ℕ) → AllOwn es x (map (follow es (suc k)) heads) → ((c : List ℕ) → In c (map (follow es (suc k)) heads) → length c ≤ k) → length (together (map (follow es (suc k)) heads)) ≡ n → T (allWalked es x heads (Jobs n))
@@ -373,7 +273,7 @@ module _ (l : Layout) (w : Whole l) (fit : AllFit (l .benches) (l .entries)) whe
   holder-once j = rw (length-map (l .heads) (follow es (suc (l .jobs))), w .heads) (holder-listed (l .benches) (nth es j vacant) fits)
     where
       fits : T (filledAt es j) → T (entryFits (l .benches) (nth es j vacant))
-      fits f = let r = filled-within es j f in fit (nth es j vacant) (in-nth es j vacant (r .0) (r .1)) f
+      fits f = fit (nth es j vacant) (filled-in es j f) f
 
   module _ (own : AllOwn es 1 (chains l)) where
     -- a standing job is on the chains at most once, and no other job is on them
@@ -400,8 +300,7 @@ module _ (l : Layout) (w : Whole l) (fit : AllFit (l .benches) (l .entries)) whe
     own-short : (c : List ℕ) → In c (chains l) → length c ≤ l .jobs
     own-short c i =
         let r = in-numbered 1 c (chains l) i in
-        let once : (j : ℕ) → count j c ≤ 1 = λ j. omega (arith, own (r .0, c) (r .1) j, bit-le (eqb (r .0) (holderAt es j))) in
-        omega (arith, w .entries, few (length es) c once (filled-each es c (own-only c i)))
+        omega (arith, w .entries, own-few es (r .0) c (own (r .0, c) (r .1)) (own-only c i))
 
     -- as many jobs on the chains as standing ones: every standing job is "on its holder's chain once and on no other"
     own-placed : length on ≡ length (standingIn es) → (j : ℕ) → T (filledAt es j) → T (placed (chains l) j (holderAt es j))
@@ -410,24 +309,10 @@ module _ (l : Layout) (w : Whole l) (fit : AllFit (l .benches) (l .entries)) whe
         let q = total-tight (length es) (λ j. count j on) (λ j. bit (filledAt es j)) (λ j a b. own-most j) (own-total ∙ e ∙ standing-total 1 es) j (r .0) (r .1) in
         together-placed j (holderAt es j) 1 (chains l) (λ s i. own s i j) (omega (arith, q, holder-once j))
 
-  -- on a sound table's chains are their benches' own jobs ..
-  formed-own : Formed l → AllOwn es 1 (chains l)
-  formed-own f s i j = go (membered j (s .1))
-    where
-      at : ℕ × List ℕ → Bool
-      at c = eqb (count j (c .1)) (bit (eqb (c .0) (holderAt es j)))
-
-      go : {z : Bool} → Member j (s .1) z → count j (s .1) ≤ bit (eqb (s .0) (holderAt es j))
-      go (is-in k) =
-          let r = numbered-nth s (chains l) [] i in
-          let c : In (s .1) (chains l) = rw (r .2) (in-nth (chains l) (s .0) [] (r .0) (r .1)) in
-          omega (arith, T-eqb (count j (s .1)) (bit (eqb (s .0) (holderAt es j))) (all-in at s (numbered 1 (chains l)) (f .place j (f .only (s .1) c j k)) i))
-      go (not-in n) = omega (arith, count-none j (s .1) n)
-
-  -- .. as many as there are standing jobs
+  -- on a sound table's chains are as many jobs as stand
   formed-long : Formed l → length on ≡ length (standingIn es)
   formed-long f =
-      let own = formed-own f in
+      let own = formed-own l f in
       omega (arith, own-total own, total-same (length es) (λ j. count j on) (λ j. bit (filledAt es j)) (λ j a b. go own j (filledAt es j) refl), standing-total 1 es)
     where
       go : AllOwn es 1 (chains l) → (j : ℕ) (z : Bool) → filledAt es j ≡ z → count j on ≡ bit (filledAt es j)
@@ -455,7 +340,7 @@ walked-formed l n w z e c = tests-same (formed l) (allWalked es 1 (l .heads) (Jo
 
     walks : Formed l → T (allWalked es 1 (l .heads) (Jobs n))
     walks f =
-        let own = formed-own l w fit f in
+        let own = formed-own l f in
         own-all-walked es 1 (l .jobs) (l .heads) n own (own-short l w fit own) (formed-long l w fit f ∙ number)
 
     forms : T (allWalked es 1 (l .heads) (Jobs n)) → Formed l

@@ -3,18 +3,17 @@ use Prim.Native.Nat.{ℕ, zero, suc, _+_, _-_, _≤_, _<_}
 use native.Mathlib.Numerals.{add-one}
 use native.Mathlib.Omega.{arith}
 use mathlib.Core.Path.{_≡_, refl, sym, ap, _∙_}
-use mathlib.Core.Logic.{inl, inr, _≢_, ⊎-elim}
-use mathlib.Core.Bool.{Bool, true, false, not}
+use mathlib.Core.Logic.{_≢_}
+use mathlib.Core.Bool.{Bool, true, false}
 use mathlib.Core.List.{List, [], _∷_}
-use lib.Dec.{T, not-T, eqb}
+use lib.Dec.{T, eqb}
 use lib.ListN.{length, getD, drop, drop-of-length-le, List·getD-eq-default}
 use lib.Seq.{drop-cons}
 use borrow.Author.Tests.{ne-eqb}
-use Rattle.rules.specs.Lists.{within, member, different, all, Each, nth}
-use Rattle.rules.specs.Board.{namesFit}
+use Rattle.rules.specs.Lists.{Each, nth}
 use Rattle.rules.specs.Table.{Entry, vacant, filled, holderIn, entryFits, entryWords}
-use Rattle.rules.proofs.Basics.{T→true, not→false, left, right, both, within-low, within-high, within-both, fit-bench, different-head, not-member}
-use Rattle.rules.proofs.Sound.{vacant-words, zero-words}
+use Rattle.rules.proofs.Basics.{T→true, never→false, within-low, within-high, within-both, pair-fits}
+use Rattle.rules.proofs.Sound.{vacant-words, zero-words, entry-tests}
 use Rattle.table.specs.Records.{entryOf}
 use Rattle.form.specs.Check.{kindIf, kindOf, byKind, onlyIf, counted, walked, allWalked}
 use Rattle.table.specs.declared.records.Record.{Record}
@@ -40,36 +39,25 @@ pub record Fits (benches : ℕ) (r : Record) : Type 0 where
 -- the test of a record says the same ..
 entry-fits : (benches : ℕ) (r : Record) → T (entryFits benches (entryOf r)) → Fits benches r
 entry-fits benches r t =
-    let names = r .first ∷ r .second ∷ [] in
-    let named = left (namesFit benches names) (within 1 2 (r .holder)) t in
-    let held = right (namesFit benches names) (within 1 2 (r .holder)) t in
-    let first = fit-bench benches names (r .first) named (inl refl) in
-    let second = fit-bench benches names (r .second) named (inr (inl refl)) in
-    let unlike = right (all (within 1 benches) names) (different names) named in
+    let tests = (entry-tests benches (entryOf r)) .0 t in
+    let named = (pair-fits benches (r .first) (r .second)) .0 (tests .0) in
     record {
-      first-least = within-low 1 benches (r .first) first;
-      first-most = within-high 1 benches (r .first) first;
-      second-least = within-low 1 benches (r .second) second;
-      second-most = within-high 1 benches (r .second) second;
-      apart = λ d. different-head (r .first) (r .second ∷ []) unlike (inl d);
-      holder-least = within-low 1 2 (r .holder) held;
-      holder-most = within-high 1 2 (r .holder) held;
+      first-least = within-low 1 benches (r .first) (named .0);
+      first-most = within-high 1 benches (r .first) (named .0);
+      second-least = within-low 1 benches (r .second) (named .1);
+      second-most = within-high 1 benches (r .second) (named .1);
+      apart = named .2;
+      holder-least = within-low 1 2 (r .holder) (tests .1);
+      holder-most = within-high 1 2 (r .holder) (tests .1);
     }
 
 -- .. and the other way round
 fits-entry : (benches : ℕ) (r : Record) → Fits benches r → T (entryFits benches (entryOf r))
 fits-entry benches r f =
-    let names = r .first ∷ r .second ∷ [] in
-    let rest = r .second ∷ [] in
     let first = within-both 1 benches (r .first) (f .first-least) (f .first-most) in
     let second = within-both 1 benches (r .second) (f .second-least) (f .second-most) in
-    let bench = within 1 benches in
-    let named = both (bench (r .first)) (all bench rest) first (both (bench (r .second)) true second tt) in
-    let apart = not-member (r .first) rest (⊎-elim (f .apart) (λ none. none)) in
-    let unlike = both (not (member (r .first) rest)) (different rest) apart tt in
-    let fit = both (all bench names) (different names) named unlike in
     let held = within-both 1 2 (r .holder) (f .holder-least) (f .holder-most) in
-    both (namesFit benches names) (within 1 2 (r .holder)) fit held
+    (entry-tests benches (entryOf r)) .1 ((pair-fits benches (r .first) (r .second)) .1 (first, second, f .apart), held)
 
 -- "A job number that is not standing has four zero words .."
 pub vacant-kind : (benches : ℕ) (r : Record) → AllZero r → Vacant ≡ kindOf benches (entryOf r)
@@ -98,7 +86,7 @@ fitting-kind benches r d f =
 pub unfit-kind : (benches : ℕ) (r : Record) → (AllZero r → ⊥) → (Fits benches r → ⊥) → Unfit ≡ kindOf benches (entryOf r)
 unfit-kind benches r d f =
     let fit = entryFits benches (entryOf r) in
-    let no = not→false fit (not-T fit (λ t. f (entry-fits benches r t))) in
+    let no = never→false fit (λ t. f (entry-fits benches r t)) in
     ap (kindIf true) (sym no) ∙ standing-kind benches r d
 
 -- the records one by one

@@ -2,12 +2,12 @@
 use Prim.Native.Nat.{ℕ, zero, suc, _+_, _≤_, _<_}
 use native.Mathlib.Omega.{arith}
 use mathlib.Core.Path.{_≡_, refl, sym, ap, subst, _∙_}
-use mathlib.Core.Logic.{_⊎_, inl, inr, _≢_, _↔_}
+use mathlib.Core.Logic.{_⊎_, inl, inr, ⊎-elim, _≢_, _↔_}
 use mathlib.Core.Bool.{Bool, true, false, cond, not, _&&_, _||_, false≢true}
 use mathlib.Core.List.{List, [], _∷_, _++_, map, flatMap}
 use lib.Dec.{T, T-not, not-T, eqb, leb}
-use lib.ListN.{length, getD, set, length-set, List·getD-map}
-use lib.Seq.{getD-set-same, getD-set-other, set-set, set-getD}
+use lib.ListN.{length, getD, set, replicate, length-set, length-map, List·getD-map}
+use lib.Seq.{getD-set-same, getD-set-other, set-set, set-getD, ext-getD}
 use borrow.Author.Tests.{eqb-true, eqb-false, eq-eqb, leb-true, le-leb}
 use Rattle.rules.specs.Board.{Shares, namesFit}
 use Rattle.rules.specs.Lists.{within, member, different, rising, keep, all, Each, In, empty, nth, change, numbered}
@@ -29,6 +29,10 @@ not→false false t = refl
 pub false→not : (a : Bool) → a ≡ false → T (not a)
 false→not a e = subst (λ (x : Bool). T (not x)) (sym e) tt
 
+-- a test that can't pass is false
+pub never→false : (a : Bool) → (T a → ⊥) → a ≡ false
+never→false a f = not→false a (not-T a f)
+
 pub not-false : (a : Bool) → not a ≡ false → T a
 not-false true e = tt
 not-false false e = subst T e tt
@@ -45,6 +49,17 @@ pub right : (a b : Bool) → T (a && b) → T b
 right true b t = t
 right false b t = absurd t
 
+-- the five tests of a conjunction, one by one
+pub five : (a b c d e : Bool) → T (a && b && c && d && e) ↔ (T a × T b × T c × T d × T e)
+five a b c d e = (split, λ p. both (a && b && c && d) e (both (a && b && c) d (both (a && b) c (both a b (p .0) (p .1)) (p .2)) (p .3)) (p .4))
+  where
+    split : T (a && b && c && d && e) → T a × T b × T c × T d × T e
+    split t =
+        let t₄ = left (a && b && c && d) e t in
+        let t₃ = left (a && b && c) d t₄ in
+        let t₂ = left (a && b) c t₃ in
+        (left a b t₂, right a b t₂, right (a && b) c t₃, right (a && b && c) d t₄, right (a && b && c && d) e t)
+
 pub either : (a b : Bool) → T (a || b) → T a ⊎ T b
 either true b t = inl tt
 either false b t = inr t
@@ -56,6 +71,11 @@ or-left false b t = absurd t
 pub or-right : (a b : Bool) → T b → T (a || b)
 or-right true b t = tt
 or-right false b t = t
+
+-- what a test chooses of two numbers is not above a bound of both
+pub cond-le : (z : Bool) (x y n : ℕ) → x ≤ n → y ≤ n → cond z x y ≤ n
+cond-le true x y n p q = p
+cond-le false x y n p q = q
 
 -- two tests that hold together are equal
 pub tests-same : (a b : Bool) → T a ↔ T b → a ≡ b
@@ -204,6 +224,10 @@ module _ {A : Type 0} where
   each-append P [] l p q = q
   each-append P (x ∷ k) l p q = (p .0, each-append P k l (p .1) q)
 
+  pub each-replicate : (P : A → Type 0) (n : ℕ) (a : A) → P a → Each P (replicate n a)
+  each-replicate P zero a p = tt
+  each-replicate P (suc n) a p = (p, each-replicate P n a p)
+
   pub each-getD : (P : A → Type 0) (l : List A) (i : ℕ) (d : A) → P d → Each P l → P (getD l i d)
   each-getD P [] i d p e = p
   each-getD P (x ∷ l) zero d p e = e .0
@@ -213,6 +237,13 @@ module _ {A : Type 0} where
   each-nth P l zero d p e = p
   each-nth P l (suc i) d p e = each-getD P l i d p e
 
+  -- a list of two elements
+  pub two-elements : (l : List A) → length l ≡ 2 → (a : A) × (b : A) × (l ≡ a ∷ b ∷ [])
+  two-elements [] e = absurd (omega arith)
+  two-elements (a ∷ []) e = absurd (omega arith)
+  two-elements (a ∷ b ∷ []) e = (a, b, refl)
+  two-elements (a ∷ b ∷ c ∷ l) e = absurd (omega arith)
+
   pub in-getD : (l : List A) (i : ℕ) (d : A) → i < length l → In (getD l i d) l
   in-getD [] i d h = absurd (omega arith)
   in-getD (x ∷ l) zero d h = inl refl
@@ -221,6 +252,13 @@ module _ {A : Type 0} where
   pub in-nth : (l : List A) (j : ℕ) (d : A) → 1 ≤ j → j ≤ length l → In (nth l j d) l
   in-nth l zero d h u = absurd (omega arith)
   in-nth l (suc i) d h u = in-getD l i d u
+
+  -- where an element stands that is not the one for no place, there is a place
+  pub nth-within : (l : List A) (j : ℕ) (d : A) → nth l j d ≢ d → (1 ≤ j) × (j ≤ length l)
+  nth-within l zero d n = absurd (n refl)
+  nth-within [] (suc i) d n = absurd (n refl)
+  nth-within (x ∷ l) (suc zero) d n = omega arith
+  nth-within (x ∷ l) (suc (suc i)) d n = omega (arith, nth-within l (suc i) d n)
 
   -- what is written at a place stands there, and nothing else changes
   pub nth-change-same : (l : List A) (j : ℕ) (a d : A) → 1 ≤ j → j ≤ length l → nth (change l j a) j d ≡ a
@@ -236,10 +274,19 @@ module _ {A : Type 0} where
   length-change l zero a = refl
   length-change l (suc i) a = length-set l i a
 
-  -- writing back what stood at a place undoes a writing
+  -- of two writings at one place the later stays ..
+  pub change-again : (l : List A) (j : ℕ) (a b : A) → change (change l j a) j b ≡ change l j b
+  change-again l zero a b = refl
+  change-again l (suc i) a b = set-set l i a b
+
+  -- .. writing what stands there changes nothing ..
+  pub change-same : (l : List A) (j : ℕ) (d : A) → change l j (nth l j d) ≡ l
+  change-same l zero d = refl
+  change-same l (suc i) d = set-getD l i d
+
+  -- .. so writing back what stood there undoes a writing
   pub change-back : (l : List A) (j : ℕ) (a d : A) → change (change l j a) j (nth l j d) ≡ l
-  change-back l zero a d = refl
-  change-back l (suc i) a d = set-set l i a _ ∙ set-getD l i d
+  change-back l j a d = change-again l j a (nth l j d) ∙ change-same l j d
 
   each-set : (P : A → Type 0) (l : List A) (i : ℕ) (a : A) → P a → Each P l → Each P (set l i a)
   each-set P [] i a p e = tt
@@ -314,6 +361,16 @@ module _ {A B : Type 0} where
   nth-map f l zero d = refl
   nth-map f l (suc i) d = List·getD-map f l i d
 
+  map-set : (f : A → B) (l : List A) (i : ℕ) (a : A) → map f (set l i a) ≡ set (map f l) i (f a)
+  map-set f [] i a = refl
+  map-set f (x ∷ l) zero a = refl
+  map-set f (x ∷ l) (suc i) a = ap (λ (m : List B). f x ∷ m) (map-set f l i a)
+
+  -- a changed list's values are the values, changed there
+  pub map-change : (f : A → B) (l : List A) (j : ℕ) (a : A) → map f (change l j a) ≡ change (map f l) j (f a)
+  map-change f l zero a = refl
+  map-change f l (suc i) a = map-set f l i a
+
   pub in-flatMap : (f : A → List B) (b : B) (a : A) (l : List A) → In a l → In b (f a) → In b (flatMap f l)
   unfolding flatMap
   in-flatMap f b a [] i j = absurd i
@@ -372,6 +429,44 @@ listed-bench n x i = let h = rising-high x 1 n i in within-both 1 n x (rising-lo
 pub length-rising : (i n : ℕ) → length (rising i n) ≡ n
 length-rising i zero = refl
 length-rising i (suc n) = ap suc (length-rising (suc i) n)
+
+-- values over rising numbers
+module _ {A : Type 0} (f : ℕ → A) where
+  pub length-values : (i n : ℕ) → length (map f (rising i n)) ≡ n
+  length-values i n = length-map (rising i n) f ∙ length-rising i n
+
+  getD-rising : (i n k : ℕ) (d : A) → k < n → getD (map f (rising i n)) k d ≡ f (i + k)
+  getD-rising i zero k d h = absurd (omega arith)
+  getD-rising i (suc n) zero d h = ap f (omega arith)
+  getD-rising i (suc n) (suc k) d h = getD-rising (suc i) n k d (omega arith) ∙ ap f (omega arith)
+
+  -- the value for x
+  pub nth-rising : (n x : ℕ) (d : A) → 1 ≤ x → x ≤ n → nth (map f (rising 1 n)) x d ≡ f x
+  nth-rising n zero d l u = absurd (omega arith)
+  nth-rising n (suc k) d l u = getD-rising 1 n k d u ∙ ap f (omega arith)
+
+  -- a list that has the same value at each place is the same list
+  pub values-same : (i n : ℕ) (l : List A) (d : A) → length l ≡ n → ((k : ℕ) → k < n → getD l k d ≡ f (i + k)) → l ≡ map f (rising i n)
+  values-same i n l d e g =
+      ext-getD d l (map f (rising i n)) (e ∙ sym (length-values i n))
+      (λ k h. let u : k < n = omega arith in g k u ∙ sym (getD-rising i n k d u))
+
+  -- the same value for all
+  pub values-replicate : (i n : ℕ) (a : A) → ((x : ℕ) → i ≤ x → f x ≡ a) → map f (rising i n) ≡ replicate n a
+  values-replicate i zero a g = refl
+  values-replicate i (suc n) a g = rw (g i (omega arith), values-replicate (suc i) n a (λ x l. g x (omega arith)))
+
+-- another value for h, one of 1 to n; for 0, none
+pub change-rising : {A : Type 0} (f : ℕ → A) (n h : ℕ) (a : A) → h ≤ n → change (map f (rising 1 n)) h a ≡ map (λ x. cond (eqb h x) a (f x)) (rising 1 n)
+change-rising {A} f n h a u =
+    values-same (λ x. cond (eqb h x) a (f x)) 1 n (change old h a) a (length-change old h a ∙ length-values f 1 n) (λ k l. go k l (compared h (1 + k)))
+  where
+    old : List A
+    old = map f (rising 1 n)
+
+    go : (k : ℕ) → k < n → {z : Bool} → Compared h (1 + k) z → getD (change old h a) k a ≡ cond z a (f (1 + k))
+    go k l (same e) = let q : h ≡ suc k = omega arith in rw q (nth-change-same old (suc k) a a (omega arith) (omega (arith, length-values f 1 n)))
+    go k l (other d) = nth-change-other old h (suc k) a a (λ e. d (omega arith)) ∙ getD-rising f 1 n k a l
 
 pub not-member : (x : ℕ) (l : List ℕ) → (In x l → ⊥) → T (not (member x l))
 not-member x l f = not-T (member x l) (λ t. f (member-in x l t))
@@ -443,3 +538,14 @@ length-shares (names ∷ named) (h ∷ holders) s = ap suc (length-shares named 
 -- names that fit are benches of 1 to B
 pub fit-bench : (benches : ℕ) (names : List ℕ) (x : ℕ) → T (namesFit benches names) → In x names → T (within 1 benches x)
 fit-bench benches names x f = all-in (within 1 benches) x names (left (all (within 1 benches) names) (different names) f)
+
+-- two names fit exactly if they are different benches of 1 to B
+pub pair-fits : (benches x y : ℕ) → T (namesFit benches (x ∷ y ∷ [])) ↔ (T (within 1 benches x) × T (within 1 benches y) × (x ≢ y))
+pair-fits benches x y =
+    let bench = within 1 benches in
+    let rest = y ∷ [] in
+    let names = x ∷ rest in
+    let listed = all bench names in (
+      λ f. (fit-bench benches names x f (inl refl), fit-bench benches names y f (inr (inl refl)), λ e. different-head x rest (right listed (different names) f) (inl e)),
+      λ r. both listed (different names) (both (bench x) (all bench rest) (r .0) (both (bench y) true (r .1) tt)) (both (not (member x rest)) true (not-member x rest (⊎-elim (r .2) (λ i. i))) tt),
+    )

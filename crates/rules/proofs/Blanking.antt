@@ -3,26 +3,22 @@ use Prim.Native.Nat.{ℕ, zero, suc, _+_, _*_, _≤_}
 use native.Mathlib.Omega.{arith}
 use mathlib.Core.Path.{_≡_, refl}
 use mathlib.Core.Bool.{true, false, not}
-use mathlib.Core.List.{List, [], map, flatMap}
+use mathlib.Core.List.{List, [], flatMap}
 use lib.Dec.{T}
 use lib.ListN.{length, replicate, length-replicate, replicate-append-replicate}
 use borrow.Author.Tests.{ne-eqb}
-use Rattle.rules.specs.Lists.{within, rising, keep, Each, empty}
+use Rattle.rules.specs.Lists.{within, keep, empty}
 use Rattle.rules.specs.Board.{Board, Shares, namesFit}
 use Rattle.rules.specs.Table.{paired, mostBenches, mostJobs, sizesFit, firstHeld, entriesFrom, layoutOf, entryWords, flat, sound, decode, encode, blankTable, Storable}
 use Rattle.rules.specs.Answers.{Outcome, blanked, refused, sizes}
 use Rattle.rules.specs.Calls.{blanking}
-use Rattle.rules.proofs.Basics.{true→T}
+use Rattle.rules.proofs.Basics.{true→T, each-replicate, values-replicate}
 use Rattle.rules.proofs.Sound.{sized}
 use Rattle.rules.proofs.Encode.{encode-sound, decode-encode}
 
 -- a board without jobs
 abbrev pub emptyBoard : ℕ → ℕ → Board
 emptyBoard benches jobs = record { benches = benches; named = replicate jobs []; holders = replicate jobs 0 }
-
-each-replicate : (P : List ℕ → Type 0) (n : ℕ) → P [] → Each P (replicate n [])
-each-replicate P zero p = tt
-each-replicate P (suc n) p = (p, each-replicate P n p)
 
 shares-empty : (n : ℕ) → Shares (replicate n []) (replicate n 0)
 shares-empty zero = tt
@@ -32,10 +28,10 @@ shares-empty (suc n) = (tt, shares-empty n)
 pub storable-empty : (benches jobs : ℕ) → T (within 1 mostBenches benches) → T (within 1 mostJobs jobs) → Storable (emptyBoard benches jobs)
 storable-empty benches jobs b j =
     record {
-      valid = record { names = each-replicate (λ names. T (namesFit benches names)) jobs tt; shares = shares-empty jobs };
+      valid = record { names = each-replicate (λ names. T (namesFit benches names)) jobs [] tt; shares = shares-empty jobs };
       benches = b;
       jobs = rw (length-replicate {A = List ℕ} jobs []) j;
-      pairs = each-replicate (λ names. T (paired names)) jobs tt;
+      pairs = each-replicate (λ names. T (paired names)) jobs [] tt;
     }
 
 -- no job stands on it
@@ -48,10 +44,6 @@ firstHeld-empty : (i x n : ℕ) → 1 ≤ x → firstHeld i x (replicate n 0) �
 firstHeld-empty i x zero l = refl
 firstHeld-empty i x (suc n) l = rw (ne-eqb 0 x (omega arith)) (firstHeld-empty (suc i) x n l)
 
-heads-empty : (i n jobs : ℕ) → 1 ≤ i → map (λ x. firstHeld 1 x (replicate jobs 0)) (rising i n) ≡ replicate n 0
-heads-empty i zero jobs l = refl
-heads-empty i (suc n) jobs l = rw (firstHeld-empty 1 i jobs l, heads-empty (suc i) n jobs (omega arith))
-
 records-empty : (i n : ℕ) → flatMap entryWords (entriesFrom i (replicate n []) (replicate n 0)) ≡ replicate (4 * n) 0
 unfolding flatMap
 records-empty i zero = refl
@@ -62,7 +54,7 @@ pub blank-is-encoded : (benches jobs : ℕ) → blankTable benches jobs ≡ enco
 unfolding blankTable encode flat layoutOf
 blank-is-encoded benches jobs =
     let e : 2 + benches + 4 * jobs ≡ suc (suc (benches + 4 * jobs)) = omega arith in
-    rw (e, length-replicate {A = List ℕ} jobs [], standing-empty jobs, heads-empty 1 benches jobs (omega arith), records-empty 1 jobs, replicate-append-replicate {A = ℕ} benches (4 * jobs) 0)
+    rw (e, length-replicate {A = List ℕ} jobs [], standing-empty jobs, values-replicate (λ x. firstHeld 1 x (replicate jobs 0)) 1 benches 0 (λ x l. firstHeld-empty 1 x jobs l), records-empty 1 jobs, replicate-append-replicate {A = ℕ} benches (4 * jobs) 0)
 
 -- "For a blank table" there are no jobs, and it is sound
 pub blank-sound : (benches jobs : ℕ) → T (within 1 mostBenches benches) → T (within 1 mostJobs jobs) → T (sound (blankTable benches jobs))

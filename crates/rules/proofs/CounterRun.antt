@@ -1,5 +1,5 @@
 -- The counter program's state: what its table and its tally are before and after each line, and what it prints of them.
-use Prim.Native.Nat.{ℕ, _+_}
+use Prim.Native.Nat.{ℕ}
 use Prim.Native.Char.{code}
 use native.Mathlib.Omega.{arith}
 use mathlib.Core.Path.{_≡_, refl, ap, _∙_}
@@ -11,7 +11,7 @@ use lib.ListN.{length, replicate, length-take, length-replicate}
 use Rattle.rules.specs.Board.{heaviest, standing}
 use Rattle.rules.specs.Table.{mostBenches, mostJobs, sizesFit, lengthFor, layout, fits, formed, sound, boardOf, decode, layoutOf, flat, encode, blankTable}
 use Rattle.rules.specs.Paths.{steps, pathsFrom, improves, improvingFrom, improving, improvingTo, flip}
-use Rattle.rules.specs.Sharing.{arrivalChoice, closingChoice, levellingChoice, arrive, close, level, widen, tightSet, inside}
+use Rattle.rules.specs.Sharing.{arrivalChoice, closingChoice, levellingChoice, arrive, close, level, widen, tightSet}
 use Rattle.rules.specs.Answers.{Outcome, isRefused, tightSetIs}
 use Rattle.rules.specs.Calls.{arrival, closing, heaviestLoad, tightSetOf, conditions, arrivalOutcome, closingOutcome, levellingOutcome, tightSetOutcome, accepted, outcome, blanking}
 use Rattle.rules.specs.Tally.{zeroTally, noted}

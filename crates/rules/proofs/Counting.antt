@@ -6,7 +6,7 @@ use native.Mathlib.Decide.{decLt, decLe}
 use mathlib.Core.Path.{_≡_, refl, sym, ap, _∙_}
 use mathlib.Core.Logic.{inl, inr, _≢_, _↔_}
 use mathlib.Core.Bool.{Bool, true, false, cond, _||_}
-use mathlib.Core.List.{List, [], _∷_}
+use mathlib.Core.List.{List, [], _∷_, _++_}
 use lib.Dec.{T, eqb}
 use lib.ListN.{length, getD, set}
 use borrow.Author.Tests.{eq-eqb, ne-eqb}
@@ -37,6 +37,16 @@ count-some x [] i = absurd i
 count-some x (y ∷ l) (inl e) = omega (arith, bit-same y x (sym e))
 count-some x (y ∷ l) (inr i) = omega (arith, count-some x l i)
 
+-- .. at most as often as the list is long
+pub count-most : (x : ℕ) (l : List ℕ) → count x l ≤ length l
+count-most x [] = omega arith
+count-most x (y ∷ l) = omega (arith, count-most x l, bit-le (eqb y x))
+
+-- in a list after another a number is counted as often as in both
+pub count-append : (x : ℕ) (k l : List ℕ) → count x (k ++ l) ≡ count x k + count x l
+count-append x [] l = omega arith
+count-append x (y ∷ k) l = omega (arith, count-append x k l)
+
 pub different-count : (l : List ℕ) → T (different l) → (x : ℕ) → count x l ≤ 1
 different-count [] t x = omega arith
 different-count (y ∷ l) t x = go (different-count l (different-tail y l t) x) (compared y x)
@@ -50,6 +60,11 @@ different-count (y ∷ l) t x = go (different-count l (different-tail y l t) x) 
 pub total-add : (n : ℕ) (f g : ℕ → ℕ) → total n (λ x. f x + g x) ≡ total n f + total n g
 total-add zero f g = refl
 total-add (suc n) f g = omega (arith, total-add n f g)
+
+-- the first value of a total
+pub total-first : (n : ℕ) (f : ℕ → ℕ) → total (suc n) f ≡ f 1 + total n (λ x. f (suc x))
+total-first zero f = omega arith
+total-first (suc n) f = omega (arith, total-first n f)
 
 -- a multiple's total
 pub total-times : (n h : ℕ) (f : ℕ → ℕ) → total n (λ x. h * f x) ≡ h * total n f
@@ -77,6 +92,33 @@ total-same (suc n) f g h = omega (arith, total-same n f g (λ x l u. h x l (omeg
 pub total-le : (n : ℕ) (f g : ℕ → ℕ) → ((x : ℕ) → 1 ≤ x → x ≤ n → f x ≤ g x) → total n f ≤ total n g
 total-le zero f g h = omega arith
 total-le (suc n) f g h = omega (arith, total-le n f g (λ x l u. h x l (omega arith)), h (suc n) (omega arith) (omega arith))
+
+-- .. and is the same on 1 to n if it has the same total ..
+pub total-tight : (n : ℕ) (f g : ℕ → ℕ) → ((x : ℕ) → 1 ≤ x → x ≤ n → f x ≤ g x) → total n f ≡ total n g → (x : ℕ) → 1 ≤ x → x ≤ n → f x ≡ g x
+total-tight zero f g h e x l u = absurd (omega arith)
+total-tight (suc n) f g h e x l u = go (total-tight n f g before) (compared x (suc n))
+  where
+    before : (y : ℕ) → 1 ≤ y → y ≤ n → f y ≤ g y
+    before y l u = h y l (omega arith)
+
+    last : f (suc n) ≤ g (suc n)
+    last = h (suc n) (omega arith) (omega arith)
+
+    go : (total n f ≡ total n g → (y : ℕ) → 1 ≤ y → y ≤ n → f y ≡ g y) → {z : Bool} → Compared x (suc n) z → f x ≡ g x
+    go ih (same q) = omega (arith, last, total-le n f g before, ap f q, ap g q)
+    go ih (other d) = ih (omega (arith, last, total-le n f g before)) x l (omega arith)
+
+-- how often x stands in a list, place by place
+pub count-total : (x : ℕ) (l : List ℕ) → count x l ≡ total (length l) (λ i. bit (eqb (nth l i 0) x))
+count-total x [] = refl
+count-total x (y ∷ l) =
+    let f : ℕ → ℕ = λ i. bit (eqb (nth (y ∷ l) i 0) x) in
+    let g : ℕ → ℕ = λ i. bit (eqb (nth l i 0) x) in
+    omega (arith, total-first (length l) f, total-same (length l) (λ i. f (suc i)) g (same), count-total x l)
+  where
+    same : (i : ℕ) → 1 ≤ i → i ≤ length l → bit (eqb (nth (y ∷ l) (suc i) 0) x) ≡ bit (eqb (nth l i 0) x)
+    same zero u v = absurd (omega arith)
+    same (suc i) u v = refl
 
 -- .. and if they differ at one place, the totals differ by what the functions do there
 pub total-but-one : (n : ℕ) (f g : ℕ → ℕ) (x : ℕ) → 1 ≤ x → x ≤ n → ((y : ℕ) → 1 ≤ y → y ≤ n → y ≢ x → f y ≡ g y) → total n f + g x ≡ total n g + f x
@@ -158,7 +200,7 @@ count-change (x ∷ l) (suc (suc i)) a y h u = omega (arith, count-change l (suc
 
 module _ {A : Type 0} (p : A → Bool) where
   -- the first element is kept or not
-  keep-counts : (x : A) (l : List A) → length (keep p (x ∷ l)) ≡ bit (p x) + length (keep p l)
+  pub keep-counts : (x : A) (l : List A) → length (keep p (x ∷ l)) ≡ bit (p x) + length (keep p l)
   keep-counts x l = go (p x)
     where
       go : (z : Bool) → length (cond z (x ∷ keep p l) (keep p l)) ≡ bit z + length (keep p l)

@@ -6,7 +6,7 @@ use mathlib.Core.Bool.{Bool, true, not, false≢true}
 use mathlib.Core.List.{List, [], _∷_}
 use lib.Dec.{T}
 use lib.ListN.{length, getD, replicate}
-use Rattle.rules.specs.Board.{Board, Valid, holderOf, stands, Shares, load, excess}
+use Rattle.rules.specs.Board.{Board, Valid, holderOf, stands, Shares, excess}
 use Rattle.rules.specs.Lists.{empty}
 use Rattle.rules.specs.Table.{sizesFit, lengthFor, sound, decode}
 use Rattle.rules.specs.Sharing.{arrive, close, level, Levelled, relevel}

@@ -8,11 +8,10 @@ use mathlib.Core.Bool.{not}
 use mathlib.Core.List.{List, [], _∷_}
 use lib.Dec.{T, eqb}
 use lib.ListN.{length}
-use lib.Seq.{set-getD}
 use Rattle.rules.specs.Lists.{bit, within, member, different, In, nth, change}
 use Rattle.rules.specs.Board.{Board, Valid, namesOf, holderOf, stands, put, load, mayHold, Shares, namesFit}
 use Rattle.rules.specs.Paths.{Step, steps, BenchPath, endOf, last, jobs, Walk, IsPath, handOver, flip}
-use Rattle.rules.proofs.Basics.{true→T, both, within-low, within-high, nth-change-same, nth-change-other, length-change, each-change, map-in, not-member, different-head, different-tail, length-shares}
+use Rattle.rules.proofs.Basics.{true→T, both, within-low, within-high, nth-change-same, nth-change-other, length-change, change-same, each-change, map-in, not-member, different-head, different-tail, length-shares}
 use Rattle.rules.proofs.Counting.{count-change}
 use Rattle.rules.proofs.Paths.{stands-within, named-stands, named-may, step-is, benchesOf, jobsOf}
 
@@ -32,10 +31,7 @@ put-valid b v j names a f t =
 
 -- .. and giving the job to a bench that it names leaves a sharing
 pub shares-given : (named : List (List ℕ)) (holders : List ℕ) (j a : ℕ) → Shares named holders → T (mayHold (nth named j []) a) → Shares named (change holders j a)
-shares-given named holders zero a s t = s
-shares-given named holders (suc i) a s t =
-    let w = shares-written named holders (suc i) (nth named (suc i) []) a s t in
-    rw (set-getD named i []) at w
+shares-given named holders j a s t = let w = shares-written named holders j (nth named j []) a s t in rw (change-same named j []) at w
 
 -- a job that is not on the route stays where it is ..
 handOver-keeps : (holders : List ℕ) (r : List Step) (i : ℕ) → (In i (jobsOf r) → ⊥) → nth (handOver holders r) i 0 ≡ nth holders i 0

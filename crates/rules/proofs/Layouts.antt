@@ -6,7 +6,7 @@ use native.Mathlib.Nat.{add-zero}
 use native.Mathlib.Numerals.{add-one}
 use mathlib.Core.Path.{_≡_, refl, sym, ap, subst, _∙_}
 use mathlib.Core.Logic.{inl, inr}
-use mathlib.Core.Bool.{Bool, true, false, cond, not, _&&_}
+use mathlib.Core.Bool.{Bool, true, false, cond, not}
 use mathlib.Core.List.{List, [], _∷_, map}
 use lib.Dec.{T, eqb}
 use lib.ListN.{length, getD, drop}
@@ -15,8 +15,8 @@ use borrow.Author.Tests.{eq-eqb, ne-eqb}
 use Rattle.rules.specs.Lists.{bit, within, count, rising, keep, all, Each, In, empty, nth, numbered}
 use Rattle.rules.specs.Board.{Board, Valid, mayHold, Shares, namesFit}
 use Rattle.rules.specs.Table.{Entry, vacant, filled, holderIn, follow, chains, standingIn, entryFits, placed, onlyStanding, formed, boardOf, firstHeld, placeOf, entryFor, entriesFrom, layoutOf}
-use Rattle.rules.proofs.Counting.{bit-same, bit-other}
-use Rattle.rules.proofs.Basics.{true→T, both, Compared, same, other, compared, T-eqb, eqb-T, within-low, within-both, keep-in, in-all, map-in, member-in, rising-low, length-shares, fit-bench}
+use Rattle.rules.proofs.Counting.{bit-same, bit-other, keep-counts}
+use Rattle.rules.proofs.Basics.{true→T, both, five, Compared, same, other, compared, T-eqb, eqb-T, within-low, within-both, keep-in, in-all, map-in, member-in, rising-low, length-shares, fit-bench}
 
 -- the jobs from number i on that bench x holds, rising
 abbrev pub heldBy : ℕ → ℕ → List ℕ → List ℕ
@@ -69,12 +69,12 @@ filled-entry benches (x ∷ names) h n f =
     rw (ne-eqb x 0 (λ e. omega arith))
 
 -- the names that a record is read as are the job's
-kept-entry : (benches : ℕ) (names : List ℕ) (h n : ℕ) → T (namesFit benches names) → cond (filled (entryFor names h n)) ((entryFor names h n) .names) [] ≡ names
+pub kept-entry : (benches : ℕ) (names : List ℕ) (h n : ℕ) → T (namesFit benches names) → cond (filled (entryFor names h n)) ((entryFor names h n) .names) [] ≡ names
 kept-entry benches [] h n f = refl
 kept-entry benches (x ∷ names) h n f = ap (λ z. cond z (x ∷ names) []) (filled-entry benches (x ∷ names) h n f)
 
 -- the holder that a record is read as is the job's
-holder-entry : (names : List ℕ) (h n : ℕ) → T (mayHold names h) → holderIn (entryFor names h n) ≡ h
+pub holder-entry : (names : List ℕ) (h n : ℕ) → T (mayHold names h) → holderIn (entryFor names h n) ≡ h
 holder-entry [] h n m = sym (T-eqb h 0 m)
 holder-entry (x ∷ names) h n m = (found h (x ∷ names) (member-in h (x ∷ names) m)) .tells
 
@@ -235,20 +235,14 @@ told {benches} i s (row {names} {h} {named} {holders} f m r) (inr j) =
       once = λ x. count-later (eqb h x) i (s .0) (heldBy (suc i) x holders) (λ e. omega (arith, t .low)) ∙ t .once x;
     }
 
--- two lists as long as each other stay so if each gets one more element or neither does
-length-cond : {A B : Type 0} (z : Bool) (a : A) (l : List A) (b : B) (m : List B) → length l ≡ length m → length (cond z (a ∷ l) l) ≡ length (cond z (b ∷ m) m)
-length-cond true a l b m e = ap suc e
-length-cond false a l b m e = e
-
 -- the filled records are as many as the jobs that name a bench
 count-filled : {benches : ℕ} {named : List (List ℕ)} {holders : List ℕ} (i : ℕ) → Rows benches named holders → length (keep (λ (s : ℕ × Entry). filled (s .1)) (numbered i (entriesFrom i named holders))) ≡ length (keep (λ names. not (empty names)) named)
 count-filled i none = refl
 count-filled {benches} i (row {names} {h} {named} {holders} f m r) =
-    let e : Entry = entryFor names h (firstHeld (suc i) h holders) in
-    let k : List (ℕ × Entry) = keep (λ s. filled (s .1)) (numbered (suc i) (entriesFrom (suc i) named holders)) in
-    let p : ℕ × Entry = (i, e) in
-    ap (λ z. length (cond z (p ∷ k) k)) (filled-entry benches names h (firstHeld (suc i) h holders) f)
-    ∙ length-cond (not (empty names)) p k names (keep (λ l. not (empty l)) named) (count-filled (suc i) r)
+    let n : ℕ = firstHeld (suc i) h holders in
+    let records = keep-counts (λ (s : ℕ × Entry). filled (s .1)) (i, entryFor names h n) (numbered (suc i) (entriesFrom (suc i) named holders)) in
+    let jobs = keep-counts (λ (names : List ℕ). not (empty names)) names named in
+    omega (arith, records, jobs, ap bit (filled-entry benches names h n f), count-filled (suc i) r)
 
 -- in the numbered list of values over rising numbers each number stands beside its own value
 numbered-map : {A : Type 0} (f : ℕ → A) (i n : ℕ) (c : ℕ × A) → In c (numbered i (map f (rising i n))) → c .1 ≡ f (c .0)
@@ -290,7 +284,7 @@ formed-layoutOf b v =
     let p : T placing = in-all (λ p. placed cs (p .0) (holderIn (p .1))) standing (records-placed b v) in
     let o : T only = in-all (onlyStanding es) cs (chains-stand b v) in
     let c : T counting = eqb-T (length (keep (λ names. not (empty names)) (b .named))) (length standing) (sym (count-filled 1 (rowsOf b v))) in
-    both (fitting && placing && only && counting) (eqb 0 0) (both (fitting && placing && only) counting (both (fitting && placing) only (both fitting placing f p) o) c) tt
+    (five fitting placing only counting (eqb 0 0)) .1 (f, p, o, c, tt)
   where
     es : List Entry
     es = records b v

@@ -5,6 +5,7 @@ pub mod Boards
 pub mod Refusals
 pub mod Words
 pub mod Sound
+pub mod ChainEnds
 pub mod Layouts
 pub mod Encode
 pub mod Blanking

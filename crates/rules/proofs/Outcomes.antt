@@ -2,21 +2,21 @@
 use Prim.Native.Nat.{ℕ, _≤_}
 use mathlib.Core.Path.{_≡_, refl, sym, ap, subst, _∙_}
 use mathlib.Core.Logic.{_⊎_, inl, inr}
-use mathlib.Core.Bool.{Bool, true, false, cond, not, _&&_, _||_}
+use mathlib.Core.Bool.{Bool, true, false, cond, not, _||_}
 use mathlib.Core.List.{List, [], _∷_}
 use mathlib.Core.Option.{Option, none, some}
 use lib.Dec.{T, eqb}
 use lib.ListN.{length}
 use borrow.Author.Tests.{eqb-false}
-use Rattle.rules.specs.Lists.{within, Each, In}
+use Rattle.rules.specs.Lists.{within, Each, change}
 use Rattle.rules.specs.Board.{Board, Valid, stands, namesFit}
 use Rattle.rules.specs.Table.{paired, mostBenches, mostJobs, sound, decode, encode, Storable}
 use Rattle.rules.specs.Sharing.{Change, arrive, close, Levelled, relevel, level}
 use Rattle.rules.specs.Answers.{Refusal, Outcome, firstHolding, isRefused, settled}
-use Rattle.rules.specs.Answers.{refused, levelYes, levelNo, levelled, stopped}
+use Rattle.rules.specs.Answers.{levelYes, levelNo, levelled, stopped}
 use Rattle.rules.specs.Calls.{Call, arrival, closing, levelling, loadOf, heaviestLoad, tightSetOf, formCheck, levelCheck, noBench, conditions, lentList, accepted, outcome, arrivalOutcome, closingOutcome, levellingOutcome, tightSetOutcome}
 use Rattle.rules.specs.Demand2.{OneMore}
-use Rattle.rules.proofs.Basics.{not-false, neither, false→not, both, not-member, length-change, each-change}
+use Rattle.rules.proofs.Basics.{not-false, neither, false→not, length-change, each-change, pair-fits}
 use Rattle.rules.proofs.Refusals.{accepted-by, accepted-answers, isQuestion, question-leaves}
 use Rattle.rules.proofs.ChainOrder.{sound-outcome}
 use Rattle.rules.proofs.Tally.{isChange}
@@ -37,10 +37,10 @@ resized b c s v e l p =
     }
 
 -- so is one in which job j was taken to these names
-changed-storable : (b : Board) (j : ℕ) (names : List ℕ) (c : Change) → Storable b → T (paired names) → Changed b j names c → Storable (c .board)
-changed-storable b j names c s p d =
-    resized b (c .board) s (d .valid) (d .benches) (ap length (d .named) ∙ length-change (b .named) j names)
-    (subst (Each (λ names. T (paired names))) (sym (d .named)) (each-change (λ names. T (paired names)) (b .named) j names p (s .pairs)))
+pub changed-storable : (b c : Board) (j : ℕ) (names : List ℕ) → Storable b → T (paired names) → Valid c → c .benches ≡ b .benches → c .named ≡ change (b .named) j names → Storable c
+changed-storable b c j names s p v e n =
+    resized b c s v e (ap length n ∙ length-change (b .named) j names)
+    (subst (Each (λ names. T (paired names))) (sym n) (each-change (λ names. T (paired names)) (b .named) j names p (s .pairs)))
 
 -- a table that a change writes: sound, and of that board
 pub record Written (u : List ℕ) (b : Board) : Type 0 where
@@ -62,18 +62,13 @@ unfolding conditions
 may-arrive b j x y e =
     let f = neither (noBench b x || noBench b y) (eqb x y) (e .1 .0) in
     let g = neither (noBench b x) (noBench b y) (f .0) in
-    let wx = within 1 (b .benches) x in
-    let wy = within 1 (b .benches) y in
-    let apart : T (not (eqb y x || false)) = not-member x (y ∷ []) (λ i. different i (eqb-false x y (f .1))) in
+    let wx = not-false (within 1 (b .benches) x) (g .0) in
+    let wy = not-false (within 1 (b .benches) y) (g .1) in
     record {
       number = not-false (within 1 (length (b .named)) j) (e .0);
       free = false→not (stands b j) (e .1 .1 .0);
-      fit = both (wx && (wy && true)) (not (eqb y x || false) && true) (both wx (wy && true) (not-false wx (g .0)) (both wy true (not-false wy (g .1)) tt)) (both (not (eqb y x || false)) true apart tt);
+      fit = (pair-fits (b .benches) x y) .1 (wx, wy, eqb-false x y (f .1));
     }
-  where
-    different : In x (y ∷ []) → (x ≡ y → ⊥) → ⊥
-    different (inl e) n = n e
-    different (inr i) n = i
 
 may-close : (b : Board) (j : ℕ) → Each (λ k. k .holds ≡ false) (conditions (closing j) b) → T (stands b j)
 unfolding conditions
@@ -99,7 +94,7 @@ arrival-accepted t s j x y n =
     record {
       may = m;
       is = a .1;
-      writes = written-as (c .board) (changed-storable (decode t) j (x ∷ y ∷ []) c st tt (d .0)) (ap (λ o. o .table) (a .1));
+      writes = written-as (c .board) (changed-storable (decode t) (c .board) j (x ∷ y ∷ []) st tt (d .0 .valid) (d .0 .benches) (d .0 .named)) (ap (λ o. o .table) (a .1));
       does = d .0;
       rose = d .1;
     }
@@ -124,7 +119,7 @@ closing-accepted t s j n =
     record {
       stood = m;
       is = a .1;
-      writes = written-as (c .board) (changed-storable (decode t) j [] c st tt (d .0)) (ap (λ o. o .table) (a .1));
+      writes = written-as (c .board) (changed-storable (decode t) (c .board) j [] st tt (d .0 .valid) (d .0 .benches) (d .0 .named)) (ap (λ o. o .table) (a .1));
       does = d .0;
       fell = d .1;
     }

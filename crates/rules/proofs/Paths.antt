@@ -1,28 +1,27 @@
 -- Jobs and their benches, steps, paths and improving paths: the lists of the definitions hold exactly what they are to hold.
 use Prim.Native.Nat.{ℕ, zero, suc, _+_, _≤_}
 use native.Mathlib.Omega.{arith}
-use native.Mathlib.Decide.{decLt}
 use mathlib.Core.Path.{_≡_, refl, sym, ap, subst, _∙_}
 use mathlib.Core.Logic.{inl, inr, _≢_, _↔_}
 use mathlib.Core.Bool.{Bool, true, false, cond, not}
 use mathlib.Core.List.{List, [], _∷_, _++_, map}
 use lib.Dec.{T, eqb, not-T}
-use lib.ListN.{length, getD, length-map, List·getD-eq-default}
+use lib.ListN.{length, getD, length-map}
 use borrow.Author.Tests.{eq-eqb}
 use Rattle.rules.specs.Lists.{within, member, different, rising, keep, Each, In, empty}
 use Rattle.rules.specs.Board.{Board, Valid, namesOf, holderOf, stands, load, mayHold, Shares, namesFit}
 use Rattle.rules.specs.Paths.{Step, stepBy, stepsFrom, steps, BenchPath, pathBy, endOf, last, Walk, IsPath, routes, pathsFrom, improves, improvingFrom, improving, improvingTo}
 use Rattle.rules.specs.Sharing.{level}
-use Rattle.rules.proofs.Basics.{true→T, T→true, both, Compared, same, other, compared, T-eqb, eqb-T, T-leb, leb-T, within-both, in-left, in-right, in-either, in-keep, keep-in, empty-in, in-empty, some-in, each-nth, in-map, map-in, in-flatMap, flatMap-in, member-in, in-member, bench-listed, listed-bench, not-member, member-not, different-head, different-tail, others-in, fit-bench}
+use Rattle.rules.proofs.Basics.{true→T, T→true, both, Compared, same, other, compared, T-eqb, eqb-T, T-leb, leb-T, within-both, in-left, in-right, in-either, in-keep, keep-in, empty-in, in-empty, some-in, nth-within, each-nth, in-map, map-in, in-flatMap, flatMap-in, member-in, in-member, bench-listed, listed-bench, not-member, member-not, different-head, different-tail, others-in, fit-bench}
 use Rattle.rules.proofs.Counting.{few, different-count}
 
 -- the benches that a job names, and the one that holds it
 
 -- a standing job's number is one of 1 to J
 pub stands-within : (b : Board) (j : ℕ) → T (stands b j) → T (within 1 (length (b .named)) j)
-stands-within b zero t = absurd t
-stands-within b (suc i) t =
-    elim (decLt i (length (b .named))) [ yes h ↦ within-both 1 (length (b .named)) (suc i) (omega arith) h | no h ↦ absurd (let e = List·getD-eq-default (b .named) [] {n = i} (omega arith) in rw e at t) ]
+stands-within b j t =
+    let r = nth-within (b .named) j [] (λ e. rw e at t) in
+    within-both 1 (length (b .named)) j (r .0) (r .1)
 
 -- a job that names a bench stands ..
 pub named-stands : (b : Board) (j y : ℕ) → In y (namesOf b j) → T (stands b j)

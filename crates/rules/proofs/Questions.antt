@@ -5,7 +5,7 @@ use mathlib.Core.Path.{_≡_, refl, sym, ap, _∙_}
 use mathlib.Core.Logic.{_⊎_, inl, inr, _↔_}
 use mathlib.Core.Bool.{Bool, true, false, cond, not, _||_}
 use mathlib.Core.List.{List, [], _∷_}
-use lib.Dec.{T, not-T, eqb, ltb, lt→ltb}
+use lib.Dec.{T, eqb, ltb, lt→ltb}
 use lib.ListN.{length, take, drop, length-drop, length-append}
 use lib.Seq.{take-at, drop-at}
 use borrow.Author.Tests.{eqb-false, ltb-false, ne-eqb, lt-ltb, le-ltb}
@@ -16,7 +16,7 @@ use Rattle.rules.specs.Paths.{BenchPath, IsPath, improves}
 use Rattle.rules.specs.Sharing.{level, tightSet, inside, density}
 use Rattle.rules.specs.Answers.{Refusal, firstHolding, isRefused, refuse, settled, refused, sizes, unsound, benchNumber, height, listTooShort, loadIs, heaviestIs, tightSetIs, isSound, levelYes, levelNo}
 use Rattle.rules.specs.Calls.{loadOf, heaviestLoad, tightSetOf, formCheck, levelCheck, conditions, answering, accepted, outcome, tightSetOutcome}
-use Rattle.rules.proofs.Basics.{or-left, or-right, eqb-T, within-high, in-each, neither, true→T, T→true, not→false}
+use Rattle.rules.proofs.Basics.{or-left, or-right, eqb-T, within-high, in-each, neither, true→T, T→true, never→false}
 use Rattle.rules.proofs.Sound.{sound-storable}
 use Rattle.rules.proofs.Paths.{level-exact, unlevel-improves}
 use Rattle.rules.proofs.Levels.{level-demand2, tight-density}
@@ -140,7 +140,7 @@ module _ (t : List ℕ) (s : T (sound t)) where
   pub level-check-no : ((outcome levelCheck t) .answer ≡ levelNo) ↔ ((p : BenchPath) × IsPath (decode t) p × T (improves (decode t) p))
   level-check-no =
       let v = (sound-storable t s) .valid in
-      (λ e. unlevel-improves (decode t) (says (level (decode t)) (sym level-answered ∙ e)), λ q. level-answered ∙ rw (not→false (level (decode t)) (not-T (level (decode t)) (λ l. level-exact (decode t) v .0 l (q .0) (q .1) (q .2)))))
+      (λ e. unlevel-improves (decode t) (says (level (decode t)) (sym level-answered ∙ e)), λ q. level-answered ∙ rw (never→false (level (decode t)) (λ l. level-exact (decode t) v .0 l (q .0) (q .1) (q .2))))
     where
       says : (z : Bool) → cond z levelYes levelNo ≡ levelNo → T (not z)
       says true e = true→T false cc

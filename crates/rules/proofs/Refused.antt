@@ -1,29 +1,27 @@
 -- Arrival and closing on a sound table: when they are refused, with which number, and that nothing else refuses them.
 use Prim.Native.Nat.{ℕ}
-use mathlib.Core.Path.{_≡_, refl, ap, _∙_}
+use mathlib.Core.Path.{_≡_, ap, _∙_}
 use mathlib.Core.Logic.{_⊎_, inl, inr, _↔_}
-use mathlib.Core.Bool.{Bool, true, false, not, _||_}
+use mathlib.Core.Bool.{Bool, true, false, _||_}
 use mathlib.Core.List.{List, [], _∷_}
 use lib.Dec.{T, eqb}
 use lib.ListN.{length}
 use borrow.Author.Tests.{ne-eqb}
-use Rattle.rules.specs.Lists.{within, different, all}
+use Rattle.rules.specs.Lists.{within}
 use Rattle.rules.specs.Board.{stands, namesFit}
 use Rattle.rules.specs.Table.{sound, decode}
 use Rattle.rules.specs.Answers.{isRefused, refused, jobNumber, benchNumber, alreadyStanding, notStanding}
 use Rattle.rules.specs.Calls.{arrival, closing, noBench, conditions, accepted, outcome, arrivalOutcome, closingOutcome}
-use Rattle.rules.proofs.Basics.{T→true, false→not, not→false, right, or-left, or-right, eqb-T, different-head, fit-bench}
+use Rattle.rules.proofs.Basics.{T→true, false→not, not→false, or-left, or-right, eqb-T, pair-fits}
 use Rattle.rules.proofs.Paths.{stands-within}
 use Rattle.rules.proofs.ChainOrder.{sound-outcome}
 use Rattle.rules.proofs.Outcomes.{MayArrive, arrival-accepted, closing-accepted}
 
 -- two benches that an arrival may name, by the tests of its refusal
-pair-fits : (benches x y : ℕ) → T (namesFit benches (x ∷ y ∷ [])) → (within 1 benches x ≡ true) × (within 1 benches y ≡ true) × (eqb x y ≡ false)
-pair-fits benches x y f =
-    let wx = fit-bench benches (x ∷ y ∷ []) x f (inl refl) in
-    let wy = fit-bench benches (x ∷ y ∷ []) y f (inr (inl refl)) in
-    let apart = different-head x (y ∷ []) (right (all (within 1 benches) (x ∷ y ∷ [])) (different (x ∷ y ∷ [])) f) in
-    (T→true (within 1 benches x) wx, T→true (within 1 benches y) wy, ne-eqb x y (λ e. apart (inl e)))
+pair-passes : (benches x y : ℕ) → T (namesFit benches (x ∷ y ∷ [])) → (within 1 benches x ≡ true) × (within 1 benches y ≡ true) × (eqb x y ≡ false)
+pair-passes benches x y f =
+    let p = (pair-fits benches x y) .0 f in
+    (T→true (within 1 benches x) (p .0), T→true (within 1 benches y) (p .1), ne-eqb x y (p .2))
 
 module _ (t : List ℕ) (s : T (sound t)) where
   -- 3: "job number not 1 to J"
@@ -56,7 +54,7 @@ module _ (t : List ℕ) (s : T (sound t)) where
   unfolding conditions accepted
   arrival-standing-refused j x y f n =
       let b = decode t in
-      let (wx, wy, apart) = pair-fits (b .benches) x y f in
+      let (wx, wy, apart) = pair-passes (b .benches) x y f in
       ap (λ o. o .answer) (sound-outcome (arrival j x y) t s) ∙ rw (T→true (within 1 (length (b .named)) j) (stands-within b j n), wx, wy, apart, T→true (stands b j) n)
 
   -- 6: "closing of a job not standing"
@@ -72,7 +70,7 @@ module _ (t : List ℕ) (s : T (sound t)) where
       goes : MayArrive (decode t) j x y → isRefused ((outcome (arrival j x y) t) .answer) ≡ false
       goes m =
           let b = decode t in
-          let (wx, wy, apart) = pair-fits (b .benches) x y (m .fit) in
+          let (wx, wy, apart) = pair-passes (b .benches) x y (m .fit) in
           ap (λ o. isRefused (o .answer)) (sound-outcome (arrival j x y) t s) ∙ rw (T→true (within 1 (length (b .named)) j) (m .number), wx, wy, apart, not→false (stands b j) (m .free))
 
   -- a closing is accepted exactly if its job stands

@@ -6,27 +6,31 @@ use native.Mathlib.Decide.{decLe}
 use mathlib.Core.Path.{_≡_, refl, sym, ap, _∙_, subst}
 use mathlib.Core.Logic.{_⊎_, inl, inr, _≢_, _↔_}
 use mathlib.Core.Bool.{Bool, true, false, cond, not, _&&_, _||_}
-use mathlib.Core.List.{List, [], _∷_, map}
-use lib.Dec.{T, eqb, leb, not-T}
+use mathlib.Core.List.{List, [], _∷_, _++_, map}
+use lib.Dec.{T, eqb, leb}
 use lib.ListN.{length, getD, drop, length-take, length-drop, length-map, List·getD-eq-default}
 use lib.Seq.{getD-take, getD-drop}
-use Rattle.rules.specs.Lists.{keep, bit, within, count, member, different, all, Each, In, empty, nth, numbered}
+use Rattle.rules.specs.Lists.{keep, bit, within, count, all, Each, In, empty, nth, numbered}
 use Rattle.rules.specs.Board.{holderOf, stands, standing, Shares, mayHold, namesFit}
 use Rattle.rules.specs.Table.{paired, words, lengthFor, mostBenches, mostJobs, sizesFit, Entry, vacant, filled, holderIn, Layout, entriesIn, layout, follow, chains, standingIn, entryFits, placed, onlyStanding, formed, fits, sound, boardOf, decode, entryWords, Storable}
-use Rattle.rules.proofs.Basics.{true→T, T→true, not→false, not-false, both, left, right, or-right, Compared, same, other, compared, T-eqb, eqb-T, T-leb, within-low, within-high, within-both, in-left, in-right, in-either, in-keep, keep-in, all-in, in-all, each-in, in-each, in-getD, in-nth, in-numbered, in-numbered-nth, numbered-nth, in-map, nth-map, each-map, member-in, in-member, Member, is-in, not-in, membered, different-head, fit-bench}
-use Rattle.rules.proofs.Counting.{bit-le, bit-same, bit-other, count-none, count-some, few}
+use Rattle.rules.proofs.Basics.{true→T, T→true, never→false, not-false, both, left, right, five, or-right, Compared, same, other, compared, T-eqb, eqb-T, T-leb, within-low, within-high, within-both, two-elements, in-right, in-keep, keep-in, all-in, in-all, each-in, in-each, in-getD, in-nth, nth-within, in-numbered, in-numbered-nth, numbered-nth, in-map, nth-map, each-map, in-member, Member, is-in, not-in, membered, pair-fits}
+use Rattle.rules.proofs.Counting.{bit-le, bit-same, bit-other, count-none, count-some, few, keep-counts}
 
 -- the table's places
+
+-- the bytes of a word lie two behind those of the word before it
+pub two-more : (n : ℕ) → 2 * suc n ≡ suc (suc (2 * n))
+two-more n = omega arith
+
+pub two-more-high : (n : ℕ) → 2 * suc n + 1 ≡ suc (suc (2 * n + 1))
+two-more-high n = omega arith
 
 -- word i is bytes 2i and 2i + 1, low byte first
 pub word-at : (t : List ℕ) (i : ℕ) → 2 * i + 1 < length t → getD (words t) i 0 ≡ getD t (2 * i) 0 + 256 * getD t (2 * i + 1) 0
 word-at [] i h = omega arith
 word-at (a ∷ []) i h = omega arith
 word-at (a ∷ b ∷ t) zero h = refl
-word-at (a ∷ b ∷ t) (suc i) h =
-    let e : 2 * suc i ≡ suc (suc (2 * i)) = omega arith in
-    let f : 2 * suc i + 1 ≡ suc (suc (2 * i + 1)) = omega arith in
-    rw (f, e) (word-at t i (omega arith))
+word-at (a ∷ b ∷ t) (suc i) h = rw (two-more-high i, two-more i) (word-at t i (omega arith))
 
 -- a word is two bytes
 pub length-words : (t : List ℕ) → length (words t) ≡ length t / 2
@@ -78,17 +82,6 @@ entry-at ws (suc i) l h =
 
 -- sizes that fit
 
--- the five tests of a conjunction, one by one
-five : (a b c d e : Bool) → T (a && b && c && d && e) ↔ (T a × T b × T c × T d × T e)
-five a b c d e = (split, λ p. both (a && b && c && d) e (both (a && b && c) d (both (a && b) c (both a b (p .0) (p .1)) (p .2)) (p .3)) (p .4))
-  where
-    split : T (a && b && c && d && e) → T a × T b × T c × T d × T e
-    split t =
-        let t₄ = left (a && b && c && d) e t in
-        let t₃ = left (a && b && c) d t₄ in
-        let t₂ = left (a && b) c t₃ in
-        (left a b t₂, right a b t₂, right (a && b) c t₃, right (a && b && c) d t₄, right (a && b && c && d) e t)
-
 -- what it is for a byte length to fit B and J
 pub record Sized (len benches jobs : ℕ) : Type 0 where
   pub even : len % 2 ≡ 0
@@ -111,8 +104,8 @@ sized len benches jobs t =
     }
 
 -- a byte length does not fit where it has no such shape
-misfit : (len benches jobs : ℕ) → (Sized len benches jobs → ⊥) → sizesFit len benches jobs ≡ false
-misfit len benches jobs f = not→false (sizesFit len benches jobs) (not-T (sizesFit len benches jobs) (λ t. f (sized len benches jobs t)))
+pub misfit : (len benches jobs : ℕ) → (Sized len benches jobs → ⊥) → sizesFit len benches jobs ≡ false
+misfit len benches jobs f = never→false (sizesFit len benches jobs) (λ t. f (sized len benches jobs t))
 
 -- an odd length does not fit, whatever B and J
 pub odd-refused : (len benches jobs : ℕ) → len % 2 ≡ 1 → sizesFit len benches jobs ≡ false
@@ -145,52 +138,49 @@ fits-entries t f =
 
 -- empty records
 
+-- whether a word is zero
+abbrev isZero : ℕ → Bool
+isZero w = eqb w 0
+
+-- the test of all words of a record is that of its names, its holder and its next job
+zero-test : (names : List ℕ) (h n : ℕ) → all isZero (names ++ (h ∷ n ∷ [])) ≡ (all isZero names && isZero h && isZero n)
+zero-test [] h n = go (isZero h) (isZero n)
+  where
+    go : (a b : Bool) → (a && (b && true)) ≡ (a && b)
+    go true true = refl
+    go true false = refl
+    go false b = refl
+zero-test (x ∷ names) h n = go (isZero x) (zero-test names h n)
+  where
+    go : (z : Bool) → all isZero (names ++ (h ∷ n ∷ [])) ≡ (all isZero names && isZero h && isZero n) → (z && all isZero (names ++ (h ∷ n ∷ []))) ≡ (z && all isZero names && isZero h && isZero n)
+    go true ih = ih
+    go false ih = refl
+
 -- "A job number that is not standing has four zero words ..
 pub vacant-words : (e : Entry) → filled e ≡ false → Each (λ w. w ≡ 0) (entryWords e)
-vacant-words e f = in-each (λ w. w ≡ 0) (entryWords e) (λ w i. go w (in-either w (e .names) (e .holder ∷ e .next ∷ []) i))
-  where
-    named : Bool
-    named = all (λ w. eqb w 0) (e .names)
-
-    zero-all : T (named && eqb (e .holder) 0 && eqb (e .next) 0)
-    zero-all = not-false (named && eqb (e .holder) 0 && eqb (e .next) 0) f
-
-    zero-but-next : T (named && eqb (e .holder) 0)
-    zero-but-next = left (named && eqb (e .holder) 0) (eqb (e .next) 0) zero-all
-
-    go : (w : ℕ) → In w (e .names) ⊎ In w (e .holder ∷ e .next ∷ []) → w ≡ 0
-    go w (inl i) = T-eqb w 0 (all-in (λ w. eqb w 0) w (e .names) (left named (eqb (e .holder) 0) zero-but-next) i)
-    go w (inr (inl d)) = d ∙ T-eqb (e .holder) 0 (right named (eqb (e .holder) 0) zero-but-next)
-    go w (inr (inr (inl d))) = d ∙ T-eqb (e .next) 0 (right (named && eqb (e .holder) 0) (eqb (e .next) 0) zero-all)
-    go w (inr (inr (inr i))) = absurd i
+vacant-words e f =
+    let t = not-false (all isZero (e .names) && isZero (e .holder) && isZero (e .next)) f in
+    in-each (λ w. w ≡ 0) (entryWords e) (λ w i. T-eqb w 0 (all-in isZero w (entryWords e) (rw (zero-test (e .names) (e .holder) (e .next)) t) i))
 
 -- .. any other record is a standing job's", and one of four zero words is none
 pub zero-words : (e : Entry) → Each (λ w. w ≡ 0) (entryWords e) → filled e ≡ false
-zero-words e z = ap not (T→true (named && eqb (e .holder) 0 && eqb (e .next) 0) zero-all)
-  where
-    named : Bool
-    named = all (λ w. eqb w 0) (e .names)
-
-    rest : List ℕ
-    rest = e .holder ∷ e .next ∷ []
-
-    zero-test : (w : ℕ) → In w (entryWords e) → T (eqb w 0)
-    zero-test w i = eqb-T w 0 (each-in (λ w. w ≡ 0) w (entryWords e) z i)
-
-    zero-all : T (named && eqb (e .holder) 0 && eqb (e .next) 0)
-    zero-all =
-        both (named && eqb (e .holder) 0) (eqb (e .next) 0)
-        (both named (eqb (e .holder) 0) (in-all (λ w. eqb w 0) (e .names) (λ w i. zero-test w (in-left w (e .names) rest i))) (zero-test (e .holder) (in-right (e .holder) (e .names) rest (inl refl))))
-        (zero-test (e .next) (in-right (e .next) (e .names) rest (inr (inl refl))))
+zero-words e z =
+    let t = in-all isZero (entryWords e) (λ w i. eqb-T w 0 (each-in (λ w. w ≡ 0) w (entryWords e) z i)) in
+    ap not (sym (zero-test (e .names) (e .holder) (e .next)) ∙ T→true (all isZero (entryWords e)) t)
 
 -- the clauses of the sound table
 
 -- a filled record's number is one of 1 to J
-filled-within : (es : List Entry) (j : ℕ) → T (filled (nth es j vacant)) → (1 ≤ j) × (j ≤ length es)
-filled-within es zero t = absurd t
-filled-within [] (suc i) t = absurd t
-filled-within (e ∷ es) (suc zero) t = omega arith
-filled-within (e ∷ es) (suc (suc i)) t = omega (arith, filled-within es (suc i) t)
+pub filled-within : (es : List Entry) (j : ℕ) → T (filled (nth es j vacant)) → (1 ≤ j) × (j ≤ length es)
+filled-within es j t = nth-within es j vacant (λ e. rw e at t)
+
+-- so it is one of the records ..
+pub filled-in : (es : List Entry) (j : ℕ) → T (filled (nth es j vacant)) → In (nth es j vacant) es
+filled-in es j t = let w = filled-within es j t in in-nth es j vacant (w .0) (w .1)
+
+-- .. and the numbers of a list of standing jobs are such numbers
+pub filled-each : (es : List Entry) (c : List ℕ) → ((j : ℕ) → In j c → T (filled (nth es j vacant))) → Each (λ j. T (within 1 (length es) j)) c
+filled-each es c f = in-each (λ j. T (within 1 (length es) j)) c (λ j i. let r = filled-within es j (f j i) in within-both 1 (length es) j (r .0) (r .1))
 
 -- the clauses of the sound table after its sizes, for each record and each chain
 pub record Formed (l : Layout) : Type 0 where
@@ -280,7 +270,7 @@ entriesIn-pairs (a ∷ b ∷ h ∷ []) = tt
 entriesIn-pairs (a ∷ b ∷ h ∷ n ∷ ws) = (refl, entriesIn-pairs ws)
 
 -- the benches that a record names on the board
-abbrev namesIn : Entry → List ℕ
+abbrev pub namesIn : Entry → List ℕ
 namesIn e = cond (filled e) (e .names) []
 
 -- what the board asks of a job's names and holder
@@ -289,20 +279,13 @@ record Job (benches : ℕ) (names : List ℕ) (h : ℕ) : Type 0 where
   held : T (mayHold names h)
   pair : T (paired names)
 
--- the holder word 1 or 2 tells a bench that the job names
-told : (names : List ℕ) (p : ℕ) → T (within 1 (length names) p) → T (mayHold names (nth names p 0))
-told [] p t = absurd (omega (arith, within-low 1 0 p t, within-high 1 0 p t))
-told (x ∷ l) zero t = absurd t
-told (x ∷ l) (suc i) t = in-member (getD (x ∷ l) i 0) (x ∷ l) (in-getD (x ∷ l) i 0 (within-high 1 (length (x ∷ l)) (suc i) t))
+-- two names are as many as a record holds
+pub two-paired : (names : List ℕ) → length names ≡ 2 → T (paired names)
+two-paired names two = or-right (empty names) (eqb (length names) 2) (eqb-T (length names) 2 two)
 
--- a record that is not a standing job's is no job on the board
-not-held : (e : Entry) → filled e ≡ false → holderIn e ≡ 0
-not-held e q =
-    let i : In (e .holder) (entryWords e) = in-right (e .holder) (e .names) (e .holder ∷ e .next ∷ []) (inl refl) in
-    ap (λ (p : ℕ). nth (e .names) p 0) (each-in (λ w. w ≡ 0) (e .holder) (entryWords e) (vacant-words e q) i)
-
-entry-job : (benches : ℕ) (e : Entry) → length (e .names) ≡ 2 → (T (filled e) → T (entryFits benches e)) → Job benches (namesIn e) (holderIn e)
-entry-job benches e two fits = go (filled e) refl
+-- a record fits exactly if its names and its holder word do
+pub entry-tests : (benches : ℕ) (e : Entry) → T (entryFits benches e) ↔ (T (namesFit benches (e .names)) × T (within 1 (length (e .names)) (e .holder)))
+entry-tests benches e = (λ t. (left fit may t, right fit may t), λ p. both fit may (p .0) (p .1))
   where
     fit : Bool
     fit = namesFit benches (e .names)
@@ -310,21 +293,33 @@ entry-job benches e two fits = go (filled e) refl
     may : Bool
     may = within 1 (length (e .names)) (e .holder)
 
+-- the holder word 1 or 2 tells a bench that the job names
+told : (names : List ℕ) (p : ℕ) → T (within 1 (length names) p) → T (mayHold names (nth names p 0))
+told [] p t = absurd (omega (arith, within-low 1 0 p t, within-high 1 0 p t))
+told (x ∷ l) zero t = absurd t
+told (x ∷ l) (suc i) t = in-member (getD (x ∷ l) i 0) (x ∷ l) (in-getD (x ∷ l) i 0 (within-high 1 (length (x ∷ l)) (suc i) t))
+
+-- a record that is not a standing job's is no job on the board
+pub not-held : (e : Entry) → filled e ≡ false → holderIn e ≡ 0
+not-held e q =
+    let i : In (e .holder) (entryWords e) = in-right (e .holder) (e .names) (e .holder ∷ e .next ∷ []) (inl refl) in
+    ap (λ (p : ℕ). nth (e .names) p 0) (each-in (λ w. w ≡ 0) (e .holder) (entryWords e) (vacant-words e q) i)
+
+entry-job : (benches : ℕ) (e : Entry) → length (e .names) ≡ 2 → (T (filled e) → T (entryFits benches e)) → Job benches (namesIn e) (holderIn e)
+entry-job benches e two fits = go (filled e) refl
+  where
     go : (z : Bool) → filled e ≡ z → Job benches (cond z (e .names) []) (holderIn e)
     go true q =
-        let t = fits (true→T (filled e) q) in
-        record {
-          fit = left fit may t;
-          held = told (e .names) (e .holder) (right fit may t);
-          pair = or-right (empty (e .names)) (eqb (length (e .names)) 2) (eqb-T (length (e .names)) 2 two);
-        }
+        let t = (entry-tests benches e) .0 (fits (true→T (filled e) q)) in
+        record { fit = t .0; held = told (e .names) (e .holder) (t .1); pair = two-paired (e .names) two }
     go false q = record { fit = tt; held = eqb-T (holderIn e) 0 (not-held e q); pair = tt }
 
 shared : (es : List Entry) → ((e : Entry) → In e es → T (mayHold (namesIn e) (holderIn e))) → Shares (map namesIn es) (map holderIn es)
 shared [] g = tt
 shared (e ∷ es) g = (g e (inl refl), shared es (λ a i. g a (inr i)))
 
-layout-pairs : (ws : List ℕ) → Each (λ (e : Entry). length (e .names) ≡ 2) ((layout ws) .entries)
+-- every record of a table has two words for benches
+pub layout-pairs : (ws : List ℕ) → Each (λ (e : Entry). length (e .names) ≡ 2) ((layout ws) .entries)
 unfolding layout
 layout-pairs ws = entriesIn-pairs (drop (4 + getD ws 0 0) ws)
 
@@ -379,39 +374,33 @@ pub record TwoBenches (benches : ℕ) (e : Entry) : Type 0 where
   pub apart : first ≢ second
   pub holder : (e .holder ≡ 1) ⊎ (e .holder ≡ 2)
 
-two-benches : (benches : ℕ) (e : Entry) → length (e .names) ≡ 2 → T (entryFits benches e) → TwoBenches benches e
-two-benches benches e two fits = go (e .names) refl two (left (namesFit benches (e .names)) (within 1 (length (e .names)) (e .holder)) fits)
+-- a record with two words for benches that fits has this shape
+pub two-benches : (benches : ℕ) (e : Entry) → length (e .names) ≡ 2 → T (entryFits benches e) → TwoBenches benches e
+two-benches benches e two fits =
+    let n = two-elements (e .names) two in
+    let t = (entry-tests benches e) .0 fits in
+    let named = t .0 in
+    let p = (pair-fits benches (n .0) (n .1)) .0 (rw (n .2) at named) in
+    record {
+      first = n .0;
+      second = n .1;
+      names = n .2;
+      first-bench = bench (n .0) (p .0);
+      second-bench = bench (n .1) (p .1);
+      apart = p .2;
+      holder = holder (t .1) (compared (e .holder) 1);
+    }
   where
-    may : T (within 1 (length (e .names)) (e .holder))
-    may = right (namesFit benches (e .names)) (within 1 (length (e .names)) (e .holder)) fits
+    bench : (x : ℕ) → T (within 1 benches x) → (1 ≤ x) × (x ≤ benches)
+    bench x w = (within-low 1 benches x w, within-high 1 benches x w)
 
-    holder : {z : Bool} → Compared (e .holder) 1 z → (e .holder ≡ 1) ⊎ (e .holder ≡ 2)
-    holder (same q) = inl q
-    holder (other d) = inr (omega (arith, within-low 1 (length (e .names)) (e .holder) may, within-high 1 (length (e .names)) (e .holder) may))
-
-    bench : (x : ℕ) (names : List ℕ) → T (namesFit benches names) → In x names → (1 ≤ x) × (x ≤ benches)
-    bench x names f i =
-        let w = fit-bench benches names x f i in
-        (within-low 1 benches x w, within-high 1 benches x w)
-
-    go : (names : List ℕ) → e .names ≡ names → length names ≡ 2 → T (namesFit benches names) → TwoBenches benches e
-    go [] q l f = absurd (omega arith)
-    go (a ∷ []) q l f = absurd (omega arith)
-    go (a ∷ b ∷ []) q l f =
-        record {
-          first = a;
-          second = b;
-          names = q;
-          first-bench = bench a (a ∷ b ∷ []) f (inl refl);
-          second-bench = bench b (a ∷ b ∷ []) f (inr (inl refl));
-          apart = λ d. different-head a (b ∷ []) (right (all (within 1 benches) (a ∷ b ∷ [])) (different (a ∷ b ∷ [])) f) (inl d);
-          holder = holder (compared (e .holder) 1);
-        }
-    go (a ∷ b ∷ c ∷ names) q l f = absurd (omega arith)
+    holder : T (within 1 (length (e .names)) (e .holder)) → {z : Bool} → Compared (e .holder) 1 z → (e .holder ≡ 1) ⊎ (e .holder ≡ 2)
+    holder m (same q) = inl q
+    holder m (other d) = inr (omega (arith, within-low 1 (length (e .names)) (e .holder) m, within-high 1 (length (e .names)) (e .holder) m))
 
 -- such a record's holder is a bench of 1 to B
-holder-bench : (benches : ℕ) (e : Entry) → TwoBenches benches e → (1 ≤ holderIn e) × (holderIn e ≤ benches)
-holder-bench benches e r = go (r .holder)
+pub holder-within : (benches : ℕ) (e : Entry) → TwoBenches benches e → (1 ≤ holderIn e) × (holderIn e ≤ benches)
+holder-within benches e r = go (r .holder)
   where
     go : (e .holder ≡ 1) ⊎ (e .holder ≡ 2) → (1 ≤ holderIn e) × (holderIn e ≤ benches)
     go (inl q) = rw (r .names, q) (r .first-bench)
@@ -424,22 +413,19 @@ standing-record t s e i f =
     two-benches (l .benches) e (each-in (λ (e : Entry). length (e .names) ≡ 2) e (l .entries) (layout-pairs (words t)) i) ((sound-formed t s) .entry e i f)
 
 -- the filled records from i on, with their numbers
-abbrev standingFrom : ℕ → List Entry → List (ℕ × Entry)
+abbrev pub standingFrom : ℕ → List Entry → List (ℕ × Entry)
 standingFrom i es = keep (λ s. filled (s .1)) (numbered i es)
 
-same-standing : (i : ℕ) (es : List Entry) → ((e : Entry) → In e es → not (empty (cond (filled e) (e .names) [])) ≡ filled e) → length (standingFrom i es) ≡ length (keep (λ (n : List ℕ). not (empty n)) (map (λ e. cond (filled e) (e .names) []) es))
+-- the first record is one of them if it is filled
+pub standing-first : (i : ℕ) (e : Entry) (es : List Entry) → length (standingFrom i (e ∷ es)) ≡ bit (filled e) + length (standingFrom (suc i) es)
+standing-first i e es = keep-counts (λ (s : ℕ × Entry). filled (s .1)) (i, e) (numbered (suc i) es)
+
+-- they are as many as the jobs that name a bench, if just these name one
+same-standing : (i : ℕ) (es : List Entry) → ((e : Entry) → In e es → not (empty (namesIn e)) ≡ filled e) → length (standingFrom i es) ≡ length (keep (λ (n : List ℕ). not (empty n)) (map namesIn es))
 same-standing i [] f = refl
 same-standing i (e ∷ es) f =
-    go (filled e) (not (empty (cond (filled e) (e .names) []))) (f e (inl refl)) (same-standing (suc i) es (λ x k. f x (inr k)))
-  where
-    named : List (List ℕ)
-    named = keep (λ (n : List ℕ). not (empty n)) (map (λ e. cond (filled e) (e .names) []) es)
-
-    go : (y z : Bool) → z ≡ y → length (standingFrom (suc i) es) ≡ length named → length (cond y ((i, e) ∷ standingFrom (suc i) es) (standingFrom (suc i) es)) ≡ length (cond z (cond (filled e) (e .names) [] ∷ named) named)
-    go true true d h = ap suc h
-    go true false d h = cc
-    go false true d h = cc
-    go false false d h = h
+    let jobs = keep-counts (λ (n : List ℕ). not (empty n)) (namesIn e) (map namesIn es) in
+    omega (arith, standing-first i e es, jobs, ap bit (f e (inl refl)), same-standing (suc i) es (λ x k. f x (inr k)))
 
 -- a record names benches on a sound table's board exactly if it is filled
 named-filled : (t : List ℕ) → T (sound t) → (e : Entry) → (T (filled e) → In e ((layout (words t)) .entries)) → not (empty (namesIn e)) ≡ filled e
@@ -454,11 +440,14 @@ pub standing-word : (t : List ℕ) → T (sound t) → (layout (words t)) .stand
 unfolding decode boardOf
 standing-word t s = (sound-formed t s) .standing ∙ same-standing 1 ((layout (words t)) .entries) (λ e i. named-filled t s e (λ f. i))
 
--- how often a placed job is on a chain
+-- how often a placed job is on a chain with its number ..
+numbered-placed : (cs : List (List ℕ)) (j h : ℕ) → T (placed cs j h) → (s : ℕ × List ℕ) → In s (numbered 1 cs) → count j (s .1) ≡ bit (eqb (s .0) h)
+numbered-placed cs j h p s i =
+    T-eqb (count j (s .1)) (bit (eqb (s .0) h)) (all-in (λ c. eqb (count j (c .1)) (bit (eqb (c .0) h))) s (numbered 1 cs) p i)
+
+-- .. and on chain x
 count-placed : (cs : List (List ℕ)) (j h x : ℕ) → T (placed cs j h) → 1 ≤ x → x ≤ length cs → count j (nth cs x []) ≡ bit (eqb x h)
-count-placed cs j h x p l u =
-    let c : ℕ × List ℕ = (x, nth cs x []) in
-    T-eqb (count j (c .1)) (bit (eqb x h)) (all-in (λ c. eqb (count j (c .1)) (bit (eqb (c .0) h))) c (numbered 1 cs) p (in-numbered-nth x cs [] l u))
+count-placed cs j h x p l u = numbered-placed cs j h p (x, nth cs x []) (in-numbered-nth x cs [] l u)
 
 -- a table that fits has a chain for each bench
 pub fits-chains : (t : List ℕ) → T (fits t) → length (chains (layout (words t))) ≡ (layout (words t)) .benches
@@ -470,8 +459,7 @@ own-chain t s j f =
     let l = layout (words t) in
     let e = nth (l .entries) j vacant in
     let h = holderIn e in
-    let w = filled-within (l .entries) j f in
-    let r = holder-bench (l .benches) e (standing-record t s e (in-nth (l .entries) j vacant (w .0) (w .1)) f) in
+    let r = holder-within (l .benches) e (standing-record t s e (filled-in (l .entries) j f) f) in
     count-placed (chains l) j h h ((sound-formed t s) .place j f) (r .0) (omega (arith, r .1, fits-chains t (sound-fits t s))) ∙ bit-same h h refl
 
 -- .. and on no other"
@@ -492,36 +480,34 @@ other-chain t s j x f d = go x d
     go zero d = refl
     go (suc i) d = there i d (decLe (suc i) (length (chains l)))
 
+-- a chain of a layout with the clauses has jobs of its own bench only, none twice ..
+pub formed-own : (l : Layout) → Formed l → (s : ℕ × List ℕ) → In s (numbered 1 (chains l)) → (j : ℕ) → count j (s .1) ≤ bit (eqb (s .0) (holderIn (nth (l .entries) j vacant)))
+formed-own l f s i j = go (membered j (s .1))
+  where
+    h : ℕ
+    h = holderIn (nth (l .entries) j vacant)
+
+    go : {z : Bool} → Member j (s .1) z → count j (s .1) ≤ bit (eqb (s .0) h)
+    go (is-in k) =
+        let r = numbered-nth s (chains l) [] i in
+        let c : In (s .1) (chains l) = rw (r .2) (in-nth (chains l) (s .0) [] (r .0) (r .1)) in
+        omega (arith, numbered-placed (chains l) j h (f .place j (f .only (s .1) c j k)) s i)
+    go (not-in n) = omega (arith, count-none j (s .1) n)
+
+-- .. and if such jobs stand they are at most as many as the records
+pub own-few : (es : List Entry) (x : ℕ) (c : List ℕ) → ((j : ℕ) → count j c ≤ bit (eqb x (holderIn (nth es j vacant)))) → ((j : ℕ) → In j c → T (filled (nth es j vacant))) → length c ≤ length es
+own-few es x c own stand =
+    few (length es) c (λ j. omega (arith, own j, bit-le (eqb x (holderIn (nth es j vacant))))) (filled-each es c stand)
+
 -- a sound table's chains all end, after at most J jobs: a chain that returns to itself is found unsound
 pub chain-ends : (t : List ℕ) → T (sound t) → (h : ℕ) → In h ((layout (words t)) .heads) → Ends ((layout (words t)) .entries) ((layout (words t)) .jobs) h
-chain-ends t s h i = short-ends es (l .jobs) h (few (l .jobs) c (λ j. once j (member j c) refl) (in-each (λ j. T (within 1 (l .jobs) j)) c inside))
-  where
-    l : Layout
-    l = layout (words t)
-
-    es : List Entry
-    es = l .entries
-
-    c : List ℕ
-    c = follow es (suc (l .jobs)) h
-
-    on : In c (chains l)
-    on = in-map (follow es (suc (l .jobs))) h (l .heads) i
-
-    stands : (j : ℕ) → In j c → T (filled (nth es j vacant))
-    stands j k = (sound-formed t s) .only c on j k
-
-    inside : (j : ℕ) → In j c → T (within 1 (l .jobs) j)
-    inside j k = let r = filled-within es j (stands j k) in within-both 1 (l .jobs) j (r .0) (omega (arith, r .1, fits-entries t (sound-fits t s)))
-
-    once : (j : ℕ) (z : Bool) → member j c ≡ z → count j c ≤ 1
-    once j true q =
-        let f = stands j (member-in j c (true→T (member j c) q)) in
-        let r = in-numbered 1 c (chains l) on in
-        let x = holderIn (nth es j vacant) in
-        let p = all-in (λ (d : ℕ × List ℕ). eqb (count j (d .1)) (bit (eqb (d .0) x))) (r .0, c) (numbered 1 (chains l)) ((sound-formed t s) .place j f) (r .1) in
-        omega (arith, T-eqb (count j c) (bit (eqb (r .0) x)) p, bit-le (eqb (r .0) x))
-    once j false q = omega (arith, count-none j c (λ k. subst T q (in-member j c k)))
+chain-ends t s h i =
+    let l = layout (words t) in
+    let f = sound-formed t s in
+    let c = follow (l .entries) (suc (l .jobs)) h in
+    let on : In c (chains l) = in-map (follow (l .entries) (suc (l .jobs))) h (l .heads) i in
+    let r = in-numbered 1 c (chains l) on in
+    short-ends (l .entries) (l .jobs) h (omega (arith, own-few (l .entries) (r .0) c (formed-own l f (r .0, c) (r .1)) (f .only c on), fits-entries t (sound-fits t s)))
 
 -- the board's jobs by their records
 
@@ -535,7 +521,7 @@ pub stands-record : (t : List ℕ) → T (sound t) → (j : ℕ) → stands (dec
 unfolding decode boardOf
 stands-record t s j =
     let es = (layout (words t)) .entries in
-    ap (λ (n : List ℕ). not (empty n)) (nth-map namesIn es j vacant) ∙ named-filled t s (nth es j vacant) (λ f. let w = filled-within es j f in in-nth es j vacant (w .0) (w .1))
+    ap (λ (n : List ℕ). not (empty n)) (nth-map namesIn es j vacant) ∙ named-filled t s (nth es j vacant) (filled-in es j)
 
 -- a job is on bench x's chain exactly if it stands and x holds it
 pub on-chain : (t : List ℕ) → T (sound t) → (j x : ℕ) → 1 ≤ x → x ≤ (decode t) .benches → In j (nth (chains (layout (words t))) x []) ↔ (T (stands (decode t) j) × (holderOf (decode t) j ≡ x))

@@ -2,15 +2,15 @@
 use Prim.Native.Nat.{ℕ, suc, _+_, _*_, _/_, _%_, _≤_, _<_}
 use native.Mathlib.Omega.{arith}
 use mathlib.Core.Path.{_≡_, refl, sym, ap, _∙_}
-use mathlib.Core.Bool.{Bool, true, false, cond, not, _&&_}
+use mathlib.Core.Bool.{not}
 use mathlib.Core.List.{List, [], _∷_, _++_, map, flatMap, append-nil}
 use lib.Dec.{T, eqb, leb}
-use lib.ListN.{length, take, drop, length-append, length-map}
+use lib.ListN.{length, take, drop, length-append}
 use lib.Seq.{take-at, drop-at}
 use Rattle.rules.specs.Lists.{within, rising, Each, empty}
 use Rattle.rules.specs.Board.{Board, Shares, namesFit}
 use Rattle.rules.specs.Table.{paired, words, bytesOf, mostBenches, mostJobs, lengthFor, sizesFit, Entry, Layout, entriesIn, layout, fits, firstHeld, placeOf, entryFor, entriesFrom, layoutOf, entryWords, flat, encode, Storable}
-use Rattle.rules.proofs.Basics.{both, T-eqb, eqb-T, leb-T, within-high, in-each, each-append, each-map, length-keep, length-rising, length-shares, fit-bench}
+use Rattle.rules.proofs.Basics.{five, cond-le, two-elements, T-eqb, eqb-T, leb-T, within-high, in-each, each-append, each-map, length-keep, length-values, length-shares, fit-bench}
 
 -- words and bytes
 
@@ -42,13 +42,7 @@ pub record LaidOut (l : Layout) : Type 0 where
 
 -- the words of a record with two names read back as that record
 entriesIn-entry : (e : Entry) (ws : List ℕ) → length (e .names) ≡ 2 → entriesIn (entryWords e ++ ws) ≡ e ∷ entriesIn ws
-entriesIn-entry e ws = go (e .names)
-  where
-    go : (names : List ℕ) → length names ≡ 2 → entriesIn (names ++ (e .holder ∷ e .next ∷ []) ++ ws) ≡ record { names = names; holder = e .holder; next = e .next } ∷ entriesIn ws
-    go [] p = absurd (omega arith)
-    go (a ∷ []) p = absurd (omega arith)
-    go (a ∷ b ∷ []) p = refl
-    go (a ∷ b ∷ c ∷ names) p = absurd (omega arith)
+entriesIn-entry e ws two = let p = two-elements (e .names) two in rw (p .2)
 
 -- the words of records with two names each read back as the same records
 entriesIn-words : (es : List Entry) → Each (λ e. length (e .names) ≡ 2) es → entriesIn (flatMap entryWords es) ≡ es
@@ -105,15 +99,11 @@ pub laidOut : (b : Board) → Storable b → LaidOut (layoutOf b)
 unfolding layoutOf
 laidOut b s =
     record {
-      heads = length-map (rising 1 (b .benches)) (λ x. firstHeld 1 x (b .holders)) ∙ length-rising 1 (b .benches);
+      heads = length-values (λ x. firstHeld 1 x (b .holders)) 1 (b .benches);
       entries = entries-two 1 (b .named) (b .holders) (s .pairs);
     }
 
 -- small words
-
-cond-le : (z : Bool) (x y n : ℕ) → x ≤ n → y ≤ n → cond z x y ≤ n
-cond-le true x y n p q = p
-cond-le false x y n p q = q
 
 -- the first job that a bench holds is not after the last job
 firstHeld-le : (i x : ℕ) (holders : List ℕ) → firstHeld i x holders ≤ i + length holders
@@ -179,18 +169,15 @@ unfolding encode layoutOf
 length-encode b s =
     omega (arith, length-bytesOf (flat (layoutOf b)), length-flat (layoutOf b) (laidOut b s), length-entries 1 (b .named) (b .holders) (s .valid .shares))
 
--- sizes within the limits, and the length that belongs to them
-sizes-fit : (benches jobs : ℕ) → T (within 1 mostBenches benches) → T (within 1 mostJobs jobs) → T (sizesFit (lengthFor benches jobs) benches jobs)
+-- sizes within the limits fit the length that belongs to them
+pub within-fit : (benches jobs : ℕ) → T (within 1 mostBenches benches) → T (within 1 mostJobs jobs) → T (sizesFit (lengthFor benches jobs) benches jobs)
 unfolding sizesFit
-sizes-fit benches jobs b j =
+within-fit benches jobs b j =
     let len : ℕ = lengthFor benches jobs in
-    let even : Bool = eqb (len % 2) 0 in
-    let p : T (even && leb 8 len) = both even (leb 8 len) (eqb-T (len % 2) 0 (omega arith)) (leb-T 8 len (omega arith)) in
-    let q = both (even && leb 8 len) (within 1 mostBenches benches) p b in
-    let r = both (even && leb 8 len && within 1 mostBenches benches) (within 1 mostJobs jobs) q j in
-    both (even && leb 8 len && within 1 mostBenches benches && within 1 mostJobs jobs) (eqb len len) r (eqb-T len len refl)
+    (five (eqb (len % 2) 0) (leb 8 len) (within 1 mostBenches benches) (within 1 mostJobs jobs) (eqb len len)) .1
+    (eqb-T (len % 2) 0 (omega arith), leb-T 8 len (omega arith), b, j, eqb-T len len refl)
 
 -- an encoded board's sizes fit
 pub fits-encode : (b : Board) → Storable b → T (fits (encode b))
 unfolding fits flat layoutOf
-fits-encode b s = rw (words-encode b s, length-encode b s) (sizes-fit (b .benches) (length (b .named)) (s .benches) (s .jobs))
+fits-encode b s = rw (words-encode b s, length-encode b s) (within-fit (b .benches) (length (b .named)) (s .benches) (s .jobs))

@@ -6,6 +6,7 @@ use mathlib.Core.Path.{_≡_, refl, ap}
 use mathlib.Core.List.{List, [], _∷_}
 use lib.ListN.{length, getD, set, replicate, length-set}
 use Rattle.rules.specs.Table.{words, bytesOf, lengthFor, blankTable}
+use Rattle.rules.proofs.Sound.{two-more, two-more-high}
 use Rattle.table.specs.Bytes.{setWord}
 
 -- a written word is a changed word ..
@@ -15,9 +16,7 @@ words-setWord [] i w l s = absurd (omega arith)
 words-setWord (a ∷ []) i w l s = absurd (omega arith)
 words-setWord (a ∷ b ∷ t) zero w l s = let e : w % 256 + 256 * (w / 256 % 256) ≡ w = omega arith in rw e
 words-setWord (a ∷ b ∷ t) (suc i) w l s =
-    let e : 2 * suc i ≡ suc (suc (2 * i)) = omega arith in
-    let f : 2 * suc i + 1 ≡ suc (suc (2 * i + 1)) = omega arith in
-    rw (f, e) (ap (λ (l : List ℕ). (a + 256 * b) ∷ l) (words-setWord t i w (omega arith) s))
+    rw (two-more-high i, two-more i) (ap (λ (l : List ℕ). (a + 256 * b) ∷ l) (words-setWord t i w (omega arith) s))
 
 -- .. and the length stays
 pub length-setWord : (t : List ℕ) (i w : ℕ) → length (setWord t i w) ≡ length t
@@ -37,9 +36,9 @@ bytesOf-words (x ∷ y ∷ t) e b =
     rw (p, q, bytesOf-words t (omega arith) (λ i. b (suc (suc i))))
 
 -- zero bytes are the bytes of zero words
-zero-bytes : (n : ℕ) → replicate (2 * n) 0 ≡ bytesOf (replicate n 0)
+pub zero-bytes : (n : ℕ) → replicate (2 * n) 0 ≡ bytesOf (replicate n 0)
 zero-bytes zero = refl
-zero-bytes (suc n) = let e : 2 * suc n ≡ suc (suc (2 * n)) = omega arith in rw (e, zero-bytes n)
+zero-bytes (suc n) = rw (two-more n, zero-bytes n)
 
 -- words 0 and 1 written over zero bytes are a blank table
 pub blank-bytes : (benches jobs : ℕ) → setWord (setWord (replicate (lengthFor benches jobs) 0) 0 benches) 1 jobs ≡ blankTable benches jobs

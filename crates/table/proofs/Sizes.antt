@@ -1,16 +1,17 @@
 -- Sizes within the limits, byte lengths that fit them, and the size of a table.
-use Prim.Native.Nat.{ℕ, _+_, _*_, _%_, _<_}
+use Prim.Native.Nat.{ℕ, _+_, _*_, _<_}
 use native.Mathlib.Omega.{arith}
 use mathlib.Core.Path.{_≡_, refl, sym, ap, _∙_, subst}
 use mathlib.Core.Bool.{Bool, true, false, _&&_}
 use mathlib.Core.List.{List}
-use lib.Dec.{T, not-T}
+use lib.Dec.{T}
 use lib.ListN.{length, getD, length-map}
-use borrow.Author.Tests.{le-leb, eq-eqb}
+use borrow.Author.Tests.{le-leb}
 use Rattle.rules.specs.Lists.{within}
 use Rattle.rules.specs.Table.{words, lengthFor, mostBenches, mostJobs, sizesFit, fits, layout, boardOf, decode}
-use Rattle.rules.proofs.Basics.{true→T, not→false, left, right, within-low, within-high}
-use Rattle.rules.proofs.Sound.{length-words, Sized, sized, short-refused, fits-sized, fits-heads, fits-entries}
+use Rattle.rules.proofs.Basics.{true→T, T→true, never→false, left, right, within-low, within-high, within-both}
+use Rattle.rules.proofs.Words.{within-fit}
+use Rattle.rules.proofs.Sound.{length-words, misfit, short-refused, fits-sized, fits-heads, fits-entries}
 use Rattle.table.specs.Bytes.{laid}
 use Rattle.table.specs.Sizes.{Limits, SizeOf, JobIn, BenchIn, fitIf, sizing, sizeIn}
 use Rattle.table.specs.declared.size.Size.{Size}
@@ -40,7 +41,7 @@ unfolding sizing
 sizing-misfit benches jobs f =
     let b : Bool = within 1 mostBenches benches in
     let j : Bool = within 1 mostJobs jobs in
-    rw (not→false (b && j) (not-T (b && j) (λ t. f (pass-limits benches jobs (left b j t) (right b j t)))))
+    rw (never→false (b && j) (λ t. f (pass-limits benches jobs (left b j t) (right b j t))))
 
 -- .. and a size that is not refused has these numbers
 pub fit-sizing : (benches jobs : ℕ) (s : Size) → sizing benches jobs ≡ Fit s → Limits s × (s .benches ≡ benches) × (s .jobs ≡ jobs)
@@ -58,33 +59,28 @@ fit-sizing benches jobs s = go (b && j) refl
         let t = true→T (b && j) p in
         let same : record { benches = benches; jobs = jobs } ≡ s = cc in
         subst (λ (r : Size). Limits r × (r .benches ≡ benches) × (r .jobs ≡ jobs)) same (pass-limits benches jobs (left b j t) (right b j t), refl, refl)
-    go false p e = let n : _≡_ {A = ℕ} 0 1 = cc in absurd (omega arith)
+    go false p e = absurd (true→T false cc)
 
 -- a byte length for numbers of benches and jobs
 
 -- the length that belongs to a size fits it: it is even and 8 or more
 pub sizes-fit : (len benches jobs : ℕ) (s : Size) → sizing benches jobs ≡ Fit s → len ≡ lengthFor (s .benches) (s .jobs) → sizesFit len benches jobs ≡ true
-unfolding sizesFit
 sizes-fit len benches jobs s e l =
     let f = fit-sizing benches jobs s e in
-    rw
-    (eq-eqb (len % 2) 0 (omega arith), le-leb 8 len (omega arith), le-leb 1 benches (omega arith), le-leb benches 500 (omega arith), le-leb 1 jobs (omega arith), le-leb jobs 4000 (omega arith), eq-eqb len (lengthFor benches jobs) (omega arith))
-
--- a length does not fit where it has not the shape of one that does
-unsized : (len benches jobs : ℕ) → (Sized len benches jobs → ⊥) → sizesFit len benches jobs ≡ false
-unsized len benches jobs f = not→false (sizesFit len benches jobs) (not-T (sizesFit len benches jobs) (λ t. f (sized len benches jobs t)))
+    let n : len ≡ lengthFor benches jobs = omega arith in
+    let b = within-both 1 mostBenches benches (omega arith) (omega arith) in
+    let j = within-both 1 mostJobs jobs (omega arith) (omega arith) in
+    rw n (T→true (sizesFit (lengthFor benches jobs) benches jobs) (within-fit benches jobs b j))
 
 -- no other length fits a size
 pub sizes-other : (len benches jobs : ℕ) (s : Size) → sizing benches jobs ≡ Fit s → (len ≡ lengthFor (s .benches) (s .jobs) → ⊥) → sizesFit len benches jobs ≡ false
-sizes-other len benches jobs s e d = let f = fit-sizing benches jobs s e in unsized len benches jobs (λ z. d (omega arith))
+sizes-other len benches jobs s e d = let f = fit-sizing benches jobs s e in misfit len benches jobs (λ z. d (omega arith))
 
 -- and no length fits numbers that are refused
 pub sizes-refused : (len benches jobs : ℕ) → sizing benches jobs ≡ Misfit → sizesFit len benches jobs ≡ false
 sizes-refused len benches jobs e =
-    unsized len benches jobs
-    (λ z. let f = sizing-fit (record { benches = benches; jobs = jobs }) (pass-limits benches jobs (z .benches-within) (z .jobs-within)) in
-    let n : _≡_ {A = ℕ} 0 1 = cc in
-    omega arith)
+    misfit len benches jobs
+    (λ z. let f = sizing-fit (record { benches = benches; jobs = jobs }) (pass-limits benches jobs (z .benches-within) (z .jobs-within)) in true→T false cc)
 
 -- a table
 
@@ -113,7 +109,7 @@ fit-size t s = go (fits t) refl
     go true p e =
         let same : record { benches = (laid t) .benches; jobs = (laid t) .jobs } ≡ s = cc in
         size-of t s (true→T (fits t) p) (ap (λ (r : Size). r .benches) same) (ap (λ (r : Size). r .jobs) same)
-    go false p e = let n : _≡_ {A = ℕ} 0 1 = cc in absurd (omega arith)
+    go false p e = absurd (true→T false cc)
 
 -- a table of fewer than 8 bytes has no size ..
 pub short-misfit : (t : List ℕ) → length t < 8 → sizeIn t ≡ Misfit

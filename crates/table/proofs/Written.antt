@@ -4,16 +4,17 @@ use native.Mathlib.Omega.{arith}
 use mathlib.Core.Path.{_≡_, refl, sym, ap, _∙_, subst}
 use mathlib.Core.List.{List, [], _∷_, _++_, flatMap}
 use lib.ListN.{length, getD, set, take, drop, replicate, length-append, length-take, length-drop, length-replicate, take-append-drop}
-use lib.Seq.{take-set-le, take-set-lt, drop-set-lt, drop-set-add, getD-set-other, set-set, take-at, drop-at, drop-append-add}
+use lib.Seq.{take-set-le, take-set-lt, drop-set-lt, drop-set-add, getD-set-other, take-at, drop-at, drop-append-add}
 use Rattle.rules.specs.Lists.{nth, change}
 use Rattle.rules.specs.Table.{words, Entry, vacant, entriesIn, entryWords, Layout, layout, flat}
-use Rattle.rules.proofs.Basics.{nth-change-same}
-use Rattle.rules.proofs.Sound.{length-words, entryFrom, head-at, entry-at}
+use Rattle.rules.proofs.Basics.{nth-change-same, change-again, each-replicate}
+use Rattle.rules.proofs.Words.{words-append}
+use Rattle.rules.proofs.Sound.{two-more, length-words, entryFrom, head-at, entry-at}
 use Rattle.table.specs.Bytes.{IsWord, setWord, laid}
 use Rattle.table.specs.Sizes.{SizeOf, JobIn, BenchIn}
 use Rattle.table.specs.Records.{HeadOf, withNext, withHead, cleared, withEntry, withStanding, Laid}
 use Rattle.table.specs.declared.size.Size.{Size}
-use Rattle.table.proofs.Bytes.{words-setWord, length-setWord}
+use Rattle.table.proofs.Bytes.{words-setWord, length-setWord, zero-bytes}
 use Rattle.table.proofs.Sizes.{size-kept, words-long, entries-long}
 
 -- one word
@@ -30,7 +31,7 @@ written t s i w l z low high small e =
     }
 
 -- the layout with other heads and other records
-abbrev withBoth : Layout → List ℕ → List Entry → Layout
+abbrev pub withBoth : Layout → List ℕ → List Entry → Layout
 withBoth l heads entries =
     record { benches = l .benches; jobs = l .jobs; standing = l .standing; spare = l .spare; heads = heads; entries = entries }
 
@@ -107,10 +108,9 @@ layout-word ws (suc i) k w l p h =
     let entries = ap entriesIn rest ∙ entriesIn-word (drop (4 + b) ws) i k w p (omega (arith, length-drop (4 + b) ws)) in
     rw d (layout-later ws (b + m) w ∙ (λ q. withBoth (layout ws) (heads q) (entries q)))
 
--- of two changes at one place the later stays
-change-again : (es : List Entry) (j : ℕ) (d e : Entry) → change (change es j d) j e ≡ change es j e
-change-again es zero d e = refl
-change-again es (suc i) d e = set-set es i d e
+-- job j's record is words B + 4 × j and the next three
+pub record-words : (t : List ℕ) (s : Size) (j : ℕ) → SizeOf t s → JobIn s j → nth ((laid t) .entries) j vacant ≡ entryFrom (words t) (s .benches + 4 * j)
+record-words t s j z i = rw (sym (z .benches)) (entry-at (words t) j (i .least) (omega (arith, words-long t s z, z .benches, i .most)))
 
 -- word k of job j's record written ..
 laid-word : (t : List ℕ) (s : Size) (j k w : ℕ) → SizeOf t s → JobIn s j → k < 4 → w < 65536 → Laid (setWord t (s .benches + 4 * j + k) w) s (withEntry (laid t) j (withWord k w (nth ((laid t) .entries) j vacant)))
@@ -136,7 +136,6 @@ laid-entry t s j a b h n z i wa wb wh wn =
     let l : Layout = laid t in
     let m : j ≤ length (l .entries) = omega (arith, entries-long t s z, i .most) in
     let old : Entry = nth (l .entries) j vacant in
-    let o : old ≡ entryFrom (words t) (l .benches + 4 * j) = entry-at (words t) j (i .least) (omega (arith, words-long t s z, z .benches, i .most)) in
     let t0 : List ℕ = setWord t p a in
     let t1 : List ℕ = setWord t0 (p + 1) b in
     let t2 : List ℕ = setWord t1 (p + 2) h in
@@ -145,7 +144,7 @@ laid-entry t s j a b h n z i wa wb wh wn =
     let r1 = laid-again t0 s l j 1 b (withWord 0 a old) r0 i m (omega arith) wb in
     let r2 = laid-again t1 s l j 2 h (withWord 1 b (withWord 0 a old)) r1 i m (omega arith) wh in
     let r3 = laid-again t2 s l j 3 n (withWord 2 h (withWord 1 b (withWord 0 a old))) r2 i m (omega arith) wn in
-    subst (λ (e : Entry). Laid t3 s (withEntry l j (withWord 3 n (withWord 2 h (withWord 1 b (withWord 0 a e)))))) o r3
+    subst (λ (e : Entry). Laid t3 s (withEntry l j (withWord 3 n (withWord 2 h (withWord 1 b (withWord 0 a e)))))) (record-words t s j z i) r3
 
 -- the holder word alone ..
 pub laid-holder : (t : List ℕ) (s : Size) (j h : ℕ) → SizeOf t s → JobIn s j → h < 65536 → let e = nth ((laid t) .entries) j vacant in Laid (setWord t (s .benches + 4 * j + 2) h) s (withEntry (laid t) j (record { names = e .names; holder = h; next = e .next }))
@@ -185,23 +184,18 @@ words-take : (n : ℕ) (t rest : List ℕ) → 2 * n ≤ length t → words (tak
 words-take zero t rest l = refl
 words-take (suc n) [] rest l = absurd (omega arith)
 words-take (suc n) (a ∷ []) rest l = absurd (omega arith)
-words-take (suc n) (a ∷ b ∷ t) rest l =
-    let e : 2 * suc n ≡ suc (suc (2 * n)) = omega arith in
-    rw e (ap (λ (ws : List ℕ). (a + 256 * b) ∷ ws) (words-take n t rest (omega arith)))
+words-take (suc n) (a ∷ b ∷ t) rest l = rw (two-more n) (ap (λ (ws : List ℕ). (a + 256 * b) ∷ ws) (words-take n t rest (omega arith)))
 
 -- .. the words after them ..
 words-drop : (n : ℕ) (t : List ℕ) → words (drop (2 * n) t) ≡ drop n (words t)
 words-drop zero t = refl
-words-drop (suc n) [] = let e : 2 * suc n ≡ suc (suc (2 * n)) = omega arith in rw e refl
-words-drop (suc n) (a ∷ []) = let e : 2 * suc n ≡ suc (suc (2 * n)) = omega arith in rw e refl
-words-drop (suc n) (a ∷ b ∷ t) = let e : 2 * suc n ≡ suc (suc (2 * n)) = omega arith in rw e (words-drop n t)
+words-drop (suc n) [] = rw (two-more n)
+words-drop (suc n) (a ∷ []) = rw (two-more n)
+words-drop (suc n) (a ∷ b ∷ t) = rw (two-more n) (words-drop n t)
 
 -- .. and n zero words
 words-zeros : (n : ℕ) (rest : List ℕ) → words (replicate (2 * n) 0 ++ rest) ≡ replicate n 0 ++ words rest
-words-zeros zero rest = refl
-words-zeros (suc n) rest =
-    let e : 2 * suc n ≡ suc (suc (2 * n)) = omega arith in
-    rw e (ap (λ (ws : List ℕ). 0 ∷ ws) (words-zeros n rest))
+words-zeros n rest = rw (zero-bytes n) (words-append (replicate n 0) rest (each-replicate (λ w. w < 65536) n 0 (omega arith)))
 
 -- B zero words after word 3 are the heads
 layout-cleared : (ws : List ℕ) → 4 ≤ length ws → let b = (layout ws) .benches in layout (take 4 ws ++ (replicate b 0 ++ drop (4 + b) ws)) ≡ cleared (layout ws)

@@ -3,6 +3,8 @@ use mathlib.Core.Path.{_≡_, sym, ap, _∙_}
 use mathlib.Core.Bool.{Bool, true, false, cond}
 use lib.ListN.{length}
 use Rattle.rules.specs.Table.{sizesFit, blankTable}
+use Rattle.rules.specs.Calls.{blanking}
+use Rattle.desk.specs.Desk.{returned}
 use Rattle.desk.proofs.Returned.{blank-returned, blank-leaves}
 use borrow.Author.Needs.{needs}
 use Rattle.desk.proofs.jobboard_blank.Statement.{statement}
@@ -14,26 +16,23 @@ blank-requires c κs = search needs
 same-length : tie.Need-same-length
 same-length c = search needs
 
-returns : tie.Need-returns
-returns c =
-    let r = c .before .before .before in
-    let args = r .before .before .before .args in
-    let e : true ≡ sizesFit (length (args .table .now)) (args .benches) (args .jobs) = sym (c .if1 .taken) ∙ r .blank .ensures .0 in (
-      blank-returned (args .benches) (args .jobs) (args .table .now) true e,
-      r .blank .ensures .1 ∙ ap (λ (z : Bool). cond z (blankTable (args .benches) (args .jobs)) (args .table .now)) (c .if1 .taken) ∙ blank-leaves (args .benches) (args .jobs) (args .table .now) true e,
+-- what is returned and left, by whether the sizes fit
+blanked : (c : tie.After-blank) (z : Bool) → c .blank .result ≡ z → let a = c .before .before .before .args in let o = blanking (a .benches) (a .jobs) (a .table .now) in (cond z 0 1 ≡ returned (o .answer)) × (c .blank .last .0 ≡ o .table)
+blanked c z e =
+    let a = c .before .before .before .args in
+    let fit : z ≡ sizesFit (length (a .table .now)) (a .benches) (a .jobs) = sym e ∙ c .blank .ensures .0 in (
+      blank-returned (a .benches) (a .jobs) (a .table .now) z fit,
+      c .blank .ensures .1 ∙ ap (λ (y : Bool). cond y (blankTable (a .benches) (a .jobs)) (a .table .now)) e ∙ blank-leaves (a .benches) (a .jobs) (a .table .now) z fit,
     )
+
+returns : tie.Need-returns
+returns c = blanked (c .before .before .before) true (c .if1 .taken)
 
 same-length-2 : tie.Need-same-length-2
 same-length-2 c = search needs
 
 returns-2 : tie.Need-returns-2
-returns-2 c =
-    let r = c .before .before .before in
-    let args = r .before .before .before .args in
-    let e : false ≡ sizesFit (length (args .table .now)) (args .benches) (args .jobs) = sym (c .if1 .left) ∙ r .blank .ensures .0 in (
-      blank-returned (args .benches) (args .jobs) (args .table .now) false e,
-      r .blank .ensures .1 ∙ ap (λ (z : Bool). cond z (blankTable (args .benches) (args .jobs)) (args .table .now)) (c .if1 .left) ∙ blank-leaves (args .benches) (args .jobs) (args .table .now) false e,
-    )
+returns-2 c = blanked (c .before .before .before) false (c .if1 .left)
 
 pub jobboard-blank-spec : {M : Type 1} → statement M
 jobboard-blank-spec =

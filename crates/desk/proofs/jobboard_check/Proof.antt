@@ -1,7 +1,7 @@
 -- The number of the form check's answer is the definition's.
-use mathlib.Core.Path.{_≡_, sym, ap, _∙_}
-use Rattle.form.specs.Check.{formIn}
-use Rattle.form.specs.declared.Form.the-variants.{Sizes, Unsound, Sound}
+use mathlib.Core.Path.{_≡_, ap, _∙_}
+use Rattle.rules.specs.Calls.{outcome, formCheck}
+use Rattle.desk.specs.Desk.{returned}
 use Rattle.desk.proofs.Returned.{formNumber, form-returned}
 use borrow.Author.Needs.{needs}
 use Rattle.desk.proofs.jobboard_check.Statement.{statement}
@@ -19,23 +19,18 @@ enum-told-2 c = search needs
 enum-told-3 : tie.Need-enum-told-3
 enum-told-3 c = search needs
 
+-- the number of what the form check answered
+answered : (c : tie.After-check) → formNumber (c .check .result) ≡ returned ((outcome formCheck (c .before .before .args .table .now)) .answer)
+answered c = ap formNumber (c .check .ensures) ∙ form-returned (c .before .before .args .table .now)
+
 returns : tie.Need-returns
-returns c =
-    let t = c .before .before .before .before .args .table .now in
-    let e : formIn t ≡ Sizes = cc in
-    ap formNumber (sym e) ∙ form-returned t
+returns c = rw (c .enum-told .given .1) at (answered (c .before .before))
 
 returns-2 : tie.Need-returns-2
-returns-2 c =
-    let t = c .before .before .before .before .args .table .now in
-    let e : formIn t ≡ Unsound = cc in
-    ap formNumber (sym e) ∙ form-returned t
+returns-2 c = rw (c .enum-told2 .given .1) at (answered (c .before .before))
 
 returns-3 : tie.Need-returns-3
-returns-3 c =
-    let t = c .before .before .before .before .args .table .now in
-    let e : formIn t ≡ Sound (c .enum-told3 .given .0 .0) = cc in
-    ap formNumber (sym e) ∙ form-returned t
+returns-3 c = rw (c .enum-told3 .given .1) at (answered (c .before .before))
 
 pub jobboard-check-spec : {M : Type 1} → statement M
 jobboard-check-spec =

@@ -1,5 +1,4 @@
 -- A standing job's record tells the next job on its chain.
-use borrow.Author.Needs.{needs}
 use Rattle.board.proofs.Boards.{stands-job}
 use Rattle.board.proofs.ChainView.{next-read}
 use Rattle.board.proofs.chains.next.Statement.{statement}

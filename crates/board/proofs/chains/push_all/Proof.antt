@@ -1,5 +1,5 @@
--- `chains::push_all` meets its contract. The loop's invariant: the jobs above j were pushed, and the count is of those that stand; what is
--- left to push makes the whole. The measure is j.
+-- All jobs are pushed. The loop's invariant: the jobs above j were pushed, and the count is of those that stand; what is left to push
+-- makes the whole. The measure is j.
 use native.Mathlib.Omega.{arith}
 use mathlib.Core.Path.{_≡_}
 use borrow.Author.Needs.{needs}

@@ -1,5 +1,4 @@
 -- A job names at most two benches, which are the first two of its record.
-use borrow.Author.Needs.{needs}
 use Rattle.board.proofs.Boards.{name-of, names-job, name-in, name-first, name-second}
 use Rattle.board.proofs.jobs.name.Statement.{statement}
 use Rattle.board.proofs.jobs.name.Tie as tie

@@ -1,7 +1,10 @@
 -- A job that stands names two benches.
 use borrow.Author.Needs.{needs}
-use mathlib.Core.Path.{sym, ap, _∙_}
+use mathlib.Core.Path.{_≡_, sym}
 use mathlib.Core.Bool.{cond}
+use lib.ListN.{length}
+use Rattle.rules.specs.Board.{namesOf}
+use Rattle.rules.specs.Table.{decode}
 use Rattle.board.proofs.Boards.{names-length}
 use Rattle.board.proofs.jobs.name_count.Statement.{statement}
 use Rattle.board.proofs.jobs.name_count.Tie as tie
@@ -9,17 +12,17 @@ use Rattle.board.proofs.jobs.name_count.Tie as tie
 stands-requires : tie.Need-stands-requires
 stands-requires c κs = search needs
 
+-- how many it names, by what `stands` told
+named : (c : tie.After-stands) → length (namesOf (decode (c .before .before .args .t .now)) (c .before .before .args .j)) ≡ cond (c .stands .result) 2 0
+named c =
+    let a = c .before .before .args in
+    rw (c .stands .ensures) (names-length (a .t .now) (a .s) (a .j) (c .before .before .pre .0))
+
 returns : tie.Need-returns
-returns c =
-    let a = c .before .before .before .args in
-    let n = names-length (a .t .now) (a .s) (a .j) (c .before .before .before .pre .0) in
-    sym (n ∙ ap (λ z. cond z 2 0) (sym (c .before .stands .ensures) ∙ c .if1 .taken))
+returns c = sym (rw (c .if1 .taken) at (named (c .before)))
 
 returns-2 : tie.Need-returns-2
-returns-2 c =
-    let a = c .before .before .before .args in
-    let n = names-length (a .t .now) (a .s) (a .j) (c .before .before .before .pre .0) in
-    sym (n ∙ ap (λ z. cond z 2 0) (sym (c .before .stands .ensures) ∙ c .if1 .left))
+returns-2 c = sym (rw (c .if1 .left) at (named (c .before)))
 
 pub name-count-spec : {M : Type 1} → statement M
 name-count-spec = tie.close (tie.spec stands-requires returns returns-2)

@@ -1,4 +1,4 @@
--- Words 2 and 3.
+-- Words 2 and 3 are the layout's number of standing jobs and its spare word, by `laid-standing`.
 use borrow.Author.Needs.{needs}
 use Rattle.table.proofs.Written.{laid-standing}
 use Rattle.table.proofs.header.write_standing.Statement.{statement}

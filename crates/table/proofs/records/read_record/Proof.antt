@@ -1,29 +1,26 @@
--- The four words read are job j's record, by `entry-at`.
+-- The four words read are job j's record, by `record-words`.
 use Prim.Native.Nat.{ℕ, _+_, _*_}
 use native.Mathlib.Omega.{arith}
-use mathlib.Core.Path.{_≡_, sym, _∙_, subst}
+use mathlib.Core.Path.{_≡_, sym, ap, _∙_}
 use mathlib.Core.List.{List, [], _∷_}
 use borrow.Author.Needs.{needs}
-use Rattle.rules.specs.Lists.{nth}
-use Rattle.rules.specs.Table.{words, vacant}
-use Rattle.rules.proofs.Sound.{entryFrom, entry-at}
-use Rattle.table.specs.Bytes.{IsWord, laid}
+use Rattle.rules.specs.Table.{words}
+use Rattle.rules.proofs.Sound.{entryFrom}
+use Rattle.table.specs.Bytes.{IsWord}
 use Rattle.table.specs.Sizes.{SizeOf, JobIn}
 use Rattle.table.specs.Records.{RecordOf, entryOf}
 use Rattle.table.specs.declared.size.Size.{Size}
 use Rattle.table.specs.declared.records.Record.{Record}
-use Rattle.table.proofs.Sizes.{words-long}
+use Rattle.table.proofs.Written.{record-words}
 use Rattle.table.proofs.records.read_record.Statement.{statement}
 use Rattle.table.proofs.records.read_record.Tie as tie
 
 -- words B + 4 × j and the next three are job j's record
 four : (t : List ℕ) (s : Size) (j at : ℕ) (r : Record) → SizeOf t s → JobIn s j → at ≡ s .benches + 4 * j → IsWord t at (r .first) → IsWord t (at + 1) (r .second) → IsWord t (at + 2) (r .holder) → IsWord t (at + 3) (r .next) → RecordOf t j r
 four t s j at r z i p a b h n =
-    let q : (laid t) .benches + 4 * j ≡ at = omega (arith, z .benches) in
-    let e : nth ((laid t) .entries) j vacant ≡ entryFrom (words t) at = subst (λ (k : ℕ). nth ((laid t) .entries) j vacant ≡ entryFrom (words t) k) q (entry-at (words t) j (i .least) (omega (arith, words-long t s z, z .benches, i .most))) in
     let f : entryOf r ≡ entryFrom (words t) at = λ k. record { names = a .value k ∷ b .value k ∷ []; holder = h .value k; next = n .value k } in
     record {
-      entry = f ∙ sym e;
+      entry = f ∙ ap (entryFrom (words t)) p ∙ sym (record-words t s j z i);
       small = record { first = a .small; second = b .small; holder = h .small; next = n .small };
     }
 

@@ -1,4 +1,4 @@
--- One word of job j's record.
+-- The word written is the holder in job j's record, by `laid-holder`.
 use borrow.Author.Needs.{needs}
 use Rattle.table.proofs.Written.{laid-holder}
 use Rattle.table.proofs.records.write_holder.Statement.{statement}

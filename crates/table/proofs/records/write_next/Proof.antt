@@ -1,4 +1,4 @@
--- One word of job j's record.
+-- The word written is the next job in job j's record, by `laid-next`.
 use borrow.Author.Needs.{needs}
 use Rattle.table.proofs.Written.{laid-next}
 use Rattle.table.proofs.records.write_next.Statement.{statement}

@@ -1,21 +1,8 @@
 -- The four words written are job j's record, by `laid-entry`.
-use Prim.Native.Nat.{ℕ, _+_, _*_}
-use mathlib.Core.Path.{_≡_}
-use mathlib.Core.List.{List}
 use borrow.Author.Needs.{needs}
-use Rattle.table.specs.Bytes.{setWord, laid}
-use Rattle.table.specs.Sizes.{SizeOf, JobIn}
-use Rattle.table.specs.Records.{Laid, Small, withEntry, entryOf}
-use Rattle.table.specs.declared.size.Size.{Size}
-use Rattle.table.specs.declared.records.Record.{Record}
 use Rattle.table.proofs.Written.{laid-entry}
 use Rattle.table.proofs.records.write_record.Statement.{statement}
 use Rattle.table.proofs.records.write_record.Tie as tie
-
--- words B + 4 × j and the next three, written one after the other
-four : (t t1 t2 t3 t4 : List ℕ) (s : Size) (j b : ℕ) (r : Record) → SizeOf t s → JobIn s j → Small r → b ≡ s .benches → t1 ≡ setWord t (b + 4 * j) (r .first) → t2 ≡ setWord t1 (b + 4 * j + 1) (r .second) → t3 ≡ setWord t2 (b + 4 * j + 2) (r .holder) → t4 ≡ setWord t3 (b + 4 * j + 3) (r .next) → Laid t4 s (withEntry (laid t) j (entryOf r))
-four t t1 t2 t3 t4 s j b r z i m p e1 e2 e3 e4 =
-    rw (e4, e3, e2, e1, p) (laid-entry t s j (r .first) (r .second) (r .holder) (r .next) z i (m .first) (m .second) (m .holder) (m .next))
 
 benches-requires : tie.Need-benches-requires
 benches-requires c κs = search needs
@@ -59,8 +46,9 @@ returns c =
     let b = w1 .before .before in
     let start = b .before .before in
     let a = start .args in
-    four (a .t .now) (w1 .write .last .0) (w2 .write2 .last .0) (w3 .write3 .last .0) (w4 .write4 .last .0) (a .s) (a .j) (b .benches .result) (a .r) (start .pre .0) (start .pre .1 .0) (start .pre .1 .1) (b .benches .ensures)
-    (w1 .write .ensures) (w2 .write2 .ensures) (w3 .write3 .ensures) (w4 .write4 .ensures)
+    let m = start .pre .1 .1 in
+    rw (w4 .write4 .ensures, w3 .write3 .ensures, w2 .write2 .ensures, w1 .write .ensures, b .benches .ensures)
+    (laid-entry (a .t .now) (a .s) (a .j) (a .r .first) (a .r .second) (a .r .holder) (a .r .next) (start .pre .0) (start .pre .1 .0) (m .first) (m .second) (m .holder) (m .next))
 
 pub write-record-spec : {M : Type 1} → statement M
 write-record-spec =

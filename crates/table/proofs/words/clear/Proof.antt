@@ -1,5 +1,5 @@
--- `words::clear` meets its contract. The loop's invariant: the bytes up to `i` are zero and the others as they were. The measure is what is
--- left of the length.
+-- All bytes are zero. The loop's invariant: the bytes up to `i` are zero and the others as they were. The measure is what is left of
+-- the length.
 use Prim.Native.Nat.{ℕ, _-_, _≤_, _<_}
 use native.Mathlib.Omega.{arith}
 use mathlib.Core.Path.{_≡_, refl, ap, _∙_}

@@ -1,4 +1,4 @@
--- `words::read` meets its contract: word i is bytes 2i and 2i + 1, low byte first, and each byte is below 256.
+-- Word i is bytes 2i and 2i + 1, low byte first, and each byte is below 256.
 use borrow.Author.Needs.{needs}
 use native.Mathlib.Omega.{arith}
 use Rattle.rules.proofs.Sound.{word-at}

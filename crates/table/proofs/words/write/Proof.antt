@@ -1,4 +1,4 @@
--- `words::write` meets its contract: its two stores are the definition of a word written anew.
+-- The two stores are the definition of a word written anew.
 use borrow.Author.Needs.{needs}
 use mathlib.Core.Path.{refl}
 use Rattle.table.specs.Bytes.{setWord}

@@ -1,7 +1,6 @@
 -- The two tests of `within`.
 use Prim.Native.Nat.{_≤_, _<_}
 use native.Mathlib.Omega.{arith}
-use mathlib.Core.Path.{_≡_}
 use borrow.Author.Tests.{le-leb, lt-leb}
 use Rattle.table.proofs.size.Size.has_job.Statement.{statement}
 use Rattle.table.proofs.size.Size.has_job.Tie as tie

@@ -1,4 +1,4 @@
--- `Size::new` meets its contract: the tests are those of the limits.
+-- The tests are those of the limits, by `sizing-fit` and `sizing-misfit`.
 use native.Mathlib.Omega.{arith}
 use mathlib.Core.Path.{sym}
 use mathlib.Core.Logic.{⊎-elim}
