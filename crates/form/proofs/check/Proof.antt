@@ -1,9 +1,7 @@
 -- Refusal 1 where the sizes do not fit, and else what `is_formed` tells.
 use borrow.Author.Needs.{needs}
-use mathlib.Core.Path.{_≡_, sym}
-use mathlib.Core.Bool.{Bool, true, false}
-use Rattle.table.specs.declared.size.Sizing.the-variants.{Fit}
-use Rattle.form.specs.Check.{formIf, formIn}
+use mathlib.Core.Path.{sym, _∙_}
+use mathlib.Core.Bool.{true, false}
 use Rattle.table.proofs.Sizes.{fit-size}
 use Rattle.form.proofs.Answer.{misfit-form, fit-form}
 use Rattle.form.proofs.check.Statement.{statement}
@@ -21,22 +19,22 @@ enum-known-s c = search needs
 is-formed-requires : tie.Need-is-formed-requires
 is-formed-requires c κs =
     let t = c .before .before .before .before .before .args .t .now in
-    fit-size t (c .before .s .given .0 .0) cc
+    fit-size t (c .before .s .given .0 .0) (sym (c .before .before .before .of .ensures) ∙ c .before .s .given .1)
 
 returns : tie.Need-returns
-returns c = sym (misfit-form (c .before .before .before .before .args .t .now) cc)
-
--- the answer by what `is_formed` told
-told : (c : tie.After-is-formed) (z : Bool) → c .is-formed .result ≡ z → formIf z (Fit (c .before .before .s .given .0 .0)) ≡ formIn (c .before .before .before .before .before .before .args .t .now)
-told c z e =
-    let t = c .before .before .before .before .before .before .args .t .now in
-    sym (fit-form t (c .before .before .s .given .0 .0) z (cc) cc)
+returns c =
+    let t = c .before .before .before .before .args .t .now in
+    sym (misfit-form t (sym (c .before .before .of .ensures) ∙ c .enum-told .given .1))
 
 returns-2 : tie.Need-returns-2
-returns-2 c = told (c .before) true (c .if1 .taken)
+returns-2 c =
+    let t = c .before .before .before .before .before .before .before .args .t .now in
+    sym (fit-form t (c .before .before .before .s .given .0 .0) true (sym (c .before .before .before .before .before .of .ensures) ∙ c .before .before .before .s .given .1) (sym (c .if1 .taken) ∙ c .before .is-formed .ensures))
 
 returns-3 : tie.Need-returns-3
-returns-3 c = told (c .before) false (c .if1 .left)
+returns-3 c =
+    let t = c .before .before .before .before .before .before .before .args .t .now in
+    sym (fit-form t (c .before .before .before .s .given .0 .0) false (sym (c .before .before .before .before .before .of .ensures) ∙ c .before .before .before .s .given .1) (sym (c .if1 .left) ∙ c .before .is-formed .ensures))
 
 pub check-spec : {M : Type 1} → statement M
 check-spec =

@@ -2,7 +2,7 @@
 -- front of its holder's chain.
 use borrow.Author.Needs.{needs}
 use native.Mathlib.Omega.{arith}
-use Rattle.table.specs.Sizes.{BenchIn}
+use mathlib.Core.Path.{sym, _∙_}
 use Rattle.board.proofs.Settle.{push-vacant, push-held, held-bench}
 use Rattle.board.proofs.chains.push.Statement.{statement}
 use Rattle.board.proofs.chains.push.Tie as tie
@@ -14,25 +14,26 @@ same-length : tie.Need-same-length
 same-length c = search needs
 
 returns : tie.Need-returns
-returns c = push-vacant (c .before .before .before .before .pre .0) cc
-
--- the holder that was found is a bench
-bench : (c : tie.Else1) → BenchIn (c .before .before .before .before .args .s) (c .before .holder .result)
-bench c =
-    let start = c .before .before .before .before in
-    let args = start .args in
-    let h = c .before .holder in
-    held-bench (args .t .now) (args .s) (args .j) (h .result) (start .pre .0) (h .ensures) (c .if1 .left)
+returns c = push-vacant (c .before .before .before .before .pre .0) (sym (c .before .holder .ensures) ∙ c .if1 .taken)
 
 head-requires : tie.Need-head-requires
-head-requires c κs = (c .before .before .before .before .before .pre .0 .size, bench (c .before))
+head-requires c κs =
+    let start = c .before .before .before .before .before in
+    let args = start .args in
+    let h = c .before .before .holder in
+    (start .pre .0 .size, held-bench (args .t .now) (args .s) (args .j) (h .result) (start .pre .0) (h .ensures) (c .before .if1 .left))
 
 write-next-requires : tie.Need-write-next-requires
 write-next-requires c κs = search needs
 
 write-head-requires : tie.Need-write-head-requires
 write-head-requires c κs =
-    (c .before .before .before .write-next .ensures .size, (bench (c .before .before .before .before .before .before .before), omega arith))
+    let start = c .before .before .before .before .before .before .before .before .before .before .before in
+    let args = start .args in
+    let h = c .before .before .before .before .before .before .before .before .holder in (
+      c .before .before .before .write-next .ensures .size,
+      (held-bench (args .t .now) (args .s) (args .j) (h .result) (start .pre .0) (h .ensures) (c .before .before .before .before .before .before .before .if1 .left), omega arith),
+    )
 
 same-length-2 : tie.Need-same-length-2
 same-length-2 c = search needs

@@ -1,20 +1,25 @@
 -- Sizes that fit are a size and its byte length, and a blank table is zero bytes with words 0 and 1 written.
 use native.Mathlib.Omega.{arith}
-use mathlib.Core.Path.{_≡_, refl, sym}
+use mathlib.Core.Path.{_≡_, refl, sym, _∙_}
 use lib.ListN.{length}
 use borrow.Author.Needs.{needs}
 use Rattle.rules.specs.Table.{lengthFor}
-use Rattle.table.specs.Sizes.{Limits}
+use Rattle.table.specs.Sizes.{Limits, sizing}
+use Rattle.table.specs.declared.size.Sizing.the-variants.{Fit}
 use Rattle.table.proofs.Bytes.{blank-bytes}
 use Rattle.table.proofs.Sizes.{fit-sizing, sizes-fit, sizes-other, sizes-refused}
 use Rattle.table.proofs.header.blank.Statement.{statement}
 use Rattle.table.proofs.header.blank.Tie as tie
 
--- the size that `new` returned is `benches` and `jobs`, which are within the limits
-asked : (c : tie.After-known-told) → let s = c .before .s .given .0 .0 in Limits s × (s .benches ≡ c .before .before .before .before .before .args .benches) × (s .jobs ≡ c .before .before .before .before .before .args .jobs)
-asked c =
+-- the size that `new` returned is `benches` and `jobs` ..
+asked-size : (c : tie.After-known-told) → sizing (c .before .before .before .before .before .args .benches) (c .before .before .before .before .before .args .jobs) ≡ Fit (c .before .s .given .0 .0)
+asked-size c = sym (c .before .before .before .new .ensures) ∙ c .before .s .given .1
+
+-- .. and they are within the limits
+asked-limits : (c : tie.After-known-told) → let s = c .before .s .given .0 .0 in Limits s × (s .benches ≡ c .before .before .before .before .before .args .benches) × (s .jobs ≡ c .before .before .before .before .before .args .jobs)
+asked-limits c =
     let a = c .before .before .before .before .before .args in
-    fit-sizing (a .benches) (a .jobs) (c .before .s .given .0 .0) cc
+    fit-sizing (a .benches) (a .jobs) (c .before .s .given .0 .0) (asked-size c)
 
 new-requires : tie.Need-new-requires
 new-requires c κs = search needs
@@ -26,28 +31,28 @@ enum-known-s : tie.Need-enum-known-s
 enum-known-s c = search needs
 
 bytes-requires : tie.Need-bytes-requires
-bytes-requires c κs = asked c .0
+bytes-requires c κs = asked-limits c .0
 
 returns : tie.Need-returns
 returns c =
     let p = c .before .before in
     let a = p .before .before .before .before .before .args in
-    let d = sizes-other (length (a .t .now)) (a .benches) (a .jobs) (p .before .s .given .0 .0) (cc) (λ e. c .if1 .taken (omega arith)) in
+    let d = sizes-other (length (a .t .now)) (a .benches) (a .jobs) (p .before .s .given .0 .0) (asked-size p) (λ e. c .if1 .taken (omega arith)) in
     (sym d, refl)
 
 clear-requires : tie.Need-clear-requires
 clear-requires c κs = search needs
 
 write-requires : tie.Need-write-requires
-write-requires c κs = let f = asked (c .before .before .before .before .before .before .before) in omega arith
+write-requires c κs = let f = asked-limits (c .before .before .before .before .before .before .before) in omega arith
 
 write-requires-2 : tie.Need-write-requires-2
-write-requires-2 c κs = let f = asked (c .before .before .before .before .before .before .before .before .before .before .before) in omega arith
+write-requires-2 c κs = let f = asked-limits (c .before .before .before .before .before .before .before .before .before .before .before) in omega arith
 
 returns-2 : tie.Need-returns-2
 returns-2 c =
     let a = c .before .before .before .before .args in
-    (sym (sizes-refused (length (a .t .now)) (a .benches) (a .jobs) cc), refl)
+    (sym (sizes-refused (length (a .t .now)) (a .benches) (a .jobs) (sym (c .before .before .new .ensures) ∙ c .enum-told .given .1)), refl)
 
 same-length : tie.Need-same-length
 same-length c = search needs
@@ -58,10 +63,10 @@ returns-3 c =
     let a = p .before .before .before .before .before .args in
     let s = p .before .s .given .0 .0 in
     let write = c .before .before .before .before .before .before in
-    let f = asked p in
+    let f = asked-limits p in
     let l : length (a .t .now) ≡ lengthFor (s .benches) (s .jobs) = omega arith in
     let n : length (a .t .now) ≡ lengthFor (a .benches) (a .jobs) = omega arith in
-    (sym (sizes-fit (length (a .t .now)) (a .benches) (a .jobs) s (cc) l), rw (c .before .before .write2 .ensures, write .write .ensures, write .before .before .before .before .clear .ensures, n) (blank-bytes (a .benches) (a .jobs)))
+    (sym (sizes-fit (length (a .t .now)) (a .benches) (a .jobs) s (asked-size p) l), rw (c .before .before .write2 .ensures, write .write .ensures, write .before .before .before .before .clear .ensures, n) (blank-bytes (a .benches) (a .jobs)))
 
 pub blank-spec : {M : Type 1} → statement M
 blank-spec =

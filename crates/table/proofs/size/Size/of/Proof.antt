@@ -1,12 +1,20 @@
 -- Words 0 and 1 as a size, and its byte length, decide whether a table's sizes fit.
 use native.Mathlib.Omega.{arith}
-use mathlib.Core.Path.{sym}
+use mathlib.Core.Path.{_≡_, sym, _∙_}
 use lib.ListN.{getD}
 use borrow.Author.Needs.{needs}
 use Rattle.rules.specs.Table.{words}
+use Rattle.table.specs.Sizes.{sizing}
+use Rattle.table.specs.declared.size.Sizing.the-variants.{Fit}
 use Rattle.table.proofs.Sizes.{fit-sizing, short-misfit, words-misfit, length-misfit, size-fit}
 use Rattle.table.proofs.size.Size.of.Statement.{statement}
 use Rattle.table.proofs.size.Size.of.Tie as tie
+
+-- words 0 and 1 are the size that `new` returned
+read-size : (c : tie.After-known-told) → let t = c .before .before .before .before .before .before .before .before .args .t .now in sizing (getD (words t) 0 0) (getD (words t) 1 0) ≡ Fit (c .before .s .given .0 .0)
+read-size c =
+    let r = c .before .before .before in
+    rw (sym (r .before .before .read .ensures .value), sym (r .before .read2 .ensures .value)) (sym (r .new .ensures) ∙ c .before .s .given .1)
 
 returns : tie.Need-returns
 returns c = sym (short-misfit (c .before .before .args .t .now) (c .if1 .taken))
@@ -29,20 +37,23 @@ enum-known-s c = search needs
 bytes-requires : tie.Need-bytes-requires
 bytes-requires c κs =
     let t = c .before .before .before .before .before .before .before .before .args .t .now in
-    fit-sizing (getD (words t) 0 0) (getD (words t) 1 0) (c .before .s .given .0 .0) (cc) .0
+    fit-sizing (getD (words t) 0 0) (getD (words t) 1 0) (c .before .s .given .0 .0) (read-size c) .0
 
 returns-2 : tie.Need-returns-2
-returns-2 c = sym (words-misfit (c .before .before .before .before .before .before .before .args .t .now) cc)
+returns-2 c =
+    let r = c .before .before in
+    let e = sym (r .new .ensures) ∙ c .enum-told .given .1 in
+    sym (words-misfit (r .before .before .before .before .before .args .t .now) (rw (r .before .read2 .ensures .value, r .before .before .read .ensures .value) at e))
 
 returns-3 : tie.Need-returns-3
 returns-3 c =
     let p = c .before .before in
-    sym (size-fit (p .before .before .before .before .before .before .before .before .args .t .now) (p .before .s .given .0 .0) (cc) (omega arith))
+    sym (size-fit (p .before .before .before .before .before .before .before .before .args .t .now) (p .before .s .given .0 .0) (read-size p) (omega arith))
 
 returns-4 : tie.Need-returns-4
 returns-4 c =
     let p = c .before .before in
-    sym (length-misfit (p .before .before .before .before .before .before .before .before .args .t .now) (p .before .s .given .0 .0) (cc) (λ e. c .if2 .left (omega arith)))
+    sym (length-misfit (p .before .before .before .before .before .before .before .before .args .t .now) (p .before .s .given .0 .0) (read-size p) (λ e. c .if2 .left (omega arith)))
 
 pub of-spec : {M : Type 1} → statement M
 of-spec =
