@@ -58,7 +58,7 @@ allWalked es x [] Broken = false
 allWalked es x (j ∷ heads) (Jobs left) = allWalked es (suc x) heads (walked es x left j)
 allWalked es x (j ∷ heads) Broken = false
 
--- the form check's answer for a table whose sizes fit, by the test of its form
+-- the form check's answer, by whether the table is sound and what its size is
 abbrev pub formIf : Bool → Sizing → Form
 formIf z Misfit = Sizes
 formIf true (Fit s) = Sound s
