@@ -22,7 +22,7 @@ use Rattle.table.specs.Sizes.{Limits, JobIn, SoundTable, SizeOf}
 use Rattle.table.specs.Records.{recordIn, entryOf, RecordOf, withHolder, withEntry, Laid}
 use Rattle.table.proofs.Sizes.{board-bench}
 use Rattle.table.specs.declared.records.Record.{Record}
-use Rattle.board.specs.View.{NameOf, Kept, Holds, Fillable}
+use Rattle.board.specs.View.{Place, NameOf, Kept, Holds, Fillable, HolderOf}
 use Rattle.table.specs.declared.size.Size.{Size}
 
 -- a sound table's records hold its board
@@ -41,11 +41,11 @@ pub names-job : (t : List ℕ) (s : Size) (j x : ℕ) → SizeOf t s → In x (n
 names-job t s j x z i = stands-job t s j z (named-stands (decode t) j x i)
 
 -- the k-th name is one
-pub name-in : (t : List ℕ) (j k : ℕ) → (1 ≤ k) × (k ≤ length (namesOf (decode t) j)) → In (nth (namesOf (decode t) j) k 0) (namesOf (decode t) j)
-name-in t j k l = in-nth (namesOf (decode t) j) k 0 (l .0) (l .1)
+pub name-in : (t : List ℕ) (j k : ℕ) → Place (namesOf (decode t) j) k → In (nth (namesOf (decode t) j) k 0) (namesOf (decode t) j)
+name-in t j k l = in-nth (namesOf (decode t) j) k 0 (l .least) (l .most)
 
 -- it is a bench
-pub name-of : (t : List ℕ) (s : Size) (j k x : ℕ) → Kept t s → (1 ≤ k) × (k ≤ length (namesOf (decode t) j)) → x ≡ nth (namesOf (decode t) j) k 0 → NameOf t s j k x
+pub name-of : (t : List ℕ) (s : Size) (j k x : ℕ) → Kept t s → Place (namesOf (decode t) j) k → x ≡ nth (namesOf (decode t) j) k 0 → NameOf t s j k x
 name-of t s j k x z l e =
     let i : In x (namesOf (decode t) j) = rw e (name-in t j k l) in
     record { value = e; named = i; bench = board-bench x (z .size) (named-bench (decode t) (z .storable .valid) j x i) }
@@ -241,6 +241,10 @@ name-small s j names h i z f l =
     omega (arith, within-high 1 (s .benches) (getD names i 0) w, z .benches-most)
 
 -- a record that was read
+
+-- the bench that the holder word tells holds the job
+pub holder-read : (t : List ℕ) (s : Size) (j x : ℕ) → Kept t s → x ≡ holderIn (recordIn t j) → HolderOf t s j x
+holder-read t s j x k e = let value = e ∙ sym (holder-record t j) in record { value = value; most = omega (arith, value, holder-most t s j k) }
 
 -- a job stands exactly if its record's first bench is not 0
 pub stands-first : (t : List ℕ) (s : Size) (j : ℕ) (r : Record) → Kept t s → RecordOf t j r → not (eqb (r .first) 0) ≡ stands (decode t) j

@@ -2,7 +2,7 @@
 use Prim.Native.Nat.{ℕ, zero, suc, _≤_}
 use native.Mathlib.Omega.{arith}
 use mathlib.Core.Path.{_≡_, refl, sym, ap, _∙_, subst}
-use mathlib.Core.Logic.{inl, inr, _↔_, _≢_}
+use mathlib.Core.Logic.{_⊎_, inl, inr, _↔_, _≢_}
 use mathlib.Core.List.{List, [], _∷_}
 use lib.Dec.{T, eqb}
 use Rattle.rules.specs.Lists.{within, different, In, nth, bit, total}
@@ -148,6 +148,10 @@ module _ {t : List ℕ} {x j : ℕ} (r : Rest t x j) where
   -- .. and what comes after that job is left then ..
   pub rest-next : {n : ℕ} → NextOf t j n → Rest t x n
   rest-next o = record { held = λ i m. r .held i (subst (λ (l : List ℕ). In i l) (sym (o .chain)) (inr m)) }
+
+-- .. so each job of a chain is its first or on what is left ..
+pub next-split : {t : List ℕ} {j n : ℕ} → NextOf t j n → (i : ℕ) → In i (chainFrom t j) → (i ≡ j) ⊎ In i (chainFrom t n)
+next-split o i m = subst (λ (l : List ℕ). In i l) (o .chain) m
 
 -- .. which is less
 pub rest-less : {t : List ℕ} {j n : ℕ} → NextOf t j n → length (chainFrom t j) ≡ suc (length (chainFrom t n))

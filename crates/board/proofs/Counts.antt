@@ -9,13 +9,12 @@ use lib.Dec.{eqb}
 use lib.ListN.{length, getD, take, set, replicate, length-set, length-replicate, getD-replicate}
 use lib.Seq.{length-take-le, take-all, take-suc, getD-set-same, getD-set-other}
 use Rattle.rules.specs.Lists.{bit, rising, nth}
-use Rattle.rules.specs.Board.{Board, holderOf, load}
-use Rattle.rules.specs.Table.{decode}
+use Rattle.rules.specs.Board.{Board, load}
+use Rattle.rules.specs.Table.{mostBenches, decode}
 use Rattle.rules.proofs.Basics.{Compared, same, other, compared, values-same, length-shares}
 use Rattle.rules.proofs.Counting.{bit-same, bit-other, count-most, count-append}
 use Rattle.board.specs.View.{Kept, Loaded}
 use Rattle.table.specs.declared.size.Size.{Size}
-use Rattle.board.proofs.Boards.{holder-most}
 
 -- at each number below n how many of the first `done` jobs it holds
 pub record Counted (n : ℕ) (holders : List ℕ) (done : ℕ) (loads : List ℕ) : Type 0 where
@@ -59,7 +58,7 @@ module _ {n : ℕ} {holders : List ℕ} {done : ℕ} {loads : List ℕ} where
   count-whole c h = values-same (load holders) 0 n loads 0 (c .long) (λ x l. let e : 0 + x ≡ x = omega arith in rw e (count-all c h x l))
 
 -- .. and as the contract says it
-pub count-end : {b : Board} {done : ℕ} {loads : List ℕ} → Counted 501 (b .holders) done loads → length (b .holders) ≤ done → Loaded b loads
+pub count-end : {b : Board} {done : ℕ} {loads : List ℕ} → Counted (mostBenches + 1) (b .holders) done loads → length (b .holders) ≤ done → Loaded b loads
 count-end c h = record { whole = count-whole c h; bench = λ x l. count-all c h x (omega arith) }
 
 module _ {t : List ℕ} {s : Size} (k : Kept t s) where
@@ -67,7 +66,3 @@ module _ {t : List ℕ} {s : Size} (k : Kept t s) where
   pub holders-long : length ((decode t) .holders) ≡ s .jobs
   holders-long =
       length-shares ((decode t) .named) ((decode t) .holders) (k .storable .valid .shares) ∙ k .size .board-jobs
-
-  -- "Benches are numbered 1 to 500": there is a load for each holder, and for 0
-  pub holder-few : (j : ℕ) → holderOf (decode t) j < 501
-  holder-few j = omega (arith, holder-most t s j k)

@@ -19,13 +19,13 @@ use Rattle.rules.proofs.Encode.{encode-sound, decode-encode}
 use Rattle.table.specs.Bytes.{laid}
 use Rattle.table.specs.Sizes.{SizeOf, JobIn, BenchIn}
 use Rattle.table.specs.Records.{HeadOf, withHead, withEntry, withStanding, Laid, withNext, cleared}
-use Rattle.board.specs.View.{Kept, Settled}
+use Rattle.board.specs.View.{Kept, Settled, HolderOf}
 use Rattle.board.specs.Chains.{pushAt, pushFor, pushed, pushedFrom, Pushed, Linked}
 use Rattle.table.specs.declared.size.Size.{Size}
 use Rattle.table.proofs.Bytes.{bytesOf-words}
 use Rattle.table.proofs.Sizes.{entries-long}
 use Rattle.table.proofs.Written.{withBoth, flat-laid}
-use Rattle.board.proofs.Boards.{Standing, kept-record, holder-most, stands-held}
+use Rattle.board.proofs.Boards.{Standing, kept-record, stands-held}
 
 -- a standing job's record: "two different benches of 1 to B and holder 1 or 2"
 
@@ -194,8 +194,8 @@ push-held {t} {v} {u} {s} {j} {x} {n} k i h d w next head =
     record { kept = same .0; board = same .1; layout = layout; count = sym (ap bit (stands-held t s j k ∙ ap not held)) }
 
 -- the holder of a job is a bench
-pub held-bench : (t : List ℕ) (s : Size) (j x : ℕ) → Kept t s → x ≡ holderOf (decode t) j → x ≢ 0 → BenchIn s x
-held-bench t s j x k h d = let most = holder-most t s j k in record { least = omega arith; most = omega arith }
+pub held-bench : (t : List ℕ) (s : Size) (j x : ℕ) → HolderOf t s j x → x ≢ 0 → BenchIn s x
+held-bench t s j x h d = record { least = omega arith; most = h .most }
 
 -- jobs pushed one after the other
 

@@ -19,6 +19,7 @@ abbrev pub pushFor : Layout → ℕ → ℕ → Layout
 pushFor l j zero = l
 pushFor l j (suc x) = pushAt l j (suc x)
 
+-- job j pushed, by the holder that its record tells
 unfoldable pub pushed : ℕ → Layout → Layout
 pushed j l = pushFor l j (holderIn (nth (l .entries) j vacant))
 

@@ -40,11 +40,21 @@ pub record NextOf (t : List ℕ) (j n : ℕ) : Type 0 where
 pub record Rest (t : List ℕ) (x j : ℕ) : Type 0 where
   pub held : (i : ℕ) → In i (chainFrom t j) → T (stands (decode t) i) × (holderOf (decode t) i ≡ x)
 
+-- k is a place in the list, counted from 1
+pub record Place (names : List ℕ) (k : ℕ) : Type 0 where
+  pub least : 1 ≤ k
+  pub most : k ≤ length names
+
 -- the k-th bench that job j names
 pub record NameOf (t : List ℕ) (s : Size) (j k x : ℕ) : Type 0 where
   pub value : x ≡ nth (namesOf (decode t) j) k 0
   pub named : In x (namesOf (decode t) j)
   pub bench : BenchIn s x
+
+-- the bench that holds job j, 0 for none
+pub record HolderOf (t : List ℕ) (s : Size) (j x : ℕ) : Type 0 where
+  pub value : x ≡ holderOf (decode t) j
+  pub most : x ≤ s .benches
 
 -- names and a holder for job j that a record can hold
 pub record Fillable (s : Size) (j : ℕ) (names : List ℕ) (h : ℕ) : Type 0 where
@@ -59,7 +69,7 @@ pub record Settled (t u : List ℕ) (s : Size) : Type 0 where
   pub sound : SoundTable u s
   pub board : decode u ≡ decode t
 
--- at each bench its load, at 0 the number of jobs that do not stand
+-- at each bench its load, at 0 the number of job numbers that do not stand
 pub record Loaded (b : Board) (loads : List ℕ) : Type 0 where
   pub whole : loads ≡ map (load (b .holders)) (rising 0 (mostBenches + 1))
   pub bench : (x : ℕ) → x ≤ mostBenches → getD loads x 0 ≡ load (b .holders) x

@@ -1,14 +1,13 @@
 // The jobs of a board, by their records. A change leaves the chains as they were: see chains::settle.
 ghost use mathlib.Core.Path.{_≡_};
-ghost use Prim.Native.Nat.{_≤_};
 ghost use mathlib.Core.List.{[]};
 ghost use lib.Dec.{T};
 ghost use lib.ListN.{length};
 ghost use Rattle.rules.specs.Lists.{member, change};
-ghost use Rattle.rules.specs.Board.{namesOf, holderOf, stands, put, heldBy};
+ghost use Rattle.rules.specs.Board.{namesOf, stands, put, heldBy};
 ghost use Rattle.rules.specs.Table.{decode};
-ghost use Rattle.table.specs.Sizes.{SizeOf, JobIn};
-ghost use Rattle.board.specs.View.{NameOf, Kept, Holds, Fillable};
+ghost use Rattle.table.specs.Sizes.{JobIn};
+ghost use Rattle.board.specs.View.{Kept, Place, NameOf, HolderOf, Holds, Fillable};
 use table::records;
 use table::records::Record;
 use table::size::Size;
@@ -35,7 +34,7 @@ pub fn name_count(t: &[u8], s: Size, j: usize) -> usize
 // The k-th bench that job j names, counted from 1.
 pub fn name(t: &[u8], s: Size, j: usize, k: usize) -> usize
     requires { ⌜ Kept (now t) s ⌝ }
-    requires { ⌜ (1 ≤ k) × (k ≤ length (namesOf (decode (now t)) j)) ⌝ }
+    requires { ⌜ Place (namesOf (decode (now t)) j) k ⌝ }
     ensures { λ r. ⌜ NameOf (now (t .entry)) s j k r ⌝ }
 {
     let r = records::read_record(t, s, j);
@@ -44,9 +43,9 @@ pub fn name(t: &[u8], s: Size, j: usize, k: usize) -> usize
 
 // The bench that holds job j, 0 for none.
 pub fn holder(t: &[u8], s: Size, j: usize) -> usize
-    requires { ⌜ SizeOf (now t) s ⌝ }
+    requires { ⌜ Kept (now t) s ⌝ }
     requires { ⌜ JobIn s j ⌝ }
-    ensures { λ r. ⌜ r ≡ holderOf (decode (now (t .entry))) j ⌝ }
+    ensures { λ r. ⌜ HolderOf (now (t .entry)) s j r ⌝ }
 {
     records::read_record(t, s, j).holder_bench()
 }
@@ -73,7 +72,7 @@ pub fn add_job(t: &mut [u8], s: Size, j: usize, names: &[usize], holder: usize)
     );
 }
 
-// No job j.
+// Job j's record emptied.
 pub fn remove_job(t: &mut [u8], s: Size, j: usize)
     requires { ⌜ Kept (now t) s ⌝ }
     requires { ⌜ JobIn s j ⌝ }

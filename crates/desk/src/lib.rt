@@ -1,4 +1,5 @@
-// The calls for C programs, over numbers and the table's bytes. Each returns the refusal's number, or 0.
+// The calls for C programs, over numbers and the table's bytes; a slice is passed as a pointer and its length in bytes. Each returns the
+// refusal's number, or 0.
 ghost use mathlib.Core.Path.{_≡_};
 ghost use Rattle.rules.specs.Calls.{outcome, blanking, formCheck};
 ghost use Rattle.desk.specs.Desk.{returned};

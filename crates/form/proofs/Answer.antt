@@ -1,7 +1,10 @@
 -- What the form check answers.
 use Prim.Native.Nat.{ℕ}
-use mathlib.Core.Path.{_≡_, refl, sym, ap}
-use mathlib.Core.Bool.{Bool, true, false, _&&_}
+use mathlib.Core.Path.{_≡_, refl, sym, ap, _∙_}
+use mathlib.Core.Bool.{Bool, true, false, cond, _&&_}
+use Rattle.rules.specs.Answers.{sizes, unsound, isSound, refused}
+use Rattle.rules.specs.Calls.{outcome, formCheck}
+use Rattle.rules.proofs.Questions.{form-check}
 use lib.Dec.{T}
 use mathlib.Core.List.{List}
 use Rattle.rules.specs.Table.{formed, fits, sound}
@@ -12,12 +15,12 @@ use Rattle.table.specs.Sizes.{fitIf, sizeIn}
 use Rattle.table.specs.declared.size.Size.{Size}
 use Rattle.table.specs.declared.size.Sizing.the-variants.{Fit, Misfit}
 use Rattle.table.proofs.Sizes.{size-of, fit-size}
-use Rattle.form.specs.Check.{formIf, formIn, Checked}
+use Rattle.form.specs.View.{answerOf, formIf, formIn, Checked, Answered}
 use Rattle.form.specs.declared.Form.{Form}
 use Rattle.form.specs.declared.Form.the-variants.{Sizes}
 
 -- each answer says what holds of the table
-pub checked : (t : List ℕ) (f : Form) → f ≡ formIn t → Checked t f
+checked : (t : List ℕ) (f : Form) → f ≡ formIn t → Checked t f
 unfolding formIn sizeIn sound
 checked t f e = rw e (go (fits t) (formed (laid t)) refl refl)
   where
@@ -34,12 +37,27 @@ checked t f e = rw e (go (fits t) (formed (laid t)) refl refl)
     go true false p q = (p, rw (p, q))
     go false z p q = p
 
+-- the definition's answer for the table is that of the form check
+answer-is : (t : List ℕ) → answerOf (formIn t) ≡ (outcome formCheck t) .answer
+unfolding formIn sizeIn
+answer-is t = rw (form-check t) (go (fits t) (sound t))
+  where
+    go : (y z : Bool) → answerOf (formIf z (fitIf y ((laid t) .benches) ((laid t) .jobs))) ≡ cond y (cond z isSound (refused unsound)) (refused sizes)
+    go true true = refl
+    go true false = refl
+    go false true = refl
+    go false false = refl
+
+-- so a case that is the form check's answer is document 01's
+answered : (t : List ℕ) (f : Form) → f ≡ formIn t → Answered t f
+answered t f e = record { value = e; answer = ap answerOf e ∙ answer-is t; says = checked t f e }
+
 -- refusal 1 where the sizes do not fit ..
-pub misfit-form : (t : List ℕ) → sizeIn t ≡ Misfit → formIn t ≡ Sizes
+pub misfit-answered : (t : List ℕ) → sizeIn t ≡ Misfit → Answered t Sizes
 unfolding formIn
-misfit-form t e = ap (formIf (sound t)) e
+misfit-answered t e = answered t Sizes (sym (ap (formIf (sound t)) e))
 
 -- .. and else the clauses after the sizes decide
-pub fit-form : (t : List ℕ) (s : Size) (z : Bool) → sizeIn t ≡ Fit s → z ≡ formed (laid t) → formIn t ≡ formIf z (Fit s)
+pub fit-answered : (t : List ℕ) (s : Size) (z : Bool) → sizeIn t ≡ Fit s → z ≡ formed (laid t) → Answered t (formIf z (Fit s))
 unfolding formIn sound
-fit-form t s z e q = rw (e, T→true (fits t) ((fit-size t s e) .fit), sym q) refl
+fit-answered t s z e q = answered t (formIf z (Fit s)) (rw (e, T→true (fits t) ((fit-size t s e) .fit), sym q) refl)

@@ -1,20 +1,14 @@
 -- The form check as the code goes: the records one by one, then the chains one by one.
 use Prim.Native.Nat.{ℕ, zero, suc}
-use mathlib.Core.Path.{_≡_}
 use mathlib.Core.Bool.{Bool, true, false}
 use mathlib.Core.List.{List, [], _∷_}
 use lib.Dec.{eqb}
 use Rattle.rules.specs.Lists.{nth}
-use Rattle.rules.specs.Table.{Entry, vacant, filled, holderIn, entryFits, fits, sound}
-use Rattle.table.specs.Sizes.{sizeIn, SoundTable}
-use Rattle.table.specs.declared.size.Sizing.{Sizing}
-use Rattle.table.specs.declared.size.Sizing.the-variants.{Fit, Misfit}
+use Rattle.rules.specs.Table.{Entry, vacant, filled, holderIn, entryFits}
 use Rattle.form.specs.declared.Kind.{Kind}
 use Rattle.form.specs.declared.Kind.the-variants.{Vacant, Fitting, Unfit}
 use Rattle.form.specs.declared.Seen.{Seen}
 use Rattle.form.specs.declared.Seen.the-variants.{Jobs, Broken}
-use Rattle.form.specs.declared.Form.{Form}
-use Rattle.form.specs.declared.Form.the-variants.{Sizes, Unsound, Sound}
 
 -- a record by the tests of a standing job's record
 abbrev pub kindIf : Bool → Bool → Kind
@@ -57,19 +51,3 @@ allWalked es x [] (Jobs left) = eqb left 0
 allWalked es x [] Broken = false
 allWalked es x (j ∷ heads) (Jobs left) = allWalked es (suc x) heads (walked es x left j)
 allWalked es x (j ∷ heads) Broken = false
-
--- the form check's answer, by whether the table is sound and what its size is
-abbrev pub formIf : Bool → Sizing → Form
-formIf z Misfit = Sizes
-formIf true (Fit s) = Sound s
-formIf false (Fit s) = Unsound
-
--- the form check: 1, 2, or sound with the table's size
-unfoldable pub formIn : List ℕ → Form
-formIn t = formIf (sound t) (sizeIn t)
-
--- what each answer says of the table
-abbrev pub Checked : List ℕ → Form → Type 0
-Checked t Sizes = fits t ≡ false
-Checked t Unsound = (fits t ≡ true) × (sound t ≡ false)
-Checked t (Sound s) = SoundTable t s

@@ -1,2 +1,3 @@
--- The form check as the code goes.
+-- What the form check promises (`View`), and how its code goes (`Check`).
+pub mod View
 pub mod Check

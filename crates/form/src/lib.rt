@@ -5,7 +5,8 @@ ghost use Rattle.rules.specs.Table.{formed};
 ghost use Rattle.table.specs.Bytes.{laid};
 ghost use Rattle.table.specs.Sizes.{SizeOf, BenchIn};
 ghost use Rattle.table.specs.Records.{entryOf};
-ghost use Rattle.form.specs.Check.{kindOf, counted, walked, allWalked, formIn};
+ghost use Rattle.form.specs.Check.{kindOf, counted, walked, allWalked};
+ghost use Rattle.form.specs.View.{Answered};
 use table::header;
 use table::heads;
 use table::records;
@@ -35,7 +36,7 @@ enum Seen {
     Broken,
 }
 
-// Whether a record is no job's, or names two different benches of 1 to B and has holder 1 or 2.
+// A record is no job's, or names two different benches of 1 to B and has holder 1 or 2, or neither.
 fn kind_of(benches: usize, r: Record) -> Kind
     ensures { λ k. ⌜ k ≡ kindOf benches (entryOf r) ⌝ }
 {
@@ -75,7 +76,7 @@ fn count_records(t: &[u8], s: Size) -> Seen
     Seen::Jobs(count)
 }
 
-// The chain of bench x, on which at most `left` jobs may be; how many may be on the other chains.
+// Walks bench x's chain, before which `left` jobs are not yet met; how many are left after it.
 fn walk(t: &[u8], s: Size, x: usize, left: usize) -> Seen
     requires { ⌜ SizeOf (now t) s ⌝ }
     requires { ⌜ BenchIn s x ⌝ }
@@ -137,7 +138,7 @@ fn is_formed(t: &[u8], s: Size) -> bool
 
 // Refusal 1, refusal 2, or sound, for any bytes.
 pub fn check(t: &[u8]) -> Form
-    ensures { λ r. ⌜ r ≡ formIn (now (t .entry)) ⌝ }
+    ensures { λ r. ⌜ Answered (now (t .entry)) r ⌝ }
 {
     match Size::of(t) {
         Sizing::Misfit => Form::Sizes,

@@ -1,7 +1,5 @@
 // Word 3 + x: the first job on the chain of bench x, 0 for none.
-ghost use mathlib.Core.Path.{_≡_};
 ghost use Prim.Native.Nat.{_<_};
-ghost use Rattle.rules.specs.Lists.{nth};
 ghost use Rattle.table.specs.Bytes.{laid};
 ghost use Rattle.table.specs.Sizes.{SizeOf, BenchIn};
 ghost use Rattle.table.specs.Records.{HeadOf, Laid, withHead, cleared};

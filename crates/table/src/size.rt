@@ -11,7 +11,7 @@ pub struct Size {
     jobs: usize,
 }
 
-// Sizes that were asked for.
+// A size, or refused.
 pub enum Sizing {
     Fit(Size),
     Misfit,

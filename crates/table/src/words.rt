@@ -19,7 +19,7 @@ pub(crate) fn read(bytes: &[u8], i: usize) -> usize
 }
 
 // Word i written anew.
-pub fn write(bytes: &mut [u8], i: usize, word: usize)
+pub(crate) fn write(bytes: &mut [u8], i: usize, word: usize)
     requires { ⌜ 2 * i + 1 < length (now bytes) ⌝ }
     requires { ⌜ word < 65536 ⌝ }
     ensures { λ _. ⌜ now (bytes .exit) ≡ setWord (now (bytes .entry)) i word ⌝ }

@@ -1,8 +1,8 @@
 -- The number of the form check's answer is the definition's.
-use mathlib.Core.Path.{_≡_, ap, _∙_}
+use mathlib.Core.Path.{_≡_, ap}
 use Rattle.rules.specs.Calls.{outcome, formCheck}
 use Rattle.desk.specs.Desk.{returned}
-use Rattle.desk.proofs.Returned.{formNumber, form-returned}
+use Rattle.form.specs.View.{answerOf}
 use borrow.Author.Needs.{needs}
 use Rattle.desk.proofs.jobboard_check.Statement.{statement}
 use Rattle.desk.proofs.jobboard_check.Tie as tie
@@ -20,8 +20,8 @@ enum-told-3 : tie.Need-enum-told-3
 enum-told-3 c = search needs
 
 -- the number of what the form check answered
-answered : (c : tie.After-check) → formNumber (c .check .result) ≡ returned ((outcome formCheck (c .before .before .args .table .now)) .answer)
-answered c = ap formNumber (c .check .ensures) ∙ form-returned (c .before .before .args .table .now)
+answered : (c : tie.After-check) → returned (answerOf (c .check .result)) ≡ returned ((outcome formCheck (c .before .before .args .table .now)) .answer)
+answered c = ap returned (c .check .ensures .answer)
 
 returns : tie.Need-returns
 returns c = rw (c .enum-told .given .1) at (answered (c .before .before))

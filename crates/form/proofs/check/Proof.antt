@@ -3,7 +3,7 @@ use borrow.Author.Needs.{needs}
 use mathlib.Core.Path.{sym, _∙_}
 use mathlib.Core.Bool.{true, false}
 use Rattle.table.proofs.Sizes.{fit-size}
-use Rattle.form.proofs.Answer.{misfit-form, fit-form}
+use Rattle.form.proofs.Answer.{misfit-answered, fit-answered}
 use Rattle.form.proofs.check.Statement.{statement}
 use Rattle.form.proofs.check.Tie as tie
 
@@ -24,17 +24,17 @@ is-formed-requires c κs =
 returns : tie.Need-returns
 returns c =
     let t = c .before .before .before .before .args .t .now in
-    sym (misfit-form t (sym (c .before .before .of .ensures) ∙ c .enum-told .given .1))
+    misfit-answered t (sym (c .before .before .of .ensures) ∙ c .enum-told .given .1)
 
 returns-2 : tie.Need-returns-2
 returns-2 c =
     let t = c .before .before .before .before .before .before .before .args .t .now in
-    sym (fit-form t (c .before .before .before .s .given .0 .0) true (sym (c .before .before .before .before .before .of .ensures) ∙ c .before .before .before .s .given .1) (sym (c .if1 .taken) ∙ c .before .is-formed .ensures))
+    fit-answered t (c .before .before .before .s .given .0 .0) true (sym (c .before .before .before .before .before .of .ensures) ∙ c .before .before .before .s .given .1) (sym (c .if1 .taken) ∙ c .before .is-formed .ensures)
 
 returns-3 : tie.Need-returns-3
 returns-3 c =
     let t = c .before .before .before .before .before .before .before .args .t .now in
-    sym (fit-form t (c .before .before .before .s .given .0 .0) false (sym (c .before .before .before .before .before .of .ensures) ∙ c .before .before .before .s .given .1) (sym (c .if1 .left) ∙ c .before .is-formed .ensures))
+    fit-answered t (c .before .before .before .s .given .0 .0) false (sym (c .before .before .before .before .before .of .ensures) ∙ c .before .before .before .s .given .1) (sym (c .if1 .left) ∙ c .before .is-formed .ensures)
 
 pub check-spec : {M : Type 1} → statement M
 check-spec =

@@ -1,7 +1,4 @@
 -- The table that the form check finds sound is sound.
-use mathlib.Core.Path.{sym, _∙_}
-use Rattle.form.specs.declared.Form.the-variants.{Sound}
-use Rattle.form.proofs.Answer.{checked}
 use borrow.Author.Needs.{needs}
 use Rattle.table_files.proofs.print_table.Statement.{statement}
 use Rattle.table_files.proofs.print_table.Tie as tie
@@ -31,8 +28,7 @@ enum-known-s : tie.Need-enum-known-s
 enum-known-s c = search needs
 
 print-sound-requires : tie.Need-print-sound-requires
-print-sound-requires c κs =
-    checked (c .before .before .before .before .before .args .t .now) (Sound (c .before .s .given .0 .0)) (sym (c .before .s .given .1) ∙ c .before .before .before .check .ensures)
+print-sound-requires c κs = rw (c .before .s .given .1) at (c .before .before .before .check .ensures .says)
 
 returns : tie.Need-returns
 returns c = search needs

@@ -14,14 +14,14 @@ same-length : tie.Need-same-length
 same-length c = search needs
 
 returns : tie.Need-returns
-returns c = push-vacant (c .before .before .before .before .pre .0) (sym (c .before .holder .ensures) ∙ c .if1 .taken)
+returns c = push-vacant (c .before .before .before .before .pre .0) (sym (c .before .holder .ensures .value) ∙ c .if1 .taken)
 
 head-requires : tie.Need-head-requires
 head-requires c κs =
     let start = c .before .before .before .before .before in
     let args = start .args in
     let h = c .before .before .holder in
-    (start .pre .0 .size, held-bench (args .t .now) (args .s) (args .j) (h .result) (start .pre .0) (h .ensures) (c .before .if1 .left))
+    (start .pre .0 .size, held-bench (args .t .now) (args .s) (args .j) (h .result) (h .ensures) (c .before .if1 .left))
 
 write-next-requires : tie.Need-write-next-requires
 write-next-requires c κs = search needs
@@ -32,7 +32,7 @@ write-head-requires c κs =
     let args = start .args in
     let h = c .before .before .before .before .before .before .before .before .holder in (
       c .before .before .before .write-next .ensures .size,
-      (held-bench (args .t .now) (args .s) (args .j) (h .result) (start .pre .0) (h .ensures) (c .before .before .before .before .before .before .before .if1 .left), omega arith),
+      (held-bench (args .t .now) (args .s) (args .j) (h .result) (h .ensures) (c .before .before .before .before .before .before .before .if1 .left), omega arith),
     )
 
 same-length-2 : tie.Need-same-length-2
@@ -44,7 +44,7 @@ returns-2 c =
     let read = next .before .before in
     let test = read .before .before in
     let start = test .before .before .before .before in
-    push-held (start .pre .0) (start .pre .1) (test .before .holder .ensures) (test .if1 .left) (read .head .ensures) (next .write-next .ensures) (c .before .before .write-head .ensures)
+    push-held (start .pre .0) (start .pre .1) (test .before .holder .ensures .value) (test .if1 .left) (read .head .ensures) (next .write-next .ensures) (c .before .before .write-head .ensures)
 
 pub push-spec : {M : Type 1} → statement M
 push-spec =

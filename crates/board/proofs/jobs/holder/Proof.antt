@@ -1,8 +1,8 @@
 -- The holder that the board tells is the bench that the record's holder word tells.
 use borrow.Author.Needs.{needs}
-use mathlib.Core.Path.{sym, ap, _∙_}
+use mathlib.Core.Path.{ap, _∙_}
 use Rattle.rules.specs.Table.{holderIn}
-use Rattle.rules.proofs.Sound.{holder-record}
+use Rattle.board.proofs.Boards.{holder-read}
 use Rattle.board.proofs.jobs.holder.Statement.{statement}
 use Rattle.board.proofs.jobs.holder.Tie as tie
 
@@ -14,8 +14,9 @@ holder-bench-requires c κs = search needs
 
 returns : tie.Need-returns
 returns c =
-    let a = c .before .before .before .args in
-    c .holder-bench .ensures ∙ ap holderIn (c .before .read-record .ensures .entry) ∙ sym (holder-record (a .t .now) (a .j))
+    let start = c .before .before .before in
+    let e = c .holder-bench .ensures ∙ ap holderIn (c .before .read-record .ensures .entry) in
+    holder-read (start .args .t .now) (start .args .s) (start .args .j) (c .holder-bench .result) (start .pre .0) e
 
 pub holder-spec : {M : Type 1} → statement M
 holder-spec = tie.close (tie.spec read-record-requires holder-bench-requires returns)

@@ -15,14 +15,14 @@ returns c =
     let start = c .before .before .before in
     let args = start .args in
     let which = start .pre .1 in
-    name-of (args .t .now) (args .s) (args .j) (args .k) (c .before .read-record .result .first) (start .pre .0) which (name-first (args .t .now) (args .j) (args .k) (c .before .read-record .result) (c .before .read-record .ensures) (which .0) (which .1) (c .if1 .taken))
+    name-of (args .t .now) (args .s) (args .j) (args .k) (c .before .read-record .result .first) (start .pre .0) which (name-first (args .t .now) (args .j) (args .k) (c .before .read-record .result) (c .before .read-record .ensures) (which .least) (which .most) (c .if1 .taken))
 
 returns-2 : tie.Need-returns-2
 returns-2 c =
     let start = c .before .before .before in
     let args = start .args in
     let which = start .pre .1 in
-    name-of (args .t .now) (args .s) (args .j) (args .k) (c .before .read-record .result .second) (start .pre .0) which (name-second (args .t .now) (args .s) (args .j) (args .k) (c .before .read-record .result) (start .pre .0) (c .before .read-record .ensures) (which .0) (which .1) (c .if1 .left))
+    name-of (args .t .now) (args .s) (args .j) (args .k) (c .before .read-record .result .second) (start .pre .0) which (name-second (args .t .now) (args .s) (args .j) (args .k) (c .before .read-record .result) (start .pre .0) (c .before .read-record .ensures) (which .least) (which .most) (c .if1 .left))
 
 pub name-spec : {M : Type 1} → statement M
 name-spec = tie.close (tie.spec read-record-requires returns returns-2)

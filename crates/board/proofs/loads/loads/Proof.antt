@@ -5,13 +5,13 @@ use native.Mathlib.Omega.{arith}
 use mathlib.Core.Path.{_≡_, sym, _∙_}
 use lib.ListN.{length}
 use borrow.Author.Needs.{needs}
-use Rattle.rules.specs.Table.{decode}
-use Rattle.board.proofs.Counts.{Counted, count-start, count-turn, count-end, count-few, holders-long, holder-few}
+use Rattle.rules.specs.Table.{mostBenches, decode}
+use Rattle.board.proofs.Counts.{Counted, count-start, count-turn, count-end, count-few, holders-long}
 use Rattle.board.proofs.loads.loads.Statement.{statement}
 use Rattle.board.proofs.loads.loads.Tie as tie
 
 abbrev Inv-loop : tie.InvT-loop
-Inv-loop t s loads₀ jobs done₀ loads done = Counted 501 ((decode t) .holders) done loads
+Inv-loop t s loads₀ jobs done₀ loads done = Counted (mostBenches + 1) ((decode t) .holders) done loads
 
 abbrev μ-loop : tie.MeasureT-loop
 μ-loop t s loads₀ jobs done₀ loads done = jobs - done
@@ -24,7 +24,7 @@ jobs-requires c κs = search needs
 
 loop-holds : tie.Need-loop-holds Inv-loop μ-loop
 loop-holds c =
-    rw (c .before .clear .ensures) (count-start 501 ((decode (c .before .before .before .before .args .t .now)) .holders))
+    rw (c .before .clear .ensures) (count-start (mostBenches + 1) ((decode (c .before .before .before .before .args .t .now)) .holders))
 
 add-holder : tie.Need-add-holder Inv-loop μ-loop
 add-holder c = search needs
@@ -33,9 +33,8 @@ holder-requires : tie.Need-holder-requires Inv-loop μ-loop
 holder-requires c κs = search needs
 
 -- there is a load for the job's holder
-small : (c : tie.After-holder Inv-loop μ-loop) → c .holder .result < 501
-small c =
-    rw (c .holder .ensures) (holder-few (c .before .before .before .before .before .before .before .pre) (c .before .before .loop .done + 1))
+small : (c : tie.After-holder Inv-loop μ-loop) → c .holder .result < mostBenches + 1
+small c = omega arith
 
 -- the jobs are as many as the holders
 many : (c : tie.After-jobs Inv-loop μ-loop) → length ((decode (c .before .before .before .before .args .t .now)) .holders) ≡ c .jobs .result
@@ -63,7 +62,7 @@ loop-less c = omega arith
 loop-again : tie.Need-loop-again Inv-loop μ-loop
 loop-again c =
     let e = many (c .before .before .before .before) in
-    count-turn (c .before .holder .result) (c .before .before .before .loop .inv) (omega arith) (c .before .holder .ensures) (small (c .before))
+    count-turn (c .before .holder .result) (c .before .before .before .loop .inv) (omega arith) (c .before .holder .ensures .value) (small (c .before))
 
 returns : tie.Need-returns Inv-loop μ-loop
 returns c = let e = many (c .before .before) in count-end (c .before .loop .inv) (omega arith)

@@ -4,8 +4,6 @@ use native.Mathlib.Omega.{arith}
 use borrow.Author.Tests.{le-leb, lt-leb}
 use Rattle.table.proofs.size.Size.has_bench.Statement.{statement}
 use Rattle.table.proofs.size.Size.has_bench.Tie as tie
-use Rattle.table.proofs.size.Size.has_bench.Reads as reads
-use Rattle.table.proofs.size.Size.has_bench.Lts as lts
 
 returns : tie.Need-returns
 returns c = let h : 1 ≤ c .before .before .args .x = omega arith in rw (le-leb 1 (c .before .before .args .x) h)

@@ -4,8 +4,6 @@ use native.Mathlib.Omega.{arith}
 use borrow.Author.Tests.{le-leb, lt-leb}
 use Rattle.table.proofs.size.Size.has_job.Statement.{statement}
 use Rattle.table.proofs.size.Size.has_job.Tie as tie
-use Rattle.table.proofs.size.Size.has_job.Reads as reads
-use Rattle.table.proofs.size.Size.has_job.Lts as lts
 
 returns : tie.Need-returns
 returns c = let h : 1 ≤ c .before .before .args .j = omega arith in rw (le-leb 1 (c .before .before .args .j) h)
