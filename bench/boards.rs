@@ -1,4 +1,4 @@
-//! Tables to measure with.
+//! Tables to measure with and to compare on.
 
 /// Xorshift: the same tables in every run.
 pub struct Random(pub u64);
@@ -20,69 +20,74 @@ fn get(t: &[u8], i: usize) -> usize {
     u16::from_le_bytes([t[2 * i], t[2 * i + 1]]) as usize
 }
 
-/// A table with these jobs, each held by its first-named bench; the jobs are pushed onto the chains in the order given.
-fn table(benches: usize, jobs: usize, named: &[(usize, usize, usize)]) -> Vec<u8> {
+/// A job number, the two benches it names, and which of them holds it (1 or 2).
+pub type Job = (usize, [usize; 2], usize);
+
+/// The sound table of these jobs, pushed onto the chains one after the other.
+fn table(benches: usize, jobs: usize, standing: &[Job]) -> Vec<u8> {
     let mut t = vec![0; 2 * (4 + benches + 4 * jobs)];
     put(&mut t, 0, benches);
     put(&mut t, 1, jobs);
-    put(&mut t, 2, named.len());
-    for &(j, first, second) in named {
-        let at = benches + 4 * j;
-        let behind = get(&t, 3 + first);
-        for (k, w) in [first, second, 1, behind].into_iter().enumerate() {
-            put(&mut t, at + k, w);
+    put(&mut t, 2, standing.len());
+    for &(j, [first, second], holder) in standing {
+        let head = 3 + [first, second][holder - 1];
+        let behind = get(&t, head);
+        for (k, w) in [first, second, holder, behind].into_iter().enumerate() {
+            put(&mut t, benches + 4 * j + k, w);
         }
-        put(&mut t, 3 + first, j);
+        put(&mut t, head, j);
     }
     t
 }
 
-/// Every job stands and names two random benches; chains rise.
-pub fn random_pairs(benches: usize, jobs: usize, random: &mut Random) -> Vec<u8> {
-    let named: Vec<_> = (1..=jobs)
-        .rev()
-        .map(|j| {
-            let first = random.below(benches);
-            let second = (first + 1 + random.below(benches - 1)) % benches;
-            (j, first + 1, second + 1)
-        })
-        .collect();
-    table(benches, jobs, &named)
+/// Two random benches for job j, held by either.
+fn random_job(j: usize, benches: usize, random: &mut Random) -> Job {
+    let first = random.below(benches);
+    let second = (first + 1 + random.below(benches - 1)) % benches;
+    (j, [first + 1, second + 1], 1 + random.below(2))
 }
 
-/// The same with chains in no order.
-pub fn shuffled(benches: usize, jobs: usize, random: &mut Random) -> Vec<u8> {
-    let mut order: Vec<_> = (1..=jobs).collect();
-    for i in (1..jobs).rev() {
-        order.swap(i, random.below(i + 1));
+/// Every job stands, with two random benches; chains rise.
+pub fn full(benches: usize, jobs: usize, random: &mut Random) -> Vec<u8> {
+    let standing: Vec<_> = (1..=jobs).rev().map(|j| random_job(j, benches, random)).collect();
+    table(benches, jobs, &standing)
+}
+
+/// Of three job numbers two stand, with random benches; chains are in no order.
+pub fn mixed(benches: usize, jobs: usize, random: &mut Random) -> Vec<u8> {
+    let mut numbers: Vec<_> = (1..=jobs).filter(|_| random.below(3) != 0).collect();
+    for i in (1..numbers.len()).rev() {
+        numbers.swap(i, random.below(i + 1));
     }
-    let named: Vec<_> = order
-        .into_iter()
-        .map(|j| {
-            let first = random.below(benches);
-            let second = (first + 1 + random.below(benches - 1)) % benches;
-            (j, first + 1, second + 1)
-        })
-        .collect();
-    table(benches, jobs, &named)
+    let standing: Vec<_> = numbers.into_iter().map(|j| random_job(j, benches, random)).collect();
+    table(benches, jobs, &standing)
 }
 
 /// Job j names bench j and the next one, round and round.
 pub fn ring(benches: usize, jobs: usize) -> Vec<u8> {
-    let named: Vec<_> = (1..=jobs).rev().map(|j| (j, (j - 1) % benches + 1, j % benches + 1)).collect();
-    table(benches, jobs, &named)
+    let standing: Vec<_> = (1..=jobs).rev().map(|j| (j, [(j - 1) % benches + 1, j % benches + 1], 1)).collect();
+    table(benches, jobs, &standing)
 }
 
-/// One or two words changed to small numbers, or the length: sound tables and nearly sound ones.
+/// Another length, an emptied record, or one or two words written anew: small, copied from elsewhere, or any.
 pub fn damage(t: &mut Vec<u8>, random: &mut Random) {
-    if random.below(20) == 0 {
-        t.truncate(random.below(t.len() + 1));
-        return;
-    }
-    for _ in 0..1 + random.below(2) {
-        let i = random.below(t.len() / 2);
-        let other = get(t, random.below(t.len() / 2));
-        let w = if random.below(2) == 0 { other } else { random.below(8) };
-        put(t, i, w);
+    let words = t.len() / 2;
+    match random.below(12) {
+        0 => t.truncate(random.below(t.len() + 1)),
+        1 => t.extend(std::iter::repeat(0).take(1 + random.below(9))),
+        2 => {
+            let at = 4 + get(t, 0) + 4 * random.below(get(t, 1));
+            t[2 * at..2 * at + 8].fill(0);
+        }
+        _ => {
+            for _ in 0..1 + random.below(2) {
+                let w = match random.below(3) {
+                    0 => random.below(8),
+                    1 => get(t, random.below(words)),
+                    _ => random.below(65536),
+                };
+                put(t, random.below(words), w);
+            }
+        }
     }
 }

@@ -41,15 +41,17 @@ unsafe fn standing(t: &[u8], benches: usize, jobs: usize) -> Option<usize> {
 
 /// The jobs on all chains, if each is met once, on its holder's chain.
 unsafe fn chained(t: &[u8], benches: usize, jobs: usize) -> Option<usize> {
-    let mut met = [false; 4001];
+    let mut marks = [std::mem::MaybeUninit::<bool>::uninit(); 4001];
+    let met = &mut marks[..=jobs];
+    met.fill(std::mem::MaybeUninit::new(false));
     let mut count = 0;
     for x in 1..=benches {
         let mut j = word(t, 3 + x);
         while j != 0 {
-            if jobs < j || *met.get_unchecked(j) {
+            if jobs < j || met.get_unchecked(j).assume_init() {
                 return None;
             }
-            *met.get_unchecked_mut(j) = true;
+            met.get_unchecked_mut(j).write(true);
             let at = benches + 4 * j;
             let holder = word(t, at + 2);
             if holder == 0 || word(t, at + holder - 1) != x {
