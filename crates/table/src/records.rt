@@ -1,9 +1,9 @@
 // Jobs' records: words B + 4 × j and the next three are job j's, which is 4 + B + 4 × (j − 1).
 ghost use mathlib.Core.Path.{_≡_};
-ghost use Prim.Native.Nat.{_<_};
+ghost use Prim.Native.Nat.{_+_, _*_, _<_};
 ghost use Rattle.rules.specs.Table.{holderIn};
 ghost use Rattle.table.specs.Bytes.{laid};
-ghost use Rattle.table.specs.Sizes.{SizeOf, JobIn};
+ghost use Rattle.table.specs.Sizes.{Limits, SizeOf, JobIn};
 ghost use Rattle.table.specs.Records.{recordIn, entryOf, Small, RecordOf, Laid, withEntry, withHolder, withNext};
 use crate::size::Size;
 use crate::words;
@@ -34,13 +34,22 @@ impl Record {
     }
 }
 
+// Where job j's record begins.
+fn record_at(s: Size, j: usize) -> usize
+    requires { ⌜ Limits s ⌝ }
+    requires { ⌜ JobIn s j ⌝ }
+    ensures { λ r. ⌜ r ≡ s .benches + 4 * j ⌝ }
+{
+    s.benches() + 4 * j
+}
+
 // Job j's record.
 pub fn read_record(t: &[u8], s: Size, j: usize) -> Record
     requires { ⌜ SizeOf (now t) s ⌝ }
     requires { ⌜ JobIn s j ⌝ }
     ensures { λ r. ⌜ RecordOf (now (t .entry)) j r ⌝ }
 {
-    let at = s.benches() + 4 * j;
+    let at = record_at(s, j);
     let first = words::read(t, at);
     let second = words::read(t, at + 1);
     let holder = words::read(t, at + 2);
@@ -60,7 +69,7 @@ pub fn write_record(t: &mut [u8], s: Size, j: usize, r: Record)
     requires { ⌜ Small r ⌝ }
     ensures { λ _. ⌜ Laid (now (t .exit)) s (withEntry (laid (now (t .entry))) j (entryOf r)) ⌝ }
 {
-    let at = s.benches() + 4 * j;
+    let at = record_at(s, j);
     words::write(t, at, r.first);
     words::write(t, at + 1, r.second);
     words::write(t, at + 2, r.holder);
@@ -74,7 +83,7 @@ pub fn write_holder(t: &mut [u8], s: Size, j: usize, holder: usize)
     requires { ⌜ holder < 65536 ⌝ }
     ensures { λ _. ⌜ Laid (now (t .exit)) s (withEntry (laid (now (t .entry))) j (withHolder (recordIn (now (t .entry)) j) holder)) ⌝ }
 {
-    words::write(t, s.benches() + 4 * j + 2, holder);
+    words::write(t, record_at(s, j) + 2, holder);
 }
 
 // Another next word in job j's record.
@@ -84,5 +93,5 @@ pub fn write_next(t: &mut [u8], s: Size, j: usize, next: usize)
     requires { ⌜ next < 65536 ⌝ }
     ensures { λ _. ⌜ Laid (now (t .exit)) s (withEntry (laid (now (t .entry))) j (withNext (recordIn (now (t .entry)) j) next)) ⌝ }
 {
-    words::write(t, s.benches() + 4 * j + 3, next);
+    words::write(t, record_at(s, j) + 3, next);
 }

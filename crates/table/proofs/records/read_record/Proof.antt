@@ -24,14 +24,8 @@ four t s j at r z i p a b h n =
       small = record { first = a .small; second = b .small; holder = h .small; next = n .small };
     }
 
-benches-requires : tie.Need-benches-requires
-benches-requires c κs = search needs
-
-mul-at : tie.Need-mul-at
-mul-at c = search needs
-
-add-at : tie.Need-add-at
-add-at c = search needs
+record-at-requires : tie.Need-record-at-requires
+record-at-requires c κs = search needs
 
 read-requires : tie.Need-read-requires
 read-requires c κs = search needs
@@ -58,8 +52,8 @@ returns : tie.Need-returns
 returns c =
     let start = c .before .before .before .before .before .before in
     let a = start .args in
-    let b = c .before .before .before .before .benches in
-    let at : ℕ = b .result + 4 * a .j in
+    let b = c .before .before .before .before .record-at in
+    let at : ℕ = b .result in
     let r1 = c .before .before .before .read in
     let r2 = c .before .before .read2 in
     let r3 = c .before .read3 in
@@ -71,9 +65,7 @@ pub read-record-spec : {M : Type 1} → statement M
 read-record-spec =
     tie.close
     (tie.spec
-    benches-requires
-    mul-at
-    add-at
+    record-at-requires
     read-requires
     add-read
     read-requires-2

@@ -4,17 +4,11 @@ use Rattle.table.proofs.Written.{laid-next}
 use Rattle.table.proofs.records.write_next.Statement.{statement}
 use Rattle.table.proofs.records.write_next.Tie as tie
 
-benches-requires : tie.Need-benches-requires
-benches-requires c κs = search needs
-
-mul-write : tie.Need-mul-write
-mul-write c = search needs
+record-at-requires : tie.Need-record-at-requires
+record-at-requires c κs = search needs
 
 add-write : tie.Need-add-write
 add-write c = search needs
-
-add-write-2 : tie.Need-add-write-2
-add-write-2 c = search needs
 
 write-requires : tie.Need-write-requires
 write-requires c κs = search needs
@@ -26,10 +20,10 @@ returns : tie.Need-returns
 returns c =
     let start = c .before .before .before .before .before .before in
     let args = start .args in
-    rw (c .before .before .write .ensures, c .before .before .before .benches .ensures)
+    rw (c .before .before .write .ensures, c .before .before .before .record-at .ensures)
     (laid-next (args .t .now) (args .s) (args .j) (args .next) (start .pre .0) (start .pre .1 .0) (start .pre .1 .1))
 
 pub write-next-spec : {M : Type 1} → statement M
 write-next-spec =
     tie.close
-    (tie.spec benches-requires mul-write add-write add-write-2 write-requires same-length returns)
+    (tie.spec record-at-requires add-write write-requires same-length returns)

@@ -4,14 +4,8 @@ use Rattle.table.proofs.Written.{laid-entry}
 use Rattle.table.proofs.records.write_record.Statement.{statement}
 use Rattle.table.proofs.records.write_record.Tie as tie
 
-benches-requires : tie.Need-benches-requires
-benches-requires c κs = search needs
-
-mul-at : tie.Need-mul-at
-mul-at c = search needs
-
-add-at : tie.Need-add-at
-add-at c = search needs
+record-at-requires : tie.Need-record-at-requires
+record-at-requires c κs = search needs
 
 write-requires : tie.Need-write-requires
 write-requires c κs = search needs
@@ -47,16 +41,14 @@ returns c =
     let start = b .before .before in
     let a = start .args in
     let m = start .pre .1 .1 in
-    rw (w4 .write4 .ensures, w3 .write3 .ensures, w2 .write2 .ensures, w1 .write .ensures, b .benches .ensures)
+    rw (w4 .write4 .ensures, w3 .write3 .ensures, w2 .write2 .ensures, w1 .write .ensures, b .record-at .ensures)
     (laid-entry (a .t .now) (a .s) (a .j) (a .r .first) (a .r .second) (a .r .holder) (a .r .next) (start .pre .0) (start .pre .1 .0) (m .first) (m .second) (m .holder) (m .next))
 
 pub write-record-spec : {M : Type 1} → statement M
 write-record-spec =
     tie.close
     (tie.spec
-    benches-requires
-    mul-at
-    add-at
+    record-at-requires
     write-requires
     add-write
     write-requires-2
