@@ -1,5 +1,5 @@
 // The job board's table: the one crate that knows where a word lies. It reads and writes the parts of document 01's table of words.
-// What the parts mean together is said above: crate `form` checks it, crate `board` sees a board in it.
+// What the parts mean together is said above: crate `form` checks it, crate `store` sees a board in it.
 pub mod header;
 pub mod heads;
 pub mod records;

@@ -2,9 +2,9 @@
 // same refusal. The files and the expected answers were made by another implementation of document 01. A file's name tells what damage was
 // tried; where that changed nothing, the table is sound.
 ghost use Rattle.table.specs.Sizes.{SoundTable};
-use board::loads;
 use form::Form;
 use libc::STDOUT_FILENO;
+use store::loads;
 use table::size::Size;
 
 fn heaviest(loads: &[u16; Size::MOST_BENCHES + 1]) -> u16 {

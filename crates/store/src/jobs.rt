@@ -1,0 +1,103 @@
+// The jobs of a board, by their records. A change leaves the chains as they were: see chains::settle.
+ghost use mathlib.Core.Path.{_≡_};
+ghost use mathlib.Core.List.{[]};
+ghost use lib.Dec.{T};
+ghost use lib.ListN.{length};
+ghost use Rattle.rules.specs.Lists.{member, change};
+ghost use Rattle.rules.specs.Board.{namesOf, stands, put, heldBy};
+ghost use Rattle.rules.specs.Table.{decode};
+ghost use Rattle.table.specs.Sizes.{JobIn};
+ghost use Rattle.store.specs.View.{Kept, Place, NameOf, HolderOf, Holds, Fillable};
+use table::records;
+use table::records::Record;
+use table::size::Size;
+
+// Whether job j stands.
+pub fn stands(t: &[u8], s: Size, j: usize) -> bool
+    requires { ⌜ Kept (now t) s ⌝ }
+    requires { ⌜ JobIn s j ⌝ }
+    ensures { λ r. ⌜ r ≡ stands (decode (now (t .entry))) j ⌝ }
+{
+    let r = records::read_record(t, s, j);
+    r.first != 0
+}
+
+// How many benches job j names.
+pub fn name_count(t: &[u8], s: Size, j: usize) -> usize
+    requires { ⌜ Kept (now t) s ⌝ }
+    requires { ⌜ JobIn s j ⌝ }
+    ensures { λ r. ⌜ r ≡ length (namesOf (decode (now (t .entry))) j) ⌝ }
+{
+    if stands(t, s, j) { 2 } else { 0 }
+}
+
+// The k-th bench that job j names, counted from 1.
+pub fn name(t: &[u8], s: Size, j: usize, k: usize) -> usize
+    requires { ⌜ Kept (now t) s ⌝ }
+    requires { ⌜ Place (namesOf (decode (now t)) j) k ⌝ }
+    ensures { λ r. ⌜ NameOf (now (t .entry)) s j k r ⌝ }
+{
+    let r = records::read_record(t, s, j);
+    if k == 1 { r.first } else { r.second }
+}
+
+// The bench that holds job j, 0 for none.
+pub fn holder(t: &[u8], s: Size, j: usize) -> usize
+    requires { ⌜ Kept (now t) s ⌝ }
+    requires { ⌜ JobIn s j ⌝ }
+    ensures { λ r. ⌜ HolderOf (now (t .entry)) s j r ⌝ }
+{
+    records::read_record(t, s, j).holder_bench()
+}
+
+// Job j with these benches and this holder.
+pub fn add_job(t: &mut [u8], s: Size, j: usize, names: &[usize], holder: usize)
+    requires { ⌜ Kept (now t) s ⌝ }
+    requires { ⌜ Fillable s j (now names) holder ⌝ }
+    ensures { λ _. ⌜ Holds (now (t .exit)) s (put (decode (now (t .entry))) j (now (names .entry)) holder) ⌝ }
+{
+    let first = names[0];
+    let second = names[1];
+    let place = if first == holder { 1 } else { 2 };
+    records::write_record(
+        t,
+        s,
+        j,
+        Record {
+            first,
+            second,
+            holder: place,
+            next: 0,
+        },
+    );
+}
+
+// Job j's record emptied.
+pub fn remove_job(t: &mut [u8], s: Size, j: usize)
+    requires { ⌜ Kept (now t) s ⌝ }
+    requires { ⌜ JobIn s j ⌝ }
+    ensures { λ _. ⌜ Holds (now (t .exit)) s (put (decode (now (t .entry))) j [] 0) ⌝ }
+{
+    records::write_record(
+        t,
+        s,
+        j,
+        Record {
+            first: 0,
+            second: 0,
+            holder: 0,
+            next: 0,
+        },
+    );
+}
+
+// Job j held by bench x, one of those it names.
+pub fn set_holder(t: &mut [u8], s: Size, j: usize, x: usize)
+    requires { ⌜ Kept (now t) s ⌝ }
+    requires { ⌜ T (member x (namesOf (decode (now t)) j)) ⌝ }
+    ensures { λ _. ⌜ Holds (now (t .exit)) s (heldBy (decode (now (t .entry))) (change (decode (now (t .entry)) .holders) j x)) ⌝ }
+{
+    let r = records::read_record(t, s, j);
+    let place = if r.first == x { 1 } else { 2 };
+    records::write_holder(t, s, j, place);
+}

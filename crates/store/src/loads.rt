@@ -1,0 +1,29 @@
+// The loads of all benches.
+ghost use mathlib.Core.Path.{_≡_};
+ghost use lib.ListN.{replicate};
+ghost use Rattle.rules.specs.Table.{mostBenches, decode};
+ghost use Prim.Native.Nat.{_+_};
+ghost use Rattle.store.specs.View.{Kept, Loaded};
+use crate::jobs;
+use table::size::Size;
+
+fn clear(loads: &mut [u16; Size::MOST_BENCHES + 1])
+    ensures { λ _. ⌜ now (loads .exit) ≡ replicate (mostBenches + 1) 0 ⌝ }
+{
+    *loads = [0; Size::MOST_BENCHES + 1];
+}
+
+// At x the load of bench x, at 0 the number of job numbers that do not stand.
+pub fn loads(t: &[u8], s: Size, loads: &mut [u16; Size::MOST_BENCHES + 1])
+    requires { ⌜ Kept (now t) s ⌝ }
+    ensures { λ _. ⌜ Loaded (decode (now (t .entry))) (now (loads .exit)) ⌝ }
+{
+    clear(loads);
+    let jobs = s.jobs();
+    let mut done = 0;
+    while done < jobs {
+        let x = jobs::holder(t, s, done + 1);
+        loads[x] += 1;
+        done += 1;
+    }
+}
