@@ -20,7 +20,7 @@ use Rattle.rules.proofs.Sound.{vacant-words, namesIn, two-paired, entry-tests, 
 use Rattle.table.specs.Bytes.{laid}
 use Rattle.table.specs.Sizes.{Limits, JobIn, SoundTable, SizeOf}
 use Rattle.table.specs.Records.{recordIn, entryOf, RecordOf, withHolder, withEntry, Laid}
-use Rattle.table.proofs.Sizes.{board-bench}
+use Rattle.table.proofs.Sizes.{board-job, board-bench}
 use Rattle.table.specs.declared.records.Record.{Record}
 use Rattle.store.specs.View.{Place, NameOf, Kept, Holds, Fillable, HolderOf}
 use Rattle.table.specs.declared.size.Size.{Size}
@@ -31,10 +31,7 @@ sound-kept t s z = record { size = z .size; storable = z .storable }
 
 -- a standing job's number is one of 1 to J ..
 pub stands-job : (t : List ℕ) (s : Size) (j : ℕ) → SizeOf t s → T (stands (decode t) j) → JobIn s j
-stands-job t s j z p =
-    let w = stands-within (decode t) j p in
-    let n = length ((decode t) .named) in
-    record { least = within-low 1 n j w; most = omega (arith, within-high 1 n j w, z .board-jobs) }
+stands-job t s j z p = board-job j z (stands-within (decode t) j p)
 
 -- .. so is one of a job that names a bench
 pub names-job : (t : List ℕ) (s : Size) (j x : ℕ) → SizeOf t s → In x (namesOf (decode t) j) → JobIn s j

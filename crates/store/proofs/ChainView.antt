@@ -8,15 +8,15 @@ use lib.Dec.{T, eqb}
 use Rattle.rules.specs.Lists.{within, different, In, nth, bit, total}
 use Rattle.rules.specs.Board.{holderOf, stands, standing, load}
 use Rattle.rules.specs.Table.{Entry, vacant, follow, chains, decode}
-use Rattle.rules.proofs.Basics.{within-low, within-high, in-each, in-nth, nth-map, T-eqb, eqb-T, differ}
+use Rattle.rules.proofs.Basics.{in-each, in-nth, nth-map, T-eqb, eqb-T, differ, within-both}
 use Rattle.rules.proofs.Counting.{different-count, few, total-tested, count-total}
-use Rattle.rules.proofs.Sound.{Ends, sound-storable, standing-word, chain-ends, on-chain}
+use Rattle.rules.proofs.Sound.{Ends, standing-word, chain-ends, on-chain}
 use Rattle.rules.proofs.ChainEnds.{ends-on, ends-next, ends-different}
 use lib.ListN.{length}
 use Rattle.rules.proofs.Paths.{stands-within, holder-bench}
-use Rattle.store.proofs.Boards.{sound-kept, stands-held}
+use Rattle.store.proofs.Boards.{sound-kept, stands-job, stands-held}
 use Rattle.store.proofs.Counts.{holders-long}
-use Rattle.table.proofs.Sizes.{heads-long}
+use Rattle.table.proofs.Sizes.{heads-long, board-bench}
 use Rattle.table.specs.Bytes.{laid}
 use Rattle.table.specs.Sizes.{JobIn, BenchIn, SoundTable}
 use Rattle.table.specs.Records.{RecordOf, HeadOf}
@@ -48,10 +48,6 @@ held-chain t s x z b i =
     let on = on-chain t (z .sound) i x (b .least) (omega (arith, z .size .board-benches, b .most)) in
     subst (λ (c : List ℕ). In i c ↔ (T (stands (decode t) i) × (holderOf (decode t) i ≡ x))) (head-chain t x) on
 
--- a standing job's number is one of 1 to J
-standing-number : (t : List ℕ) (s : Size) (j : ℕ) → SoundTable t s → T (stands (decode t) j) → T (within 1 (s .jobs) j)
-standing-number t s j z p = subst (λ (n : ℕ). T (within 1 n j)) (z .size .board-jobs) (stands-within (decode t) j p)
-
 -- bench x's chain ends
 head-ends : (t : List ℕ) (s : Size) (x : ℕ) → SoundTable t s → BenchIn s x → Ends ((laid t) .entries) ((laid t) .jobs) (nth ((laid t) .heads) x 0)
 head-ends t s x z b =
@@ -65,7 +61,7 @@ first-chain t s x z b =
     record {
       held = held;
       once = once;
-      few = few (s .jobs) c (different-count c once) (in-each (λ j. T (within 1 (s .jobs) j)) c (λ j i. standing-number t s j z ((held j) .0 i .0)));
+      few = few (s .jobs) c (different-count c once) (in-each (λ j. T (within 1 (s .jobs) j)) c (λ j i. let n = stands-job t s j (z .size) ((held j) .0 i .0) in within-both 1 (s .jobs) j (n .least) (n .most)));
     }
   where
     h : ℕ
@@ -100,10 +96,7 @@ next-chain t s (suc j) z i p =
     x = holderOf (decode t) (suc j)
 
     bench : BenchIn s x
-    bench =
-        let w = holder-bench (decode t) ((sound-storable t (z .sound)) .valid) (suc j) p in
-        let b = (decode t) .benches in
-        record { least = within-low 1 b x w; most = omega (arith, within-high 1 b x w, z .size .board-benches) }
+    bench = board-bench x (z .size) (holder-bench (decode t) (z .storable .valid) (suc j) p)
 
     h : ℕ
     h = nth ((laid t) .heads) x 0

@@ -33,7 +33,7 @@ pass-limits benches jobs b j =
 pub sizing-fit : (s : Size) → Limits s → sizing (s .benches) (s .jobs) ≡ Fit s
 unfolding sizing
 sizing-fit s l =
-    rw (le-leb 1 (s .benches) (l .benches-least), le-leb (s .benches) 500 (l .benches-most), le-leb 1 (s .jobs) (l .jobs-least), le-leb (s .jobs) 4000 (l .jobs-most))
+    rw (le-leb 1 (s .benches) (l .benches-least), le-leb (s .benches) mostBenches (l .benches-most), le-leb 1 (s .jobs) (l .jobs-least), le-leb (s .jobs) mostJobs (l .jobs-most))
 
 -- .. others are refused ..
 pub sizing-misfit : (benches jobs : ℕ) → (Limits (record { benches = benches; jobs = jobs }) → ⊥) → sizing benches jobs ≡ Misfit
