@@ -47,7 +47,7 @@ pub fn holder(t: &[u8], s: Size, j: usize) -> usize
     requires { ⌜ JobIn s j ⌝ }
     ensures { λ r. ⌜ HolderOf (now (t .entry)) s j r ⌝ }
 {
-    records::read_record(t, s, j).holder_bench()
+    records::holder_at(t, s, j)
 }
 
 // Job j with these benches and this holder.

@@ -1,12 +1,13 @@
 -- What a written word does to the layout.
-use Prim.Native.Nat.{ℕ, zero, suc, _+_, _*_, _≤_, _<_}
+use Prim.Native.Nat.{ℕ, zero, suc, _+_, _-_, _*_, _≤_, _<_}
 use native.Mathlib.Omega.{arith}
 use mathlib.Core.Path.{_≡_, refl, sym, ap, _∙_, subst}
+use mathlib.Core.Logic.{_⊎_, ⊎-elim}
 use mathlib.Core.List.{List, [], _∷_, _++_, flatMap}
 use lib.ListN.{length, getD, set, take, drop, replicate, length-append, length-take, length-drop, length-replicate, take-append-drop}
 use lib.Seq.{take-set-le, take-set-lt, drop-set-lt, drop-set-add, getD-set-other, take-at, drop-at, drop-append-add}
 use Rattle.rules.specs.Lists.{nth, change}
-use Rattle.rules.specs.Table.{words, Entry, vacant, entriesIn, entryWords, Layout, layout, flat}
+use Rattle.rules.specs.Table.{words, Entry, vacant, holderIn, entriesIn, entryWords, Layout, layout, flat}
 use Rattle.rules.proofs.Basics.{nth-change-same, change-again, each-replicate}
 use Rattle.rules.proofs.Words.{words-append}
 use Rattle.rules.proofs.Sound.{two-more, length-words, entryFrom, head-at, entry-at}
@@ -273,3 +274,31 @@ head-read t s x r z b w =
       head = w .value ∙ sym (head-at (words t) x (b .least) (omega (arith, b .most, z .benches)));
       small = w .small;
     }
+
+-- the bench at place p among a record's two names
+named-word : (ws : List ℕ) (at p : ℕ) → 1 ≤ p → p ≤ 2 → nth (getD ws at 0 ∷ getD ws (at + 1) 0 ∷ []) p 0 ≡ getD ws (at + p - 1) 0
+named-word ws at zero l m = absurd (omega arith)
+named-word ws at (suc zero) l m = let e : at + 1 - 1 ≡ at = omega arith in rw e refl
+named-word ws at (suc (suc zero)) l m = let e : at + 2 - 1 ≡ at + 1 = omega arith in rw e refl
+named-word ws at (suc (suc (suc p))) l m = absurd (omega arith)
+
+-- no bench is at another place
+none-named : (a b p : ℕ) → (p < 1) ⊎ (2 < p) → nth (a ∷ b ∷ []) p 0 ≡ 0
+none-named a b zero o = refl
+none-named a b (suc zero) o = ⊎-elim (λ h. absurd (omega arith)) (λ h. absurd (omega arith)) o
+none-named a b (suc (suc zero)) o = ⊎-elim (λ h. absurd (omega arith)) (λ h. absurd (omega arith)) o
+none-named a b (suc (suc (suc p))) o = refl
+
+module _ (t : List ℕ) (s : Size) (j place : ℕ) (size : SizeOf t s) (job : JobIn s j) (holder : IsWord t (s .benches + 4 * j + 2) place) where
+  -- the holder word tells the bench at its place among the names
+  holder-place : holderIn (nth ((laid t) .entries) j vacant) ≡ nth (getD (words t) (s .benches + 4 * j) 0 ∷ getD (words t) (s .benches + 4 * j + 1) 0 ∷ []) place 0
+  holder-place = ap holderIn (record-words t s j size job) ∙ ap (λ p. nth (getD (words t) (s .benches + 4 * j) 0 ∷ getD (words t) (s .benches + 4 * j + 1) 0 ∷ []) p 0) (sym (holder .value))
+
+  -- .. which is one word
+  pub holder-word : (r : ℕ) → 1 ≤ place → place ≤ 2 → IsWord t (s .benches + 4 * j + place - 1) r → r ≡ holderIn (nth ((laid t) .entries) j vacant)
+  holder-word r l m w = w .value ∙ sym (holder-place ∙ named-word (words t) (s .benches + 4 * j) place l m)
+
+  -- .. or none
+  pub holder-none : (place < 1) ⊎ (2 < place) → 0 ≡ holderIn (nth ((laid t) .entries) j vacant)
+  holder-none o =
+      sym (holder-place ∙ none-named (getD (words t) (s .benches + 4 * j) 0) (getD (words t) (s .benches + 4 * j + 1) 0) place o)

@@ -2,6 +2,7 @@
 // What the parts mean together is said above: crate `form` checks it, crate `store` sees a board in it.
 pub mod header;
 pub mod heads;
+pub mod lent;
 pub mod records;
 pub mod size;
 pub mod words;

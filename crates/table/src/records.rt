@@ -62,6 +62,21 @@ pub fn read_record(t: &[u8], s: Size, j: usize) -> Record
     }
 }
 
+// The bench that job j's holder word tells, 0 for none. It reads that bench alone: no branch on which of the names it is, which a processor
+// would guess wrong every other time.
+pub fn holder_at(t: &[u8], s: Size, j: usize) -> usize
+    requires { ⌜ SizeOf (now t) s ⌝ }
+    requires { ⌜ JobIn s j ⌝ }
+    ensures { λ r. ⌜ r ≡ holderIn (recordIn (now (t .entry)) j) ⌝ }
+{
+    let at = record_at(s, j);
+    let place = words::read(t, at + 2);
+    if place < 1 || 2 < place {
+        return 0;
+    }
+    words::read(t, at + place - 1)
+}
+
 // Job j's record written anew.
 pub fn write_record(t: &mut [u8], s: Size, j: usize, r: Record)
     requires { ⌜ SizeOf (now t) s ⌝ }

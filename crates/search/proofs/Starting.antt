@@ -1,0 +1,287 @@
+-- Levelling's first bench: one search more, and what it tells of the benches of that load.
+use Prim.Native.Nat.{ℕ, zero, suc, _+_, _-_, _≤_, _<_}
+use native.Mathlib.Omega.{arith}
+use native.Mathlib.Decide.{ℕ-discrete, decLe, decLt}
+use mathlib.Core.Path.{_≡_, refl, sym, ap, subst, _∙_}
+use mathlib.Core.Logic.{_⊎_, inl, inr, ⊎-elim, _≢_, _↔_}
+use mathlib.Core.List.{List}
+use lib.Dec.{T, ltb}
+use lib.ListN.{length, replicate, length-replicate}
+use Rattle.rules.specs.Lists.{bit, within, total}
+use Rattle.rules.specs.Table.{mostBenches, mostJobs}
+use Rattle.rules.proofs.Basics.{within-low, within-high, within-both}
+use Rattle.rules.proofs.Counting.{bit-le, total-most}
+use Rattle.table.specs.Sizes.{Limits}
+use Rattle.table.specs.declared.size.Size.{Size}
+use Rattle.search.specs.Arrays.{at, Leads, Reached, here, step, Arcs, LoadsIn}
+use Rattle.search.specs.Lists.{LeastFrom, ListedBy, Joins, Ways}
+use Rattle.search.specs.Spread.{Queued, Spread}
+use Rattle.search.specs.Start.{QueuedIn, LowIn, AsHeavy, StartsLow, FirstStart, StartOf, Searching, Searched}
+use Rattle.search.proofs.Listing.{listed-ways, joins-leads}
+
+-- what is reached
+
+module _ {Joined : ℕ → ℕ → Type 0} where
+  -- what every step hands on holds of all that is reached
+  reached-all : (P : ℕ → Type 0) → ((z y : ℕ) → P z → Joined z y → P y) → (x y : ℕ) → P x → Reached Joined x y → P y
+  reached-all P on x _ p (here _) = p
+  reached-all P on x y p (step _ z _ j r) = reached-all P on z y (on x z p j) r
+
+  -- one step more
+  reached-more : (x y z : ℕ) → Reached Joined x y → Joined y z → Reached Joined x z
+  reached-more x _ z (here _) j = step x z z j (here z)
+  reached-more x y z (step _ w _ i r) j = step x w z i (reached-more w y z r j)
+
+  -- what a search from v found is reached from v
+  found-reached : {v found end : ℕ} {dist queue' dist' : List ℕ} → Spread Joined v found dist end queue' dist' → (n y : ℕ) → at dist y ≡ 0 → at dist' y ≡ suc n → Reached Joined v y
+  found-reached {v} s zero y e f = subst (Reached Joined v) (sym (s .only y e f)) (here v)
+  found-reached {v} s (suc n) y e f =
+      let (z, ez, fz, j) = s .comes y n e f in
+      reached-more v z y (found-reached s n z ez fz) j
+
+  -- a search puts benches into the queue
+  pub spread-queued : {x found end : ℕ} {dist queue' dist' loads : List ℕ} → Spread Joined x found dist end queue' dist' → ((y : ℕ) → T (within 1 mostBenches y) → at loads y ≤ mostJobs) → QueuedIn queue' found end loads
+  spread-queued {found = found} {end} {dist} {queue'} {dist'} s h =
+      record { most = most; bench = λ i l u. within-high 1 mostBenches (at queue' i) (bench i l u); few = λ i l u. h (at queue' i) (bench i l u) }
+    where
+      bench : (i : ℕ) → found ≤ i → i < end → T (within 1 mostBenches (at queue' i))
+      bench i l u = let (e, f) = s .new i l u in s .bench (at queue' i) e f
+
+      most : end ≤ mostBenches
+      most = rw (s .queued .counted) (total-most mostBenches (λ y. bit (ltb 0 (at dist' y))) (λ y. bit-le (ltb 0 (at dist' y))))
+
+-- a low load in the queue
+
+module _ (queue loads : List ℕ) (begin load : ℕ) where
+  -- the bench at place i has no low load either ..
+  pub low-turn : (i : ℕ) → (LowIn queue begin i loads load → ⊥) → load < at loads (at queue i) + 2 → LowIn queue begin (i + 1) loads load → ⊥
+  low-turn i none high (k, l, u, low) =
+      elim (ℕ-discrete k i) [ yes e ↦ omega (arith, ap (λ (n : ℕ). at loads (at queue n)) e) | no d ↦ none (k, l, omega arith, low) ]
+
+  -- .. and none has one at the end
+  pub low-end : (i end : ℕ) → (LowIn queue begin i loads load → ⊥) → end ≤ i → LowIn queue begin end loads load → ⊥
+  low-end i end none h (k, l, u, low) = none (k, l, omega arith, low)
+
+-- one search more
+
+-- the benches of this load before x were searched, and none of them starts an improving path; x is the next, 0 for none
+pub record Among (Joined : ℕ → ℕ → Type 0) (loads : List ℕ) (load x found : ℕ) (queue dist : List ℕ) : Type 0 where
+  pub searching : Searching Joined loads load found queue dist
+  pub next : x ≢ 0 → T (within 1 mostBenches x) × (at loads x ≡ load)
+  pub each : (w : ℕ) → T (within 1 mostBenches w) → at loads w ≡ load → ((x ≢ 0) × (x ≤ w)) ⊎ (StartsLow Joined loads w → ⊥)
+
+-- the least number of 1 to 500 with this load, from i on, is a bench of this load
+least-bench : {loads : List ℕ} {i load x : ℕ} → LeastFrom loads mostBenches i load x → 1 ≤ i → x ≢ 0 → T (within 1 mostBenches x) × (at loads x ≡ load)
+least-bench {x = x} h l d = let (a, b, e) = h .found d in (within-both 1 mostBenches x (omega arith) b, e)
+
+-- benches from x on, none where x is 0
+abbrev pub left : ℕ → ℕ
+left zero = 0
+left (suc x) = mostBenches - x
+
+-- after a bench of the list comes a later one or none ..
+pub left-less : {loads : List ℕ} {load x y : ℕ} → LeastFrom loads mostBenches (suc x) load y → T (within 1 mostBenches x) → left y < left x
+left-less {x = zero} h t = absurd t
+left-less {x = suc x} {y = zero} h t = omega (arith, within-high 1 mostBenches (suc x) t)
+left-less {x = suc x} {y = suc y} h t = omega (arith, h .found (λ e. omega arith) .0, within-high 1 mostBenches (suc x) t)
+
+-- .. no number above those of benches
+pub least-most : {loads : List ℕ} {i load x : ℕ} → LeastFrom loads mostBenches i load x → x ≤ mostBenches
+least-most {x = x} h = elim (ℕ-discrete x 0) [ yes e ↦ omega arith | no d ↦ h .found d .1 ]
+
+module _ {Joined : ℕ → ℕ → Type 0} {loads : List ℕ} where
+  -- no bench of this load was searched yet
+  pub among-start : {after : List ℕ} {load x found : ℕ} {queue dist : List ℕ} → AsHeavy loads after load x → Searching Joined loads load found queue dist → Among Joined loads load x found queue dist
+  among-start h s =
+      record { searching = s; next = least-bench (h .head) (omega arith); each = λ w t e. inl (h .head .least w (within-low 1 mostBenches w t) (within-high 1 mostBenches w t) e) }
+
+  -- what is found starts no improving path, if its load is not above this one
+  found-none : {load found : ℕ} {queue dist : List ℕ} → Searching Joined loads load found queue dist → (w : ℕ) → 1 ≤ at dist w → at loads w ≤ load → StartsLow Joined loads w → ⊥
+  found-none {dist = dist} s w h l (y, r, low) =
+      omega (arith, s .high y (reached-all (λ z. 1 ≤ at dist z) (λ z u. s .shut z u) w y h r))
+
+  module _ {load x found end : ℕ} {queue dist queue' dist' : List ℕ} (a : Among Joined loads load x found queue dist) (some : x ≢ 0) (s : Spread Joined x found dist end queue' dist') where
+    -- the search from x found a load that is lower by two or more: x is the first that starts an improving path
+    pub among-first : LowIn queue' found end loads load → FirstStart Joined loads x
+    among-first (i, l, u, low) =
+        let y = at queue' i in
+        let (e, f) = s .new i l u in
+        let (t, same) = a .next some in
+        record { bench = t; starts = (y, found-reached s (at dist' y - 1) y e (omega arith), omega (arith, same)); first = first }
+      where
+        first : (w : ℕ) → T (within 1 mostBenches w) → StartsLow Joined loads w → (at loads w < at loads x) ⊎ ((at loads x ≡ at loads w) × (x ≤ w))
+        first w t sw =
+            let same = a .next some .1 in
+            elim (decLt (at loads w) (at loads x)) [
+              | yes h ↦ inl h
+              | no h ↦ elim (ℕ-discrete (at loads w) load) [
+                | yes e ↦ ⊎-elim (λ p. inr (omega (arith, same, e), p .1)) (λ n. absurd (n sw)) (a .each w t e)
+                | no d ↦ absurd (a .searching .none w t (omega (arith, same)) sw)
+              ]
+            ]
+
+    module _ (none : LowIn queue' found end loads load → ⊥) where
+      -- it found none: what is found is handed on, and has at least the load less one ..
+      among-searching : Searching Joined loads load end queue' dist'
+      among-searching = record { queued = s .queued; shut = shut; high = high; none = a .searching .none }
+        where
+          shut : (z y : ℕ) → 1 ≤ at dist' z → Joined z y → 1 ≤ at dist' y
+          shut z y h j =
+              elim (ℕ-discrete (at dist z) 0) [
+                | yes e ↦ s .on z y e h j .0
+                | no d ↦ let old = a .searching .shut z y (omega arith) j in omega (arith, s .kept y old)
+              ]
+
+          high : (y : ℕ) → 1 ≤ at dist' y → load ≤ at loads y + 1
+          high y h =
+              elim (ℕ-discrete (at dist y) 0) [
+                | yes e ↦ new y (s .listed y e h)
+                | no d ↦ a .searching .high y (omega arith)
+              ]
+            where
+              new : (y : ℕ) → (i : ℕ) × (found ≤ i) × (i < end) × (at queue' i ≡ y) → load ≤ at loads y + 1
+              new y (i, l, u, e) =
+                  elim (decLe (at loads y + 2) load) [
+                    | yes low ↦ absurd (none (i, l, u, rw e low))
+                    | no h ↦ omega arith
+                  ]
+
+      -- .. so x starts none, and the next bench of this load is next
+      pub among-turn : {after : List ℕ} {x₀ : ℕ} → AsHeavy loads after load x₀ → Among Joined loads load (at after x) end queue' dist'
+      among-turn {after} h =
+          let (t, e) = a .next some in
+          record { searching = among-searching; next = least-bench (h .later x t e) (omega arith); each = each }
+        where
+          each : (w : ℕ) → T (within 1 mostBenches w) → at loads w ≡ load → ((at after x ≢ 0) × (at after x ≤ w)) ⊎ (StartsLow Joined loads w → ⊥)
+          each w t e = ⊎-elim (λ p. from (p .1)) inr (a .each w t e)
+            where
+              from : x ≤ w → ((at after x ≢ 0) × (at after x ≤ w)) ⊎ (StartsLow Joined loads w → ⊥)
+              from l =
+                  let (tx, ex) = a .next some in
+                  elim (ℕ-discrete x w) [
+                    | yes q ↦ inr (found-none among-searching w (subst (λ (z : ℕ). 1 ≤ at dist' z) q (s .here)) (omega arith))
+                    | no d ↦ inl (h .later x tx ex .least w (omega arith) (within-high 1 mostBenches w t) e)
+                  ]
+
+  -- the first is known
+  pub searched-first : {load x found : ℕ} {queue dist : List ℕ} → x ≢ 0 → FirstStart Joined loads x → Searched Joined loads load (record { start = x; found = found }) queue dist
+  searched-first d f = record { none = λ e. absurd (d e); some = λ _. f }
+
+  -- no bench of this load is left
+  pub among-end : {load x found : ℕ} {queue dist : List ℕ} → Among Joined loads load x found queue dist → x ≡ 0 → 1 ≤ load → Searched Joined loads load (record { start = 0; found = found }) queue dist
+  among-end {load} {x} {found} {queue} {dist} a z l =
+      record { none = λ e. record { queued = s .queued; shut = s .shut; high = λ y h. omega (arith, s .high y h); none = none }; some = λ d. absurd (d refl) }
+    where
+      s : Searching Joined loads load found queue dist
+      s = a .searching
+
+      none : (w : ℕ) → T (within 1 mostBenches w) → load - 1 < at loads w → StartsLow Joined loads w → ⊥
+      none w t h =
+          elim (ℕ-discrete (at loads w) load) [
+            | yes e ↦ ⊎-elim (λ p. absurd (p .0 z)) (λ n. n) (a .each w t e)
+            | no d ↦ s .none w t (omega arith)
+          ]
+
+-- arcs that lead the same way
+
+module _ {A B : ℕ → ℕ → Type 0} where
+  -- what is reached by one relation's steps is reached by another's, if that has the same steps
+  reached-same : ((x y : ℕ) → A x y → B x y) → (x y : ℕ) → Reached A x y → Reached B x y
+  reached-same f x _ (here _) = here x
+  reached-same f x y (step _ z _ j r) = step x z y (f x z j) (reached-same f z y r)
+
+  -- the same benches start improving paths ..
+  starts-same : (loads : List ℕ) → ((x y : ℕ) → A x y → B x y) → (x : ℕ) → StartsLow A loads x → StartsLow B loads x
+  starts-same loads f x (y, r, low) = (y, reached-same f x y r, low)
+
+-- .. so the first is the same
+start-same : {A B : ℕ → ℕ → Type 0} {loads : List ℕ} {r : ℕ} → ((x y : ℕ) → A x y ↔ B x y) → StartOf A loads r → StartOf B loads r
+start-same {loads = loads} {r} f s =
+    record { none = λ e w t h. s .none e w t (starts-same loads (λ x y. f x y .1) w h); some = λ d. let g = s .some d in record { bench = g .bench; starts = starts-same loads (λ x y. f x y .0) r (g .starts); first = λ w t h. g .first w t (starts-same loads (λ x y. f x y .1) w h) } }
+
+-- every load in turn
+
+-- an array of zeros has 0 everywhere ..
+blank : (n i : ℕ) → at (replicate n 0) i ≡ 0
+blank zero i = refl
+blank (suc n) zero = refl
+blank (suc n) (suc i) = blank n i
+
+-- .. and is as long as it was made
+blank-long : {n : ℕ} {a : List ℕ} → a ≡ replicate n 0 → length a ≡ n
+blank-long {n} e = ap length e ∙ length-replicate {A = ℕ} n 0
+
+-- nothing is found where no bench has a number
+none-queued : (queue dist : List ℕ) → length queue ≡ mostBenches + 1 → length dist ≡ mostBenches + 1 → ((y : ℕ) → at dist y ≡ 0) → Queued 0 queue dist
+none-queued queue dist q d z = record { queue-long = q; dist-long = d; counted = sym (none mostBenches); most = λ y. omega (arith, z y) }
+  where
+    none : (n : ℕ) → total n (λ y. bit (ltb 0 (at dist y))) ≡ 0
+    none zero = refl
+    none (suc n) = rw (none n, z (suc n)) refl
+
+-- what is least among 1 to n is least among more, if the others have other keys
+least-more : {key : List ℕ} {n i k r : ℕ} (m : ℕ) → LeastFrom key n i k r → n ≤ m → ((x : ℕ) → n < x → at key x ≢ k) → LeastFrom key m i k r
+least-more {key} {n} {i} {k} {r} m h l others =
+    record { found = λ d. let (a, b, e) = h .found d in (a, omega arith, e); least = least }
+  where
+    least : (x : ℕ) → i ≤ x → x ≤ m → at key x ≡ k → (r ≢ 0) × (r ≤ x)
+    least x a b e = elim (decLe x n) [ yes u ↦ h .least x a u e | no u ↦ absurd (others x (omega arith) e) ]
+
+-- listed benches are listed load by load
+listed-heavy : {s : Size} {loads heavy after : List ℕ} → Limits s → LoadsIn s loads → ListedBy (mostJobs + 1) (s .benches) loads heavy after → (load : ℕ) → 1 ≤ load → load ≤ mostJobs → AsHeavy loads after load (at heavy load)
+listed-heavy {s} {loads} {heavy} {after} limits l listed load p q =
+    record { few = λ y t. omega (arith, l .most y (within-low 1 mostBenches y t), limits .jobs-most); least = p; head = more 1 (at heavy load) (listed .heads load (omega arith)); later = later }
+  where
+    more : (i r : ℕ) → LeastFrom loads (s .benches) i load r → LeastFrom loads mostBenches i load r
+    more i r h = least-more mostBenches h (limits .benches-most) (λ x u e. omega (arith, l .beyond x u))
+
+    later : (y : ℕ) → T (within 1 mostBenches y) → at loads y ≡ load → LeastFrom loads mostBenches (suc y) load (at after y)
+    later y t e =
+        elim (decLe y (s .benches)) [
+          | yes u ↦ more (suc y) (at after y) (subst (λ (k : ℕ). LeastFrom loads (s .benches) (suc y) k (at after y)) e (listed .later y (within-low 1 mostBenches y t) u))
+          | no u ↦ absurd (omega (arith, l .beyond y (omega arith)))
+        ]
+
+-- numbers listed into an array of m zeros have keys below m
+pub listed-blank : {m n k : ℕ} {a key first next : List ℕ} → a ≡ replicate m 0 → n ≡ k → ListedBy (length a) n key first next → ListedBy m k key first next
+listed-blank {m} {a = a} e f l = let long : length a ≡ m = blank-long e in rw (long, f) at l
+
+-- the lists of arcs and of loads, and what is found: no bench above this load starts an improving path
+pub record Falling (jobs : ℕ) (from to loads first next heavy after : List ℕ) (load found : ℕ) (queue dist : List ℕ) : Type 0 where
+  pub ways : Ways first next to
+  pub same : (x y : ℕ) → Joins first next to x y ↔ Leads jobs from to x y
+  pub each : (k : ℕ) → 1 ≤ k → k ≤ mostJobs → AsHeavy loads after k (at heavy k)
+  pub most : load ≤ mostJobs
+  pub searching : Searching (Joins first next to) loads load found queue dist
+
+-- before the greatest load no bench was searched
+pub falling-start : {s : Size} {from to loads first next heavy after queue dist : List ℕ} → Limits s → Arcs s from to → LoadsIn s loads → ListedBy (mostBenches + 1) (s .jobs) from first next → ListedBy (mostJobs + 1) (s .benches) loads heavy after → queue ≡ replicate (mostBenches + 1) 0 → dist ≡ replicate (mostBenches + 1) 0 → Falling (s .jobs) from to loads first next heavy after (s .jobs) 0 queue dist
+falling-start {s} {from} {to} {loads} {first} {next} {heavy} {after} {queue} {dist} limits arcs l listed benches q d =
+    record { ways = listed-ways s from to first next limits arcs listed; same = joins-leads s from to first next limits arcs listed; each = listed-heavy limits l benches; most = limits .jobs-most; searching = record { queued = none-queued queue dist (blank-long q) (blank-long d) zeros; shut = λ z y h j. absurd (omega (arith, zeros z)); high = λ y h. absurd (omega (arith, zeros y)); none = λ w t h _. omega (arith, l .most w (within-low 1 mostBenches w t)) } }
+  where
+    zeros : (y : ℕ) → at dist y ≡ 0
+    zeros y = ap (λ (a : List ℕ). at a y) d ∙ blank (mostBenches + 1) y
+
+module _ {jobs : ℕ} {from to loads first next heavy after : List ℕ} {load found : ℕ} {queue dist : List ℕ} (f : Falling jobs from to loads first next heavy after load found queue dist) where
+  -- the benches of this load are listed
+  pub falling-heavy : 1 < load → AsHeavy loads after load (at heavy load)
+  falling-heavy h = f .each load (omega arith) (f .most)
+
+  -- one load less
+  pub falling-turn : {found' : ℕ} {queue' dist' : List ℕ} → Searching (Joins first next to) loads (load - 1) found' queue' dist' → Falling jobs from to loads first next heavy after (load - 1) found' queue' dist'
+  falling-turn g = record { ways = f .ways; same = f .same; each = f .each; most = omega (arith, f .most); searching = g }
+
+  -- the first is known ..
+  pub falling-some : {r : ℕ} → FirstStart (Joins first next to) loads r → r ≢ 0 → StartOf (Leads jobs from to) loads r
+  falling-some g d = start-same (f .same) (record { none = λ e. absurd (d e); some = λ _. g })
+
+  -- .. or no load is left of which a bench starts one
+  pub falling-none : load ≤ 1 → StartOf (Leads jobs from to) loads 0
+  falling-none h = start-same (f .same) (record { none = λ _. none; some = λ d. absurd (d refl) })
+    where
+      none : (w : ℕ) → T (within 1 mostBenches w) → StartsLow (Joins first next to) loads w → ⊥
+      none w t (y, r, low) = f .searching .none w t (omega arith) (y, r, low)
+
+-- a load above 1 can be lessened
+pub load-less : (load : ℕ) → 1 < load → (1 ≤ load) × (load - 1 < load)
+load-less load h = (omega arith, omega arith)

@@ -1,0 +1,500 @@
+-- Breadth-first search: one bench found, the benches behind one found, and the search as a whole.
+use Prim.Native.Nat.{ℕ, suc, _+_, _-_, _≤_, _<_}
+use native.Mathlib.Omega.{arith}
+use native.Mathlib.Decide.{ℕ-discrete, decLt, decLe}
+use mathlib.Core.Path.{_≡_, refl, sym, ap, subst, _∙_}
+use mathlib.Core.Logic.{_⊎_, inl, inr, ⊎-elim, _≢_, _↔_}
+use mathlib.Core.Bool.{Bool, cond}
+use mathlib.Core.List.{List}
+use lib.Dec.{T, eqb, ltb}
+use lib.ListN.{length, set, length-set}
+use lib.Seq.{getD-set-same, getD-set-other}
+use borrow.Author.Tests.{lt-ltb, le-ltb, eq-eqb, ne-eqb}
+use Rattle.rules.specs.Lists.{bit, within, total}
+use Rattle.rules.specs.Table.{mostBenches, mostJobs}
+use Rattle.rules.proofs.Basics.{Compared, same, other, compared, within-low, within-high}
+use Rattle.rules.proofs.Counting.{bit-le, total-most, total-but-one}
+use Rattle.search.specs.Arrays.{at}
+use Rattle.search.specs.Lists.{On, head, tail, Joins, Ways}
+use Rattle.search.specs.Spread.{Queued, FoundOne, Widened, Spread}
+
+-- the count of found benches
+
+-- as many as pass a test are at most all
+passed-few : (n found : ℕ) (test : ℕ → Bool) → found ≡ total n (λ y. bit (test y)) → found ≤ n
+passed-few n found test e = omega (arith, total-most n (λ y. bit (test y)) (λ y. bit-le (test y)))
+
+-- one more has a number after y got its first one
+counted-more : (n found y k : ℕ) (dist : List ℕ) → found ≡ total n (λ z. bit (ltb 0 (at dist z))) → 1 ≤ y → y ≤ n → y < length dist → at dist y ≡ 0 → 1 ≤ k → found + 1 ≡ total n (λ z. bit (ltb 0 (at (set dist y k) z)))
+counted-more n found y k dist e l u h zero-y one-k =
+    let f : ℕ → ℕ = λ z. bit (ltb 0 (at dist z)) in
+    let g : ℕ → ℕ = λ z. bit (ltb 0 (at (set dist y k) z)) in
+    let new = getD-set-same dist y k 0 h in
+    let was : f y ≡ 0 = ap bit (le-ltb 0 (at dist y) (omega arith)) in
+    let is : g y ≡ 1 = ap bit (lt-ltb 0 (at (set dist y k) y) (omega arith)) in
+    omega (arith, total-but-one n f g y l u (λ z i j d. sym (ap (λ (m : ℕ). bit (ltb 0 m)) (getD-set-other dist y z k 0 d))))
+
+-- not more benches are found than there are
+pub queued-few : {found : ℕ} {queue dist : List ℕ} → Queued found queue dist → found ≤ mostBenches
+queued-few {found} {queue} {dist} q = passed-few mostBenches found (λ y. ltb 0 (at dist y)) (q .counted)
+
+-- one number written
+
+-- what had no number and has one now is where it was written
+set-only : (dist : List ℕ) (y k z : ℕ) → at dist z ≡ 0 → 1 ≤ at (set dist y k) z → z ≡ y
+set-only dist y k z e h = elim (ℕ-discrete z y) [ yes i ↦ i | no d ↦ absurd (omega (arith, getD-set-other dist y z k 0 d)) ]
+
+-- a bench's number is the one written
+set-number : {found : ℕ} {queue dist : List ℕ} (y k : ℕ) → Queued found queue dist → T (within 1 mostBenches y) → at (set dist y k) y ≡ k
+set-number {found} {queue} {dist} y k q w = let h = within-high 1 mostBenches y w in getD-set-same dist y k 0 (omega (arith, q .dist-long))
+
+-- more benches found, with any numbers
+
+-- more benches have a number, and those stand in the queue after the others
+pub record Grown (found : ℕ) (queue dist : List ℕ) (found' : ℕ) (queue' dist' : List ℕ) : Type 0 where
+  pub queued : Queued found' queue' dist'
+  pub more : found ≤ found'
+  pub kept : (y : ℕ) → 1 ≤ at dist y → at dist' y ≡ at dist y
+  pub bench : (y : ℕ) → at dist y ≡ 0 → 1 ≤ at dist' y → T (within 1 mostBenches y)
+  pub before : (i : ℕ) → i < found → at queue' i ≡ at queue i
+  pub new : (i : ℕ) → found ≤ i → i < found' → (at dist (at queue' i) ≡ 0) × (1 ≤ at dist' (at queue' i))
+  pub listed : (y : ℕ) → at dist y ≡ 0 → 1 ≤ at dist' y → (i : ℕ) × (found ≤ i) × (i < found') × (at queue' i ≡ y)
+
+-- nothing changed
+grown-none : {found : ℕ} {queue dist : List ℕ} → Queued found queue dist → Grown found queue dist found queue dist
+grown-none q = record {
+  queued = q;
+  more = omega arith;
+  kept = λ y h. refl;
+  bench = λ y e h. absurd (omega arith);
+  before = λ i h. refl;
+  new = λ i l h. absurd (omega arith);
+  listed = λ y e h. absurd (omega arith);
+}
+
+-- y got its first number, and the next place
+grown-one : {found : ℕ} {queue dist : List ℕ} (y k : ℕ) → Queued found queue dist → T (within 1 mostBenches y) → at dist y ≡ 0 → 1 ≤ k → k ≤ found + 1 → Grown found queue dist (found + 1) (set queue found y) (set dist y k)
+grown-one {found} {queue} {dist} y k q w e l u =
+    let h = within-high 1 mostBenches y w in
+    let long = q .dist-long in
+    record {
+      queued = record {
+        queue-long = length-set queue found y ∙ q .queue-long;
+        dist-long = length-set dist y k ∙ q .dist-long;
+        counted = counted-more mostBenches found y k dist (q .counted) (within-low 1 mostBenches y w) h (omega arith) e l;
+        most = most;
+      };
+      more = omega arith;
+      kept = λ z m. getD-set-other dist y z k 0 (λ i. absurd (omega (arith, ap (at dist) i)));
+      bench = λ z m n. rw (set-only dist y k z m n) w;
+      before = λ i m. getD-set-other queue found i y 0 (λ j. absurd (omega arith));
+      new = new;
+      listed = λ z m n. (found, omega arith, omega arith, place ∙ sym (set-only dist y k z m n));
+    }
+  where
+    number : at (set dist y k) y ≡ k
+    number = set-number y k q w
+
+    place : at (set queue found y) found ≡ y
+    place = getD-set-same queue found y 0 (omega (arith, q .queue-long, queued-few q))
+
+    most : (z : ℕ) → at (set dist y k) z ≤ found + 1
+    most z = elim (ℕ-discrete z y) [
+      | yes i ↦ omega (arith, number, ap (at (set dist y k)) i)
+      | no d ↦ omega (arith, getD-set-other dist y z k 0 d, q .most z)
+    ]
+
+    new : (i : ℕ) → found ≤ i → i < found + 1 → (at dist (at (set queue found y) i) ≡ 0) × (1 ≤ at (set dist y k) (at (set queue found y) i))
+    new i m n = let j : i ≡ found = omega arith in rw (j, place) (e, omega (arith, number))
+
+module _ {found : ℕ} {queue dist : List ℕ} {found₁ : ℕ} {queue₁ dist₁ : List ℕ} {found₂ : ℕ} {queue₂ dist₂ : List ℕ} where
+  -- more twice is more
+  grown-more : Grown found queue dist found₁ queue₁ dist₁ → Grown found₁ queue₁ dist₁ found₂ queue₂ dist₂ → Grown found queue dist found₂ queue₂ dist₂
+  grown-more g h = record {
+    queued = h .queued;
+    more = omega (arith, g .more, h .more);
+    kept = λ y m. let e = g .kept y m in h .kept y (omega arith) ∙ e;
+    bench = bench;
+    before = λ i m. h .before i (omega (arith, g .more)) ∙ g .before i m;
+    new = new;
+    listed = listed;
+  }
+    where
+      bench : (y : ℕ) → at dist y ≡ 0 → 1 ≤ at dist₂ y → T (within 1 mostBenches y)
+      bench y e m = elim (ℕ-discrete (at dist₁ y) 0) [ yes z ↦ h .bench y z m | no d ↦ g .bench y e (omega arith) ]
+
+      new : (i : ℕ) → found ≤ i → i < found₂ → (at dist (at queue₂ i) ≡ 0) × (1 ≤ at dist₂ (at queue₂ i))
+      new i l m = elim (decLt i found₁) [
+        | yes u ↦ let n = g .new i l u in rw (h .before i u) (n .0, omega (arith, n .1, h .kept (at queue₁ i) (n .1)))
+        | no u ↦ let n = h .new i (omega arith) m in (blank (at queue₂ i) (n .0), n .1)
+      ]
+        where
+          blank : (y : ℕ) → at dist₁ y ≡ 0 → at dist y ≡ 0
+          blank y e = elim (ℕ-discrete (at dist y) 0) [ yes z ↦ z | no d ↦ absurd (omega (arith, g .kept y (omega arith))) ]
+
+      listed : (y : ℕ) → at dist y ≡ 0 → 1 ≤ at dist₂ y → (i : ℕ) × (found ≤ i) × (i < found₂) × (at queue₂ i ≡ y)
+      listed y e m = elim (ℕ-discrete (at dist₁ y) 0) [
+        | yes z ↦ let r = h .listed y z m in (r .0, omega (arith, r .1, g .more), r .2, r .3)
+        | no d ↦ let r = g .listed y e (omega arith) in (r .0, r .1, omega (arith, r .2, h .more), h .before (r .0) (r .2) ∙ r .3)
+      ]
+
+-- more benches found, each with number k
+
+module _ {Brought : ℕ → Type 0} {k found : ℕ} {queue dist : List ℕ} {found' : ℕ} {queue' dist' : List ℕ} where
+  -- the benches brought are found, and no others
+  widened-by : Grown found queue dist found' queue' dist' → ((y : ℕ) → Brought y → 1 ≤ at dist' y) → ((y : ℕ) → at dist y ≡ 0 → 1 ≤ at dist' y → Brought y × (at dist' y ≡ k)) → Widened Brought k found queue dist found' queue' dist'
+  widened-by g every only = record {
+    queued = g .queued;
+    more = g .more;
+    kept = g .kept;
+    every = every;
+    only = λ y e h. let r = only y e h in (g .bench y e h, r .0, r .1);
+    before = g .before;
+    new = g .new;
+    listed = g .listed;
+  }
+
+  -- .. whatever their number is
+  widened-grown : Widened Brought k found queue dist found' queue' dist' → Grown found queue dist found' queue' dist'
+  widened-grown w = record {
+    queued = w .queued;
+    more = w .more;
+    kept = w .kept;
+    bench = λ y e h. w .only y e h .0;
+    before = w .before;
+    new = w .new;
+    listed = w .listed;
+  }
+
+-- nothing is brought
+widened-none : {Brought : ℕ → Type 0} {k found : ℕ} {queue dist : List ℕ} → Queued found queue dist → ((y : ℕ) → Brought y → ⊥) → Widened Brought k found queue dist found queue dist
+widened-none q none = widened-by (grown-none q) (λ y b. absurd (none y b)) (λ y e h. absurd (omega arith))
+
+module _ {P Q : ℕ → Type 0} {k found : ℕ} {queue dist : List ℕ} {found₁ : ℕ} {queue₁ dist₁ : List ℕ} where
+  -- the same benches, said in another way
+  widened-as : ((y : ℕ) → P y ↔ Q y) → Widened P k found queue dist found₁ queue₁ dist₁ → Widened Q k found queue dist found₁ queue₁ dist₁
+  widened-as f w = widened-by (widened-grown w) (λ y b. w .every y (f y .1 b)) (λ y e h. let r = w .only y e h in (f y .0 (r .1), r .2))
+
+  -- the benches of the one or the other
+  widened-more : {found₂ : ℕ} {queue₂ dist₂ : List ℕ} → Widened P k found queue dist found₁ queue₁ dist₁ → Widened Q k found₁ queue₁ dist₁ found₂ queue₂ dist₂ → Widened (λ y. P y ⊎ Q y) k found queue dist found₂ queue₂ dist₂
+  widened-more {found₂} {queue₂} {dist₂} v w = widened-by (grown-more (widened-grown v) (widened-grown w)) every only
+    where
+      every : (y : ℕ) → P y ⊎ Q y → 1 ≤ at dist₂ y
+      every y (inl p) = let h = v .every y p in omega (arith, w .kept y h)
+      every y (inr p) = w .every y p
+
+      only : (y : ℕ) → at dist y ≡ 0 → 1 ≤ at dist₂ y → (P y ⊎ Q y) × (at dist₂ y ≡ k)
+      only y e h = elim (ℕ-discrete (at dist₁ y) 0) [
+        | yes z ↦ let r = w .only y z h in (inr (r .1), r .2)
+        | no d ↦
+            let u : 1 ≤ at dist₁ y = omega arith in
+            let r = v .only y e u in
+            (inl (r .1), w .kept y u ∙ r .2)
+      ]
+
+-- a bench that has a number keeps it ..
+pub find-had : {y k found : ℕ} {queue dist : List ℕ} → at dist y ≢ 0 → FoundOne y k found queue dist found queue dist
+find-had {y} {k} {found} {queue} {dist} d =
+    let e = ne-eqb (at dist y) 0 d in
+    record { count = omega (arith, ap bit e); number = rw e refl; place = rw e refl }
+
+-- .. and one that has none gets it
+pub find-new : {y k found : ℕ} {queue dist : List ℕ} → at dist y ≡ 0 → FoundOne y k found queue dist (found + 1) (set queue found y) (set dist y k)
+find-new {y} {k} {found} {queue} {dist} z =
+    let e = eq-eqb (at dist y) 0 z in
+    record { count = omega (arith, ap bit e); number = rw e refl; place = rw e refl }
+
+-- one bench found is that bench brought
+found-widened : {y k found : ℕ} {queue dist : List ℕ} {found' : ℕ} {queue' dist' : List ℕ} → FoundOne y k found queue dist found' queue' dist' → Queued found queue dist → T (within 1 mostBenches y) → 1 ≤ k → k ≤ found + 1 → Widened (λ z. z ≡ y) k found queue dist found' queue' dist'
+found-widened {y} {k} {found} {queue} {dist} {found'} {queue'} {dist'} f q w l u = go (compared (at dist y) 0) (f .count) (f .number) (f .place)
+  where
+    number : at (set dist y k) y ≡ k
+    number = set-number y k q w
+
+    go : {z : Bool} → Compared (at dist y) 0 z → found' ≡ found + bit z → dist' ≡ cond z (set dist y k) dist → queue' ≡ cond z (set queue found y) queue → Widened (λ z. z ≡ y) k found queue dist found' queue' dist'
+    go (same e) a b c =
+        rw (a, b, c) (widened-by (grown-one y k q w e l u) (λ z i. omega (arith, number, ap (at (set dist y k)) i)) (λ z m n. let i = set-only dist y k z m n in (i, ap (at (set dist y k)) i ∙ number)))
+    go (other d) a b c =
+        let e : found' ≡ found = omega arith in
+        rw (e, b, c) (widened-by (grown-none q) (λ z i. omega (arith, ap (at dist) i)) (λ z m n. absurd (omega arith)))
+
+-- lists that rise
+
+-- every number on the list that begins with a is the last, or below the next, which is at most m
+abbrev Rises : List ℕ → ℕ → ℕ → Type 0
+Rises next m a = (b : ℕ) → On next a b → (at next b ≡ 0) ⊎ ((b < at next b) × (at next b ≤ m))
+
+-- what comes after a number on the list is on it
+on-next : (next : List ℕ) (s a : ℕ) → On next s a → at next a ≢ 0 → On next s (at next a)
+on-next next _ _ (head s d) n = tail s (at next s) d (head (at next s) n)
+on-next next _ _ (tail s a d o) n = tail s (at next a) d (on-next next (at next s) a o n)
+
+module _ (next : List ℕ) (m : ℕ) where
+  -- the list after its first number rises too
+  rises-next : (a : ℕ) → a ≢ 0 → Rises next m a → Rises next m (at next a)
+  rises-next a d r b o = r b (tail a b d o)
+
+  -- the first number is below all that is not below the second
+  first-below : (a b : ℕ) → a ≢ 0 → Rises next m a → (at next a ≢ 0) × (at next a ≤ b) → a < b
+  first-below a b d r h = ⊎-elim (λ e. absurd (h .0 e)) (λ l. omega (arith, l .0, h .1)) (r a (head a d))
+
+  -- no number on the list is below its first ..
+  on-above : (a b : ℕ) → Rises next m a → On next a b → (a ≢ 0) × (a ≤ b)
+  on-above _ _ r (head a d) = (d, omega arith)
+  on-above _ _ r (tail a b d o) = (d, omega (arith, first-below a b d r (on-above (at next a) b (rises-next a d r) o)))
+
+  -- .. nor above m
+  on-most : (a b : ℕ) → a ≤ m → Rises next m a → On next a b → b ≤ m
+  on-most _ _ l r (head a d) = l
+  on-most _ _ l r (tail a b d o) =
+      on-most (at next a) b (⊎-elim (λ e. omega arith) (λ h. h .1) (r a (head a d))) (rises-next a d r) o
+
+  -- each number on the list is below a, or is a, or is at least what comes after a
+  on-split : (s a b : ℕ) → Rises next m s → On next s a → On next s b → (b < a) ⊎ (b ≡ a) ⊎ ((at next a ≢ 0) × (at next a ≤ b))
+  on-split _ _ _ r (head s d) (head _ e) = inr (inl refl)
+  on-split _ _ _ r (head s d) (tail _ b e o) = inr (inr (on-above (at next s) b (rises-next s d r) o))
+  on-split _ _ _ r (tail s a d p) (head _ e) = inl (first-below s a d r (on-above (at next s) a (rises-next s d r) p))
+  on-split _ _ _ r (tail s a d p) (tail _ b e o) = on-split (at next s) a b (rises-next s d r) p o
+
+-- the arcs on one bench's list, one by one
+
+-- an arc on the list that begins with s, and before a, leads to y; all are before 0
+abbrev Met : List ℕ → List ℕ → ℕ → ℕ → ℕ → Type 0
+Met next to s a y = (b : ℕ) × On next s b × ((a ≡ 0) ⊎ (b < a)) × (at to b ≡ y)
+
+-- the benches that arcs before a lead to are found; a is on the list, or its end
+pub record Expanding (first next to : List ℕ) (x k found : ℕ) (queue dist : List ℕ) (a found' : ℕ) (queue' dist' : List ℕ) : Type 0 where
+  pub widened : Widened (Met next to (at first x) a) k found queue dist found' queue' dist'
+  pub left : a ≢ 0 → On next (at first x) a
+
+-- how many arcs may be left from a on
+abbrev pub arcsLeft : ℕ → ℕ
+arcsLeft a = cond (eqb a 0) 0 (mostJobs + 1 - a)
+
+module _ {first next to : List ℕ} (x : ℕ) (ways : Ways first next to) (bench : T (within 1 mostBenches x)) where
+  -- the bench's list rises
+  rises : Rises next mostJobs (at first x)
+  rises b = ways .rise x b bench
+
+  -- at the first arc nothing is found
+  pub expand-start : {k found : ℕ} {queue dist : List ℕ} → Queued found queue dist → Expanding first next to x k found queue dist (at first x) found queue dist
+  expand-start q = record { widened = widened-none q none; left = λ d. head (at first x) d }
+    where
+      none : (y : ℕ) → Met next to (at first x) (at first x) y → ⊥
+      none y b =
+          let h = on-above next mostJobs (at first x) (b .0) rises (b .1) in
+          ⊎-elim (h .0) (λ l. omega (arith, l, h .1)) (b .2)
+
+  module _ {k found : ℕ} {queue dist : List ℕ} {a found' : ℕ} {queue' dist' : List ℕ} (e : Expanding first next to x k found queue dist a found' queue' dist') where
+    -- an arc to be taken is one of 1 to 4,000
+    pub expand-arc : a ≢ 0 → a ≤ mostJobs
+    expand-arc d = on-most next mostJobs (at first x) a (ways .heads x bench) rises (e .left d)
+
+    -- so is what comes after it, or it is the last
+    pub expand-after : a ≢ 0 → at next a ≤ mostJobs
+    expand-after d = ⊎-elim (λ z. omega arith) (λ l. l .1) (rises a (e .left d))
+
+    -- after it, fewer are left
+    pub expand-less : a ≢ 0 → arcsLeft (at next a) < arcsLeft a
+    expand-less d = rw (ne-eqb a 0 d) (⊎-elim (λ z. rw z (omega (arith, expand-arc d))) later (rises a (e .left d)))
+      where
+        later : (a < at next a) × (at next a ≤ mostJobs) → arcsLeft (at next a) < mostJobs + 1 - a
+        later l = rw (ne-eqb (at next a) 0 (λ z. omega (arith, l .0))) (omega (arith, l .0, l .1))
+
+    -- it leads to a bench
+    pub expand-leads : a ≢ 0 → T (within 1 mostBenches (at to a))
+    expand-leads d = ways .leads x a bench (e .left d)
+
+    -- its bench is found, and the next arc is to be taken
+    pub expand-turn : {found₂ : ℕ} {queue₂ dist₂ : List ℕ} → 1 ≤ k → k ≤ found + 1 → a ≢ 0 → FoundOne (at to a) k found' queue' dist' found₂ queue₂ dist₂ → Expanding first next to x k found queue dist (at next a) found₂ queue₂ dist₂
+    expand-turn l u d f =
+        let w = e .widened in
+        record {
+          widened = widened-as (λ y. (joined y, split y)) (widened-more w (found-widened f (w .queued) (expand-leads d) l (omega (arith, w .more))));
+          left = on-next next (at first x) a (e .left d);
+        }
+      where
+        s : ℕ
+        s = at first x
+
+        -- what is not above a is before the next arc
+        past : (b : ℕ) → b ≤ a → (at next a ≡ 0) ⊎ (b < at next a)
+        past b h = ⊎-elim (λ z. inl z) (λ m. inr (omega (arith, m .0))) (rises a (e .left d))
+
+        joined : (y : ℕ) → Met next to s a y ⊎ (y ≡ at to a) → Met next to s (at next a) y
+        joined y (inl (b, o, c, g)) = (b, o, past b (⊎-elim (λ z. absurd (d z)) (λ h. omega arith) c), g)
+        joined y (inr g) = (a, e .left d, past a (omega arith), sym g)
+
+        split : (y : ℕ) → Met next to s (at next a) y → Met next to s a y ⊎ (y ≡ at to a)
+        split y (b, o, c, g) = go (on-split next mostJobs s a b rises (e .left d) o)
+          where
+            go : (b < a) ⊎ (b ≡ a) ⊎ ((at next a ≢ 0) × (at next a ≤ b)) → Met next to s a y ⊎ (y ≡ at to a)
+            go (inl h) = inl (b, o, inr h, g)
+            go (inr (inl i)) = inr (sym g ∙ ap (at to) i)
+            go (inr (inr h)) = ⊎-elim (λ z. absurd (h .0 z)) (λ m. absurd (omega (arith, h .1))) c
+
+    -- at the end of the list all its arcs are taken
+    pub expand-end : a ≡ 0 → Widened (Joins first next to x) k found queue dist found' queue' dist'
+    expand-end z = widened-as (λ y. (λ m. (m .0, m .1, m .3), λ j. (j .0, j .1, inl z, j .2))) (e .widened)
+
+-- the search as a whole
+
+-- the benches found since the search began stand in the queue by their numbers, and those before place `done` have brought what their
+-- arcs lead to
+pub record Spreading (Joined : ℕ → ℕ → Type 0) (v found : ℕ) (queue dist : List ℕ) (end : ℕ) (queue' dist' : List ℕ) (done : ℕ) : Type 0 where
+  pub grown : Grown found queue dist end queue' dist'
+  pub begun : found ≤ done
+  pub here : 1 ≤ at dist' v
+  pub first : at dist v ≡ 0 → at dist' v ≡ 1
+  pub only : (y : ℕ) → at dist y ≡ 0 → at dist' y ≡ 1 → y ≡ v
+  pub comes : (y n : ℕ) → at dist y ≡ 0 → at dist' y ≡ suc (suc n) → (z : ℕ) × (at dist z ≡ 0) × (at dist' z ≡ suc n) × Joined z y
+  pub order : (i j : ℕ) → found ≤ i → i ≤ j → j < end → at dist' (at queue' i) ≤ at dist' (at queue' j)
+  pub near : (j : ℕ) → done ≤ j → j < end → at dist' (at queue' j) ≤ suc (at dist' (at queue' done))
+  pub expanded : (i y : ℕ) → found ≤ i → i < done → Joined (at queue' i) y → (1 ≤ at dist' y) × (at dist y ≡ 0 → at dist' y ≤ suc (at dist' (at queue' i)))
+
+-- v is found: it has number 1, or it was found before, and then nothing is new
+pub spread-start : {Joined : ℕ → ℕ → Type 0} {v found : ℕ} {queue dist : List ℕ} {end : ℕ} {queue' dist' : List ℕ} → Queued found queue dist → T (within 1 mostBenches v) → FoundOne v 1 found queue dist end queue' dist' → Spreading Joined v found queue dist end queue' dist' found
+spread-start {Joined} {v} {found} {queue} {dist} {end} {queue'} {dist'} q bench f = record {
+  grown = widened-grown w;
+  begun = omega arith;
+  here = w .every v refl;
+  first = λ e. w .only v e (w .every v refl) .2;
+  only = λ y e h. w .only y e (omega arith) .1;
+  comes = λ y n e h. absurd (omega (arith, w .only y e (omega arith) .2));
+  order = λ i j l m h. omega (arith, one i l (omega arith), one j (omega arith) h);
+  near = λ j l h. omega (arith, one j l h);
+  expanded = λ i y l h. absurd (omega arith);
+}
+  where
+    w : Widened (λ z. z ≡ v) 1 found queue dist end queue' dist'
+    w = found-widened f q bench (omega arith) (omega arith)
+
+    one : (i : ℕ) → found ≤ i → i < end → at dist' (at queue' i) ≡ 1
+    one i l h = let n = w .new i l h in w .only (at queue' i) (n .0) (n .1) .2
+
+module _ {Joined : ℕ → ℕ → Type 0} {v found : ℕ} {queue dist : List ℕ} {end : ℕ} {queue₁ dist₁ : List ℕ} {done : ℕ} (s : Spreading Joined v found queue dist end queue₁ dist₁ done) where
+  -- the queue is no longer than there are benches
+  pub spread-few : end ≤ mostBenches
+  spread-few = queued-few (s .grown .queued)
+
+  -- what stands in the queue at a place not yet done is a bench
+  pub spread-bench : done < end → T (within 1 mostBenches (at queue₁ done))
+  spread-bench h = let n = s .grown .new done (s .begun) h in s .grown .bench (at queue₁ done) (n .0) (n .1)
+
+  -- that bench brings in what its arcs lead to
+  pub spread-turn : {end₂ : ℕ} {queue₂ dist₂ : List ℕ} → done < end → Widened (Joined (at queue₁ done)) (suc (at dist₁ (at queue₁ done))) end queue₁ dist₁ end₂ queue₂ dist₂ → Spreading Joined v found queue dist end₂ queue₂ dist₂ (done + 1)
+  spread-turn {end₂} {queue₂} {dist₂} short w = record {
+    grown = both;
+    begun = omega (arith, s .begun);
+    here = omega (arith, s .here, w .kept v (s .here));
+    first = λ e. w .kept v (s .here) ∙ s .first e;
+    only = only;
+    comes = comes;
+    order = order;
+    near = λ j l h. omega (arith, most j (omega (arith, s .begun)) h, old done (s .begun) short, order done (done + 1) (s .begun) (omega arith) (omega arith));
+    expanded = expanded;
+  }
+    where
+      -- what was found before this turn, and with it
+      g : Grown found queue dist end queue₁ dist₁
+      g = s .grown
+
+      both : Grown found queue dist end₂ queue₂ dist₂
+      both = grown-more g (widened-grown w)
+
+      -- the bench, and the number of those it brings in
+      x : ℕ
+      x = at queue₁ done
+
+      k : ℕ
+      k = suc (at dist₁ x)
+
+      -- an old place has its bench and number still
+      old : (i : ℕ) → found ≤ i → i < end → at dist₂ (at queue₂ i) ≡ at dist₁ (at queue₁ i)
+      old i l h = rw (w .before i h) (w .kept (at queue₁ i) (g .new i l h .1))
+
+      -- a new place has number k
+      new : (i : ℕ) → end ≤ i → i < end₂ → at dist₂ (at queue₂ i) ≡ k
+      new i l h = let n = w .new i l h in w .only (at queue₂ i) (n .0) (n .1) .2
+
+      -- no number was above k ..
+      old-most : (i : ℕ) → found ≤ i → i < end → at dist₁ (at queue₁ i) ≤ k
+      old-most i l h = elim (decLe i done) [
+        | yes u ↦ omega (arith, s .order i done l u short)
+        | no u ↦ s .near i (omega arith) h
+      ]
+
+      -- .. and none is
+      most : (i : ℕ) → found ≤ i → i < end₂ → at dist₂ (at queue₂ i) ≤ k
+      most i l h = elim (decLt i end) [
+        | yes u ↦ omega (arith, old i l u, old-most i l u)
+        | no u ↦ omega (arith, new i (omega arith) h)
+      ]
+
+      -- so no bench found since the search began has a number above k
+      reached : (y : ℕ) → at dist y ≡ 0 → 1 ≤ at dist₂ y → at dist₂ y ≤ k
+      reached y e h =
+          let p = both .listed y e h in
+          omega (arith, most (p .0) (p .1) (p .2), ap (at dist₂) (p .3))
+
+      order : (i j : ℕ) → found ≤ i → i ≤ j → j < end₂ → at dist₂ (at queue₂ i) ≤ at dist₂ (at queue₂ j)
+      order i j l m h = elim (decLt j end) [
+        | yes u ↦ omega (arith, old i l (omega arith), old j (omega arith) u, s .order i j l m u)
+        | no u ↦ omega (arith, most i l (omega arith), new j (omega arith) h)
+      ]
+
+      only : (y : ℕ) → at dist y ≡ 0 → at dist₂ y ≡ 1 → y ≡ v
+      only y e h = elim (ℕ-discrete (at dist₁ y) 0) [
+        | yes z ↦ absurd (omega (arith, w .only y z (omega arith) .2, g .new done (s .begun) short .1))
+        | no d ↦ s .only y e (omega (arith, w .kept y (omega arith)))
+      ]
+
+      comes : (y n : ℕ) → at dist y ≡ 0 → at dist₂ y ≡ suc (suc n) → (z : ℕ) × (at dist z ≡ 0) × (at dist₂ z ≡ suc n) × Joined z y
+      comes y n e h = elim (ℕ-discrete (at dist₁ y) 0) [
+        | yes z ↦
+            let r = w .only y z (omega arith) in
+            let b = g .new done (s .begun) short in
+            (x, b .0, omega (arith, w .kept x (b .1), r .2), r .1)
+        | no d ↦
+            let r = s .comes y n e (omega (arith, w .kept y (omega arith))) in
+            (r .0, r .1, w .kept (r .0) (omega (arith, r .2)) ∙ r .2, r .3)
+      ]
+
+      expanded : (i y : ℕ) → found ≤ i → i < done + 1 → Joined (at queue₂ i) y → (1 ≤ at dist₂ y) × (at dist y ≡ 0 → at dist₂ y ≤ suc (at dist₂ (at queue₂ i)))
+      expanded i y l h j =
+          let b = old i l (omega arith) in
+          let p = subst (λ (z : ℕ). Joined z y) (w .before i (omega arith)) j in
+          elim (ℕ-discrete i done) [
+            | yes u ↦
+                let n = ap (λ (i : ℕ). at dist₁ (at queue₁ i)) u in
+                let m = w .every y (subst (λ (i : ℕ). Joined (at queue₁ i) y) u p) in
+                (m, λ e. omega (arith, reached y e m))
+            | no u ↦
+                let r = s .expanded i y l (omega arith) p in
+                let same = w .kept y (r .0) in
+                (omega (arith, r .0), λ e. omega (arith, r .1 e))
+          ]
+
+  -- all in the queue are done
+  pub spread-end : end ≤ done → Spread Joined v found dist end queue₁ dist₁
+  spread-end h =
+      let g = s .grown in
+      record {
+        queued = g .queued;
+        more = g .more;
+        kept = g .kept;
+        bench = g .bench;
+        here = s .here;
+        first = s .first;
+        only = s .only;
+        comes = s .comes;
+        on = on;
+        new = g .new;
+        listed = g .listed;
+      }
+    where
+      on : (z y : ℕ) → at dist z ≡ 0 → 1 ≤ at dist₁ z → Joined z y → (1 ≤ at dist₁ y) × (at dist y ≡ 0 → at dist₁ y ≤ suc (at dist₁ z))
+      on z y e l j =
+          let p = s .grown .listed z e l in
+          let r = s .expanded (p .0) y (p .1) (omega (arith, p .2)) (subst (λ (z : ℕ). Joined z y) (sym (p .3)) j) in
+          (r .0, λ b. omega (arith, r .1 b, ap (at dist₁) (p .3)))

@@ -1,0 +1,66 @@
+-- The arcs are listed, and one search along the lists finds all that v reaches.
+use Prim.Native.Nat.{_+_}
+use borrow.Author.Needs.{needs}
+use Rattle.rules.specs.Table.{mostBenches}
+use Rattle.search.specs.Lists.{ListedBy}
+use Rattle.search.proofs.Listing.{listed-ways}
+use Rattle.search.proofs.Routing.{zeros-listable, zeros-listed, bench-within, zeros-queued, spread-distances}
+use Rattle.search.proofs.spread.distances.Statement.{statement}
+use Rattle.search.proofs.spread.distances.Tie as tie
+
+benches-requires : tie.Need-benches-requires
+benches-requires c κs = search needs
+
+jobs-requires : tie.Need-jobs-requires
+jobs-requires c κs = search needs
+
+jobs-requires-2 : tie.Need-jobs-requires-2
+jobs-requires-2 c κs = search needs
+
+slice-aggregate-list-by : tie.Need-slice-aggregate-list-by
+slice-aggregate-list-by c = search needs
+
+slice-aggregate-list-by-2 : tie.Need-slice-aggregate-list-by-2
+slice-aggregate-list-by-2 c = search needs
+
+list-by-requires : tie.Need-list-by-requires
+list-by-requires c κs =
+    let p = c .before .before .before .before .before .before .pre in
+    zeros-listable (p .0) (p .1 .0) (c .before .before .before .before .before .benches .ensures) (c .before .before .before .before .jobs .ensures) (c .before .before .before .jobs2 .ensures)
+
+benches-requires-2 : tie.Need-benches-requires-2
+benches-requires-2 c κs = search needs
+
+-- the arcs are listed by the bench that they leave
+listed : (c : tie.After-list-by) → let a = c .before .before .before .before .before .before .before .args in ListedBy (mostBenches + 1) (a .s .jobs) (a .from .now) (c .list-by .last .1 .1 .0) (c .list-by .last .1 .1 .1 .0)
+listed c = zeros-listed (c .before .before .before .before .before .before .benches .ensures) (c .before .before .before .before .jobs2 .ensures) (c .list-by .ensures)
+
+spread-requires : tie.Need-spread-requires
+spread-requires c κs =
+    let k = c .before .before .before .before .before .before .before in
+    let start = c .before .before .before .before .before .before .before .before .before .before .before .before .before .before in
+    let a = start .args in
+    let p = start .pre in
+    (listed-ways (a .s) (a .from .now) (a .to .now) (k .list-by .last .1 .1 .0) (k .list-by .last .1 .1 .1 .0) (p .0) (p .1 .0) (listed k), (bench-within (a .s) (a .v) (p .0) (p .1 .1 .0), zeros-queued (c .before .before .before .before .benches2 .ensures) (p .1 .1 .1)))
+
+returns : tie.Need-returns
+returns c =
+    let k = c .before .before .before .before .before .before .before .before in
+    let start = c .before .before .before .before .before .before .before .before .before .before .before .before .before .before .before in
+    let a = start .args in
+    let p = start .pre in
+    spread-distances (a .s) (a .from .now) (a .to .now) (k .list-by .last .1 .1 .0) (k .list-by .last .1 .1 .1 .0) (p .0) (p .1 .0) (listed k) (a .v) (p .1 .1 .0) (c .spread .result) (c .spread .last .1 .1 .1 .1 .1 .0) (c .spread .last .1 .1 .1 .1 .1 .1 .0) (rw (p .1 .1 .1) at (c .spread .ensures))
+
+pub distances-spec : {M : Type 1} → statement M
+distances-spec =
+    tie.close
+    (tie.spec
+    benches-requires
+    jobs-requires
+    jobs-requires-2
+    slice-aggregate-list-by
+    slice-aggregate-list-by-2
+    list-by-requires
+    benches-requires-2
+    spread-requires
+    returns)

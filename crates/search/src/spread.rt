@@ -1,0 +1,106 @@
+// Breadth-first search. What is found stands in a queue, in the order of finding; each found bench has a number in `dist`, which is
+// one more than its distance, and 0 means "not found". What earlier searches found stays, and is not searched again.
+ghost use Prim.Native.Nat.{suc, _≤_, _+_};
+ghost use mathlib.Core.Path.{_≡_};
+ghost use lib.Dec.{T};
+ghost use lib.ListN.{replicate};
+ghost use Rattle.rules.specs.Lists.{within};
+ghost use Rattle.rules.specs.Table.{mostBenches};
+ghost use Rattle.table.specs.Sizes.{Limits, BenchIn};
+ghost use Rattle.search.specs.Arrays.{at, Arcs};
+ghost use Rattle.search.specs.Lists.{Ways, Joins};
+ghost use Rattle.search.specs.Spread.{Queued, FoundOne, Widened, Spread, Distances};
+use crate::lists;
+use crate::scratch;
+use table::size::Size;
+
+// Bench y with number k at the end of the queue, unless it was found before; how many are found then.
+fn find(
+    y: usize,
+    k: u16,
+    found: usize,
+    queue: &mut [u16; Size::MOST_BENCHES + 1],
+    dist: &mut [u16; Size::MOST_BENCHES + 1],
+) -> usize
+    requires { ⌜ y ≤ mostBenches ⌝ }
+    requires { ⌜ found ≤ mostBenches ⌝ }
+    ensures { λ r. ⌜ FoundOne y k found (now (queue .entry)) (now (dist .entry)) r (now (queue .exit)) (now (dist .exit)) ⌝ }
+{
+    if dist[y] != 0 {
+        return found;
+    }
+    dist[y] = k;
+    queue[found] = y as u16;
+    found + 1
+}
+
+// Every bench that an arc from x leads to is found, at latest one farther than x.
+fn expand(
+    first: &[u16; Size::MOST_BENCHES + 1],
+    next: &[u16; Size::MOST_JOBS + 1],
+    to: &[u16; Size::MOST_JOBS + 1],
+    x: usize,
+    found: usize,
+    queue: &mut [u16; Size::MOST_BENCHES + 1],
+    dist: &mut [u16; Size::MOST_BENCHES + 1],
+) -> usize
+    requires { ⌜ Ways (now first) (now next) (now to) ⌝ }
+    requires { ⌜ T (within 1 mostBenches x) ⌝ }
+    requires { ⌜ Queued found (now queue) (now dist) ⌝ }
+    ensures { λ r. ⌜ Widened (Joins (now (first .entry)) (now (next .entry)) (now (to .entry)) x) (suc (at (now (dist .entry)) x)) found (now (queue .entry)) (now (dist .entry)) r (now (queue .exit)) (now (dist .exit)) ⌝ }
+{
+    let k = dist[x] + 1;
+    let mut found = found;
+    let mut a = first[x] as usize;
+    while a != 0 {
+        found = find(to[a] as usize, k, found, queue, dist);
+        a = next[a] as usize;
+    }
+    found
+}
+
+// Every bench that v reaches, other than through benches found before, is found; how many are found then.
+pub fn spread(
+    first: &[u16; Size::MOST_BENCHES + 1],
+    next: &[u16; Size::MOST_JOBS + 1],
+    to: &[u16; Size::MOST_JOBS + 1],
+    v: usize,
+    found: usize,
+    queue: &mut [u16; Size::MOST_BENCHES + 1],
+    dist: &mut [u16; Size::MOST_BENCHES + 1],
+) -> usize
+    requires { ⌜ Ways (now first) (now next) (now to) ⌝ }
+    requires { ⌜ T (within 1 mostBenches v) ⌝ }
+    requires { ⌜ Queued found (now queue) (now dist) ⌝ }
+    ensures { λ r. ⌜ Spread (Joins (now (first .entry)) (now (next .entry)) (now (to .entry))) v found (now (dist .entry)) r (now (queue .exit)) (now (dist .exit)) ⌝ }
+{
+    let mut end = find(v, 1, found, queue, dist);
+    let mut done = found;
+    while done < end {
+        let x = queue[done] as usize;
+        end = expand(first, next, to, x, end, queue, dist);
+        done += 1;
+    }
+    end
+}
+
+// The distances from v along arcs, each and one; 0 where v does not reach. With `from` and `to` exchanged, the distances to v.
+pub fn distances(
+    s: Size,
+    from: &[u16; Size::MOST_JOBS + 1],
+    to: &[u16; Size::MOST_JOBS + 1],
+    v: usize,
+    dist: &mut [u16; Size::MOST_BENCHES + 1],
+)
+    requires { ⌜ Limits s ⌝ }
+    requires { ⌜ Arcs s (now from) (now to) ⌝ }
+    requires { ⌜ BenchIn s v ⌝ }
+    requires { ⌜ now dist ≡ replicate (mostBenches + 1) 0 ⌝ }
+    ensures { λ _. ⌜ Distances s (now (from .entry)) (now (to .entry)) v (now (dist .exit)) ⌝ }
+{
+    let mut first = scratch::benches();
+    let mut next = scratch::jobs();
+    lists::list_by(s.jobs(), from, &mut first, &mut next);
+    let mut queue = scratch::benches();
+    spread(&first, &next, to, v, 0, &mut queue, dist);
+}
