@@ -1,0 +1,4 @@
+-- Jobs as arcs, and the path that the rule names.
+pub mod AsArcs
+pub mod Handing
+pub mod Chosen

@@ -1,0 +1,67 @@
+-- The search to x, the first bench by the closing's order, and the route from it handed over.
+use borrow.Author.Needs.{needs}
+use Rattle.search.proofs.Routing.{distances-fall}
+use Rattle.paths.proofs.AsArcs.{loads-in, arcs-back}
+use Rattle.paths.proofs.Chosen.{to-none, to-some}
+use Rattle.paths.proofs.turns.turn_to.Statement.{statement}
+use Rattle.paths.proofs.turns.turn_to.Tie as tie
+
+benches-requires : tie.Need-benches-requires
+benches-requires c κs = search needs
+
+distances-requires : tie.Need-distances-requires
+distances-requires c κs =
+    let start = c .before .before .before in
+    let a = start .args in
+    let (kept, (arcs, (loaded, bench))) = start .pre in
+    (kept .size .limits, (arcs-back (a .t .now) (a .s) (a .from .now) (a .to .now) kept arcs, (bench, c .before .benches .ensures)))
+
+choose-requires : tie.Need-choose-requires
+choose-requires c κs =
+    let start = c .before .before .before .before .before in
+    let a = start .args in
+    let (kept, (arcs, (loaded, bench))) = start .pre in
+    (kept .size .limits, (loads-in (a .t .now) (a .s) (a .loads .now) kept loaded, bench))
+
+returns : tie.Need-returns
+returns c =
+    let start = c .before .before .before .before .before .before .before in
+    let a = start .args in
+    let (kept, (arcs, (loaded, bench))) = start .pre in
+    let near = c .before .before .before .distances in
+    to-none (a .t .now) (a .s) (a .from .now) (a .to .now) (a .loads .now) kept arcs loaded (a .x) bench (near .last .1 .1 .1 .1 .0) (near .ensures) (rw (c .if1 .taken) at (c .before .choose .ensures))
+
+turn-along-requires : tie.Need-turn-along-requires
+turn-along-requires c κs =
+    let start = c .before .before .before .before .before .before .before .before .before in
+    let a = start .args in
+    let (kept, (arcs, (loaded, bench))) = start .pre in
+    let near = c .before .before .before .before .before .distances in
+    let first = c .before .before .before .choose .ensures .some (c .before .before .if1 .left) in
+    (kept, (arcs, (distances-fall (a .s) (a .from .now) (a .to .now) (a .x) (near .last .1 .1 .1 .1 .0) (near .ensures), first .is .reached)))
+
+same-length : tie.Need-same-length
+same-length c = search needs
+
+returns-2 : tie.Need-returns-2
+returns-2 c =
+    let start = c .before .before .before .before .before .before .before .before .before .before .before .before in
+    let a = start .args in
+    let (kept, (arcs, (loaded, bench))) = start .pre in
+    let near = c .before .before .before .before .before .before .before .before .distances in
+    let z = c .before .before .before .before .before .before .choose in
+    let left = c .before .before .before .before .before .if1 .left in
+    let along = c .before .before .turn-along in
+    to-some (a .t .now) (a .s) (a .from .now) (a .to .now) (a .loads .now) kept arcs loaded (a .x) bench (near .last .1 .1 .1 .1 .0) (along .last .0) (z .result) (along .result) (near .ensures) (z .ensures) left (along .ensures)
+
+pub turn-to-spec : {M : Type 1} → statement M
+turn-to-spec =
+    tie.close
+    (tie.spec
+    benches-requires
+    distances-requires
+    choose-requires
+    returns
+    turn-along-requires
+    same-length
+    returns-2)

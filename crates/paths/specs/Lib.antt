@@ -1,0 +1,3 @@
+-- What the searches on a board promise.
+pub mod Arcs
+pub mod Turns
