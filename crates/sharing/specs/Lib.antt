@@ -1,0 +1,3 @@
+-- What arrival, closing and levelling leave.
+pub mod Changes
+pub mod Levels
