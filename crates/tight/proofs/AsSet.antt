@@ -1,0 +1,351 @@
+-- Marks as a set: counted, written to a list, and the tight set of a board.
+use Prim.Native.Nat.{ℕ, zero, suc, _+_, _*_, _/_, _%_, _≤_, _<_}
+use native.Mathlib.Omega.{arith}
+use mathlib.Core.Path.{_≡_, refl, sym, ap, subst, _∙_}
+use mathlib.Core.Logic.{_↔_}
+use mathlib.Core.Bool.{Bool, true, false, cond, not, false≢true}
+use mathlib.Core.List.{List, [], _∷_, _++_, append-nil}
+use lib.Dec.{T, eqb}
+use lib.ListN.{length, getD, drop, replicate, length-append, length-replicate}
+use Rattle.rules.specs.Lists.{bit, within, count, member, rising, total, keep, In}
+use Rattle.rules.specs.Board.{Board, Valid, load, Shares}
+use Rattle.rules.specs.Paths.{Step, stepBy, steps}
+use Rattle.rules.specs.Sharing.{tightSet, inside}
+use Rattle.rules.specs.Table.{mostBenches, mostJobs, decode, bytesOf}
+use Rattle.rules.proofs.Basics.{never→false, Compared, same, other, compared, T-eqb, within-low, within-high, within-both, in-each, keep-in, member-in, Member, is-in, not-in, membered, member-marked, length-shares, length-keep, length-rising}
+use Rattle.rules.proofs.Counting.{bit-other, total-same, total-count, keep-counts}
+use Rattle.rules.proofs.Paths.{is-step}
+use Rattle.rules.proofs.Sets.{inside-skips, inside-counts}
+use Rattle.rules.proofs.Sound.{two-more, two-more-high}
+use Rattle.rules.proofs.TightSet.{tight-marked, tight-bench, tight-reached}
+use Rattle.rules.proofs.Walks.{Reach, reach-here, reach-first, reach-more, reach-all}
+use Rattle.table.specs.Bytes.{setWord}
+use Rattle.table.specs.Sizes.{Limits, BenchIn}
+use Rattle.table.specs.declared.size.Size.{Size}
+use Rattle.table.proofs.Bytes.{length-setWord}
+use Rattle.store.specs.View.{Kept, Loaded}
+use Rattle.search.specs.Arrays.{at, Leads, Arcs, Reached, here, step, LoadsIn}
+use Rattle.search.specs.Lists.{ListedBy, Joins}
+use Rattle.search.proofs.Listing.{joins-leads}
+use Rattle.paths.specs.Arcs.{ArcsOf}
+use Rattle.paths.proofs.AsArcs.{arcs-forth, arc-step, step-arc}
+use Rattle.tight.specs.Marks.{mark, Brings, marked, Measured, TightSet}
+use Rattle.tight.specs.declared.set.Extent.{Extent}
+
+-- what is marked of the benches 1 to n
+
+-- the numbers of 1 to n that pass the test
+abbrev pub kept : (ℕ → Bool) → ℕ → List ℕ
+kept p n = keep p (rising 1 n)
+
+-- rising numbers end with the last
+rising-last : (i n last : ℕ) → last ≡ i + n → rising i (suc n) ≡ rising i n ++ (last ∷ [])
+rising-last i zero last e = ap (λ (x : ℕ). x ∷ []) (omega arith)
+rising-last i (suc n) last e = ap (λ (l : List ℕ). i ∷ l) (rising-last (suc i) n last (omega arith))
+
+-- of a list before another what passes comes first
+keep-append : (p : ℕ → Bool) (k l : List ℕ) → keep p (k ++ l) ≡ keep p k ++ keep p l
+keep-append p [] l = refl
+keep-append p (x ∷ k) l = go (p x) (keep-append p k l)
+  where
+    go : (z : Bool) → keep p (k ++ l) ≡ keep p k ++ keep p l → cond z (x ∷ keep p (k ++ l)) (keep p (k ++ l)) ≡ cond z (x ∷ keep p k) (keep p k) ++ keep p l
+    go true e = ap (λ (m : List ℕ). x ∷ m) e
+    go false e = e
+
+-- one number more: it comes last if it passes
+kept-next : (p : ℕ → Bool) (n : ℕ) → kept p (suc n) ≡ kept p n ++ cond (p (suc n)) (suc n ∷ []) []
+kept-next p n = ap (keep p) (rising-last 1 n (suc n) (omega arith)) ∙ keep-append p (rising 1 n) (suc n ∷ [])
+
+-- .. and then they are one more
+kept-counts : (p : ℕ → Bool) (n : ℕ) → length (kept p (suc n)) ≡ length (kept p n) + bit (p (suc n))
+kept-counts p n =
+    omega (arith, ap length (kept-next p n), length-append (kept p n) (keep p (suc n ∷ [])), keep-counts p (suc n) [])
+
+-- they are not more than n
+pub kept-few : (p : ℕ → Bool) (n : ℕ) → length (kept p n) ≤ n
+kept-few p n = omega (arith, length-keep p (rising 1 n), length-rising 1 n)
+
+-- a wider range has no fewer
+kept-more : (p : ℕ → Bool) (n m : ℕ) → n ≤ m → length (kept p n) ≤ length (kept p m)
+kept-more p n zero l = let e : n ≡ 0 = omega arith in omega (arith, ap (λ (k : ℕ). length (kept p k)) e)
+kept-more p n (suc m) l = go (compared n (suc m)) (λ h. kept-more p n m h)
+  where
+    go : {z : Bool} → Compared n (suc m) z → (n ≤ m → length (kept p n) ≤ length (kept p m)) → length (kept p n) ≤ length (kept p (suc m))
+    go (same e) ih = omega (arith, ap (λ (k : ℕ). length (kept p k)) e)
+    go (other d) ih = omega (arith, ih (omega arith), kept-counts p m)
+
+-- counting
+
+-- the load of a marked bench
+abbrev pub markedLoad : List ℕ → List Bool → ℕ → ℕ
+markedLoad loads marks y = cond (mark marks y) (at loads y) 0
+
+-- the benches before x are counted, and their loads added up
+pub record Measuring (loads : List ℕ) (marks : List Bool) (count jobs x : ℕ) : Type 0 where
+  pub done : ℕ
+  pub next : x ≡ suc done
+  pub counted : count ≡ length (kept (mark marks) done)
+  pub added : jobs ≡ total done (markedLoad loads marks)
+
+-- no bench is counted yet
+pub measure-start : (loads : List ℕ) (marks : List Bool) → Measuring loads marks 0 0 1
+measure-start loads marks = record { done = 0; next = refl; counted = refl; added = refl }
+
+-- bench x is counted if it is marked
+pub measure-turn : {loads : List ℕ} {marks : List Bool} {count jobs x : ℕ} (count' jobs' : ℕ) → Measuring loads marks count jobs x → count' ≡ count + bit (mark marks x) → jobs' ≡ jobs + markedLoad loads marks x → Measuring loads marks count' jobs' (x + 1)
+measure-turn {loads} {marks} {count} {jobs} {x} count' jobs' m e f =
+    let g = rw (m .next) at e in
+    let j = rw (m .next) at f in
+    record {
+      done = suc (m .done);
+      next = omega (arith, m .next);
+      counted = omega (arith, m .counted, kept-counts (mark marks) (m .done));
+      added = omega (arith, m .added);
+    }
+
+-- no load is above the most jobs, so the sum has room
+pub measure-room : {loads : List ℕ} {marks : List Bool} {count jobs x : ℕ} (s : Size) → Limits s → LoadsIn s loads → Measuring loads marks count jobs x → jobs + at loads x ≤ mostJobs * x
+measure-room {loads} {marks} {count} {jobs} {x} s l i m =
+    omega (arith, m .next, m .added, summed (m .done), i .most x (omega (arith, m .next)), l .jobs-most)
+  where
+    one : (y : ℕ) → 1 ≤ y → (z : Bool) → cond z (at loads y) 0 ≤ mostJobs
+    one y u true = omega (arith, i .most y u, l .jobs-most)
+    one y u false = omega arith
+
+    summed : (n : ℕ) → total n (markedLoad loads marks) ≤ mostJobs * n
+    summed zero = omega arith
+    summed (suc n) = omega (arith, summed n, one (suc n) (omega arith) (mark marks (suc n)))
+
+-- all benches are counted
+pub measure-end : {s : Size} {loads : List ℕ} {marks : List Bool} {count jobs x : ℕ} → Measuring loads marks count jobs x → x ≡ s .benches + 1 → Measured s loads marks (record { benches = count; jobs = jobs })
+measure-end {s} m e =
+    let d : m .done ≡ s .benches = omega (arith, m .next) in
+    record { benches = rw d at (m .counted); jobs = rw d at (m .added) }
+
+-- writing
+
+-- the numbers as words at the list's beginning
+abbrev written : List ℕ → List ℕ → List ℕ
+written list l = bytesOf l ++ drop (2 * length l) list
+
+-- the next word written is one number more
+written-next : (list l : List ℕ) (w : ℕ) → 2 * length l + 1 < length list → setWord (written list l) (length l) w ≡ written list (l ++ (w ∷ []))
+unfolding setWord
+written-next [] l w h = absurd (omega arith)
+written-next (a ∷ []) l w h = absurd (omega arith)
+written-next (a ∷ b ∷ list) [] w h = refl
+written-next (a ∷ b ∷ list) (v ∷ l) w h =
+    rw (two-more-high (length l), two-more (length l), two-more (length (l ++ (w ∷ []))))
+    (ap (λ (bytes : List ℕ). v % 256 ∷ v / 256 % 256 ∷ bytes) (written-next list l w (omega arith)))
+
+-- the marked benches before x are written
+pub record Writing (list₀ : List ℕ) (marks : List Bool) (list : List ℕ) (count x : ℕ) : Type 0 where
+  pub done : ℕ
+  pub next : x ≡ suc done
+  pub counted : count ≡ length (kept (mark marks) done)
+  pub bytes : list ≡ written list₀ (kept (mark marks) done)
+  pub long : length list ≡ length list₀
+
+-- no bench is written yet
+pub write-start : (list : List ℕ) (marks : List Bool) → Writing list marks list 0 1
+write-start list marks = record { done = 0; next = refl; counted = refl; bytes = refl; long = refl }
+
+-- there is room for a marked bench
+pub write-room : {list₀ : List ℕ} {marks : List Bool} {list : List ℕ} {count x : ℕ} (s : Size) → Writing list₀ marks list count x → mark marks x ≡ true → x ≤ s .benches → 2 * length (marked s marks) ≤ length list₀ → 2 * count + 1 < length list
+write-room {list₀} {marks} s m e l u =
+    let f = ap bit (rw (m .next) at e) in
+    omega (arith, m .next, m .counted, m .long, kept-counts (mark marks) (m .done), kept-more (mark marks) (suc (m .done)) (s .benches) (omega (arith, m .next)))
+
+-- bench x is written if it is marked
+pub write-turn : {list₀ : List ℕ} {marks : List Bool} {list : List ℕ} {count x : ℕ} (list' : List ℕ) (count' : ℕ) → Writing list₀ marks list count x → (mark marks x ≡ true → 2 * count + 1 < length list) → list' ≡ cond (mark marks x) (setWord list count x) list → count' ≡ count + bit (mark marks x) → Writing list₀ marks list' count' (x + 1)
+write-turn {list₀} {marks} {list} {count} {x} list' count' m room e f =
+    let g = rw (m .next) at f in
+    let all : kept (mark marks) (suc (m .done)) ≡ before ++ cond (mark marks x) (x ∷ []) [] = rw (m .next) (kept-next (mark marks) (m .done)) in
+    record {
+      done = suc (m .done);
+      next = omega (arith, m .next);
+      counted = omega (arith, m .counted, kept-counts (mark marks) (m .done));
+      bytes = e ∙ turned (mark marks x) refl ∙ ap (written list₀) (sym all);
+      long = ap length e ∙ length-turned (mark marks x) ∙ m .long;
+    }
+  where
+    before : List ℕ
+    before = kept (mark marks) (m .done)
+
+    length-turned : (z : Bool) → length (cond z (setWord list count x) list) ≡ length list
+    length-turned true = length-setWord list count x
+    length-turned false = refl
+
+    turned : (z : Bool) → mark marks x ≡ z → cond z (setWord list count x) list ≡ written list₀ (before ++ cond z (x ∷ []) [])
+    turned true q =
+        rw (m .bytes, m .counted) (written-next list₀ before x (omega (arith, room q, m .counted, m .long)))
+    turned false q = m .bytes ∙ ap (written list₀) (sym (append-nil before))
+
+-- all benches are written
+pub write-end : {list₀ : List ℕ} {marks : List Bool} {list : List ℕ} {count x : ℕ} (s : Size) → Writing list₀ marks list count x → x ≡ s .benches + 1 → list ≡ bytesOf (marked s marks) ++ drop (2 * length (marked s marks)) list₀
+write-end s m e =
+    let d : m .done ≡ s .benches = omega (arith, m .next) in
+    rw d at (m .bytes)
+
+-- the jobs inside a tight set
+
+-- what passes a test is counted as before, and nothing else
+count-keep : (p : ℕ → Bool) (x : ℕ) (l : List ℕ) → count x (keep p l) ≡ cond (p x) (count x l) 0
+count-keep p x [] = go (p x)
+  where
+    go : (z : Bool) → count x [] ≡ cond z (count x []) 0
+    go true = refl
+    go false = refl
+count-keep p x (y ∷ l) = go (p y) (p x) (ap p) (count-keep p x l)
+  where
+    go : (z w : Bool) → (y ≡ x → z ≡ w) → count x (keep p l) ≡ cond w (count x l) 0 → count x (cond z (y ∷ keep p l) (keep p l)) ≡ cond w (bit (eqb y x) + count x l) 0
+    go true true f ih = omega arith
+    go true false f ih = omega (arith, bit-other y x (λ e. false≢true (sym (f e))))
+    go false true f ih = omega (arith, bit-other y x (λ e. false≢true (f e)))
+    go false false f ih = ih
+
+-- the loads of the benches that pass a test are the jobs that such benches hold
+loads-held : (n : ℕ) (p : ℕ → Bool) (holders : List ℕ) → ((x : ℕ) → T (p x) → T (within 1 n x)) → total n (λ x. cond (p x) (load holders x) 0) ≡ length (keep p holders)
+loads-held n p holders w =
+    total-same n (λ x. cond (p x) (load holders x) 0) (λ x. count x (keep p holders)) (λ x l u. sym (count-keep p x holders))
+    ∙ total-count n (keep p holders) (in-each (λ x. T (within 1 n x)) (keep p holders) (λ x i. w x (keep-in p x holders i .1)))
+
+-- row by row: if the jobs held in the set name benches of the set only, the jobs inside it are those held in it
+inside-held : (set : List ℕ) → (In 0 set → ⊥) → (named : List (List ℕ)) (holders : List ℕ) → Shares named holders → ((i y : ℕ) → In (getD holders i 0) set → In y (getD named i []) → In y set) → inside set named ≡ length (keep (λ h. member h set) holders)
+inside-held set none [] [] s f = refl
+inside-held set none [] (h ∷ holders) s f = absurd s
+inside-held set none (names ∷ named) [] s f = absurd s
+inside-held set none ([] ∷ named) (h ∷ holders) s f =
+    let out : member h set ≡ false = never→false (member h set) (λ t. none (subst (λ (x : ℕ). In x set) (T-eqb h 0 (s .0)) (member-in h set t))) in
+    omega (arith, inside-held set none named holders (s .1) (λ i. f (suc i)), keep-counts (λ h. member h set) h holders, ap bit out)
+inside-held set none ((x ∷ names) ∷ named) (h ∷ holders) s f =
+    go (membered h set) (inside-held set none named holders (s .1) (λ i. f (suc i)))
+  where
+    row : List ℕ
+    row = x ∷ names
+
+    go : {z : Bool} → Member h set z → inside set named ≡ length (keep (λ h. member h set) holders) → inside set (row ∷ named) ≡ length (cond z (h ∷ keep (λ h. member h set) holders) (keep (λ h. member h set) holders))
+    go (is-in i) ih = omega (arith, inside-counts set row named refl (in-each (λ y. In y set) row (λ y j. f 0 y i j)))
+    go (not-in out) ih = omega (arith, inside-skips set row named h (member-in h row (s .0)) out)
+
+-- no job held in a tight set names a bench outside it
+tight-row : (b : Board) → Valid b → (h i y : ℕ) → In (getD (b .holders) i 0) (tightSet b h) → In y (getD (b .named) i []) → In y (tightSet b h)
+tight-row b v h i y j k = go (compared y x)
+  where
+    x : ℕ
+    x = getD (b .holders) i 0
+
+    go : {z : Bool} → Compared y x z → In y (tightSet b h)
+    go (same e) = rw e j
+    go (other d) =
+        let q = stepBy (suc i) y in
+        let r = (tight-reached b v h x) .0 j in
+        (tight-reached b v h y) .1 (r .0, r .1, r .2, reach-more (steps b) (r .0) x q (r .3) (is-step b x q refl k d (sym (length-shares (b .named) (b .holders) (v .shares)))))
+
+-- so the jobs inside a tight set are its benches' loads
+tight-inside : (b : Board) → Valid b → (h : ℕ) → inside (tightSet b h) (b .named) ≡ total (b .benches) (λ x. cond (member x (tightSet b h)) (load (b .holders) x) 0)
+tight-inside b v h =
+    let set = tightSet b h in
+    inside-held set (λ i. let l = within-low 1 (b .benches) 0 (tight-bench b h 0 i) in omega arith) (b .named) (b .holders) (v .shares) (tight-row b v h)
+    ∙ sym (loads-held (b .benches) (λ x. member x set) (b .holders) (λ x t. tight-bench b h x (member-in x set t)))
+
+-- the tight set as marks
+
+-- an array of one value is as long as it was made
+pub array-long : {A : Type 0} (n : ℕ) (a : A) (l : List A) → l ≡ replicate n a → length l ≡ n
+array-long n a l e = ap length e ∙ length-replicate n a
+
+-- an array without a mark has none anywhere
+no-mark : (n y : ℕ) → T (not (mark (replicate n false) y))
+no-mark zero y = tt
+no-mark (suc n) zero = tt
+no-mark (suc n) (suc y) = no-mark n y
+
+-- where each step of a relation is one of the board's, what is reached by it is reached by steps
+reached-reach : (out : ℕ → List Step) (Joined : ℕ → ℕ → Type 0) → ((x y : ℕ) → 1 ≤ x → Joined x y → (q : Step) × In q (out x) × (q .to ≡ y) × (1 ≤ y)) → {x y : ℕ} → Reached Joined x y → 1 ≤ x → Reach out x y
+reached-reach out Joined f (here x) l = reach-here out x
+reached-reach out Joined f (step x y z j r) l =
+    let (q, i, e, m) = f x y l j in
+    reach-first out x z q i (rw e (reached-reach out Joined f r m))
+
+-- what `tight_set` has when its benches are marked
+pub record Found (t : List ℕ) (s : Size) (h : ℕ) (from to first next loads : List ℕ) (marks₀ marks : List Bool) : Type 0 where
+  pub kept : Kept t s
+  pub arcs : ArcsOf (decode t) s from to
+  pub listed : ListedBy (mostBenches + 1) (s .jobs) from first next
+  pub loaded : Loaded (decode t) loads
+  pub blank : marks₀ ≡ replicate (mostBenches + 1) false
+  pub brought : Brings (Joins first next to) (λ x. BenchIn s x × (h ≤ at loads x)) marks₀ marks
+
+module _ {t : List ℕ} {s : Size} {h : ℕ} {from to first next loads : List ℕ} {marks₀ marks : List Bool} (f : Found t s h from to first next loads marks₀ marks) where
+  -- every mark is new
+  new : (y : ℕ) → T (not (mark marks₀ y))
+  new y = rw (f .blank) (no-mark (mostBenches + 1) y)
+
+  -- the board's jobs are arcs
+  forth : Arcs s from to
+  forth = arcs-forth t s from to (f .kept) (f .arcs)
+
+  -- what is listed are these arcs
+  joined : (x y : ℕ) → Joins first next to x y ↔ Leads (s .jobs) from to x y
+  joined = joins-leads s from to first next (f .kept .size .limits) forth (f .listed)
+
+  -- a listed arc is a step, to a bench
+  joined-step : (x y : ℕ) → 1 ≤ x → Joins first next to x y → (q : Step) × In q (steps (decode t) x) × (q .to ≡ y) × (1 ≤ y)
+  joined-step x y l j =
+      let (a, w, e, d) = (joined x y) .0 j in
+      let i = arc-step t s from to (f .kept) (f .arcs) a x w l e in
+      let b = forth .leads a w (omega arith) in
+      (stepBy a (at to a), i, d, omega (arith, b .least))
+
+  -- a step is a listed arc
+  step-joined : (x : ℕ) (q : Step) → In q (steps (decode t) x) → Joins first next to x (q .to)
+  step-joined x q i = let r = step-arc t s from to (f .kept) (f .arcs) x q i in (joined x (q .to)) .1 (q .job, r .0, r .1, r .2)
+
+  -- a marked bench is reached from one with load h or more ..
+  marked-reached : (y : ℕ) → T (mark marks y) → (x : ℕ) × T (within 1 ((decode t) .benches) x) × (h ≤ load ((decode t) .holders) x) × Reach (steps (decode t)) x y
+  marked-reached y m =
+      let (x, (b, l), r) = f .brought .only y (new y) m in
+      let limits = f .kept .size .limits in
+      (x, within-both 1 ((decode t) .benches) x (b .least) (omega (arith, b .most, f .kept .size .board-benches)), omega (arith, f .loaded .bench x (omega (arith, b .most, limits .benches-most))), reached-reach (steps (decode t)) (Joins first next to) joined-step r (b .least))
+
+  -- .. and each that is reached is marked
+  reached-marked : (x y : ℕ) → T (within 1 ((decode t) .benches) x) → h ≤ load ((decode t) .holders) x → Reach (steps (decode t)) x y → T (mark marks y)
+  reached-marked x y w l r = reach-all (steps (decode t)) (λ z. T (mark marks z)) on x y start r
+    where
+      on : (z : ℕ) (q : Step) → T (mark marks z) → In q (steps (decode t) z) → T (mark marks (q .to))
+      on z q m i = f .brought .shut z (q .to) (new z) m (step-joined z q i)
+
+      most : x ≤ s .benches
+      most = omega (arith, within-high 1 ((decode t) .benches) x w, f .kept .size .board-benches)
+
+      start : T (mark marks x)
+      start = f .brought .every x (record { least = within-low 1 ((decode t) .benches) x w; most = most }, omega (arith, f .loaded .bench x (omega (arith, most, f .kept .size .limits .benches-most))))
+
+  -- the marked benches are the tight set ..
+  marked-tight : marked s marks ≡ tightSet (decode t) h
+  marked-tight =
+      let e = tight-marked (decode t) (f .kept .storable .valid) h (mark marks) (λ y w. (marked-reached y, λ (x, u, l, r). reached-marked x y u l r)) in
+      ap (λ (n : ℕ). keep (mark marks) (rising 1 n)) (sym (f .kept .size .board-benches)) ∙ sym e
+
+  -- .. and their loads the jobs inside it
+  marked-inside : total (s .benches) (markedLoad loads marks) ≡ inside (tightSet (decode t) h) ((decode t) .named)
+  marked-inside =
+      ap (λ (n : ℕ). total n (markedLoad loads marks)) (sym (f .kept .size .board-benches))
+      ∙ total-same ((decode t) .benches) (markedLoad loads marks) (λ x. cond (member x (tightSet (decode t) h)) (load ((decode t) .holders) x) 0) each
+      ∙ sym (tight-inside (decode t) (f .kept .storable .valid) h)
+    where
+      each : (x : ℕ) → 1 ≤ x → x ≤ (decode t) .benches → markedLoad loads marks x ≡ cond (member x (tightSet (decode t) h)) (load ((decode t) .holders) x) 0
+      each x l u =
+          let most : x ≤ s .benches = omega (arith, f .kept .size .board-benches) in
+          let e : member x (tightSet (decode t) h) ≡ mark marks x = ap (member x) (sym marked-tight) ∙ member-marked (s .benches) (mark marks) x (within-both 1 (s .benches) x l most) in
+          rw (e, f .loaded .bench x (omega (arith, f .kept .size .limits .benches-most))) refl
+
+  -- so what is measured is the tight set's
+  pub found-tight : {r : Extent} → Measured s loads marks r → TightSet (decode t) s h marks r
+  found-tight m =
+      record {
+        set = marked-tight;
+        benches = m .benches ∙ ap length marked-tight;
+        jobs = m .jobs ∙ marked-inside;
+      }

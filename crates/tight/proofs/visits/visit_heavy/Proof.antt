@@ -1,0 +1,80 @@
+-- What the benches with load h or more bring in is marked. The loop's invariant: what those before bench x bring in is. The measure is
+-- the number of benches that are left.
+use Prim.Native.Nat.{_+_, _-_}
+use native.Mathlib.Omega.{arith}
+use mathlib.Core.Logic.{⊎-elim}
+use borrow.Author.Needs.{needs}
+use Rattle.rules.specs.Table.{mostBenches}
+use Rattle.rules.proofs.Basics.{within-both}
+use Rattle.search.specs.Lists.{Joins}
+use Rattle.tight.proofs.Visiting.{Heavy, heavy-start, heavy-visit, heavy-pass, heavy-end}
+use Rattle.tight.proofs.visits.visit_heavy.Statement.{statement}
+use Rattle.tight.proofs.visits.visit_heavy.Tie as tie
+
+abbrev Inv-loop : tie.InvT-loop
+Inv-loop first next to loads h marks₀ benches x₀ marks x = Heavy (Joins first next to) loads h benches marks₀ marks x
+
+abbrev μ-loop : tie.MeasureT-loop
+μ-loop first next to loads h marks₀ benches x₀ marks x = benches + 1 - x
+
+benches-requires : tie.Need-benches-requires Inv-loop μ-loop
+benches-requires c κs = search needs
+
+loop-holds : tie.Need-loop-holds Inv-loop μ-loop
+loop-holds c =
+    let b = c .before in
+    heavy-start (b .args .loads .now) (b .args .h) (c .benches .result) (b .args .marks .now) (b .pre .1 .1 .0)
+
+mul-if1 : tie.Need-mul-if1 Inv-loop μ-loop
+mul-if1 c = search needs
+
+element-copy-out-if1 : tie.Need-element-copy-out-if1 Inv-loop μ-loop
+element-copy-out-if1 c = search needs
+
+cast-if1 : tie.Need-cast-if1 Inv-loop μ-loop
+cast-if1 c =
+    let b = c .before .before .before .before in
+    let l = c .before .before .loop in
+    omega (arith, b .pre .1 .1 .1 .most (l .x) (l .inv .least))
+
+visit-requires : tie.Need-visit-requires Inv-loop μ-loop
+visit-requires c κs =
+    let b = c .before .before .before .before .before .before in
+    let v = c .before .before .before .before .loop .inv in
+    (b .pre .1 .0, (within-both 1 mostBenches (c .before .before .before .before .loop .x) (v .least) (omega arith), v .brought .long))
+
+add-x : tie.Need-add-x Inv-loop μ-loop
+add-x c = search needs
+
+loop-less : tie.Need-loop-less Inv-loop μ-loop
+loop-less c = omega arith
+
+loop-again : tie.Need-loop-again Inv-loop μ-loop
+loop-again c =
+    let v = c .before .before .before .loop .inv in
+    let u = c .before .before .loop-test .taken in
+    ⊎-elim
+    (λ w. rw (w .3) (heavy-visit v u (w .2 .last .1 .1 .1 .1 .0) (w .0 .taken) (w .2 .ensures)))
+    (λ w. rw (w .1) (heavy-pass v u (w .0 .left)))
+    (c .if1 .came)
+
+returns : tie.Need-returns Inv-loop μ-loop
+returns c =
+    heavy-end (c .before .loop .inv) (c .before .before .before .args .s) (c .before .before .benches .ensures) (omega arith)
+
+pub visit-heavy-spec : {M : Type 1} → statement M
+visit-heavy-spec =
+    tie.close
+    (tie.spec
+    Inv-loop
+    μ-loop
+    benches-requires
+    loop-holds
+    mul-if1
+    element-copy-out-if1
+    cast-if1
+    visit-requires
+    add-x
+    loop-less
+    loop-again
+    returns)

@@ -1,0 +1,2 @@
+-- What a tight set's marks promise.
+pub mod Marks
