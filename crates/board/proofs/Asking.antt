@@ -1,0 +1,141 @@
+-- The questions: their refusals and their answers.
+use Prim.Native.Nat.{ℕ, _-_, _*_, _≤_, _<_}
+use native.Mathlib.Omega.{arith}
+use native.Mathlib.Decide.{decLe}
+use mathlib.Core.Path.{_≡_, refl, sym, ap, subst, _∙_}
+use mathlib.Core.Logic.{inl, inr, _≢_}
+use mathlib.Core.Bool.{Bool, true, false, cond}
+use mathlib.Core.List.{List, [], _∷_, _++_}
+use lib.ListN.{length, drop}
+use Rattle.rules.specs.Lists.{within, rising, In}
+use Rattle.rules.specs.Board.{Board, Valid, load, heaviest}
+use Rattle.rules.specs.Table.{mostBenches, bytesOf, decode}
+use Rattle.rules.specs.Paths.{steps}
+use Rattle.rules.specs.Sharing.{level, tightSet}
+use Rattle.rules.specs.Answers.{Outcome, refused}
+use Rattle.rules.specs.Calls.{Call, loadOf, heaviestLoad, tightSetOf, formCheck, levelCheck, conditions, lentList, accepted, outcome, tightSetOutcome}
+use Rattle.rules.proofs.Basics.{within-both, in-getD, length-keep, length-rising}
+use Rattle.rules.proofs.Counting.{greatest-most}
+use Rattle.rules.proofs.Choice.{load-heaviest}
+use Rattle.rules.proofs.Walks.{reach-here}
+use Rattle.rules.proofs.TightSet.{tight-reached}
+use Rattle.rules.proofs.Refusals.{refused-by}
+use Rattle.rules.proofs.ChainOrder.{sound-outcome}
+use Rattle.rules.proofs.Questions.{load-refused, tight-answered, tight-list-refused, tight-height-refused}
+use Rattle.table.specs.declared.size.Size.{Size}
+use Rattle.table.specs.Sizes.{SoundTable}
+use Rattle.tight.specs.declared.set.Extent.{Extent}
+use Rattle.tight.specs.Marks.{mark, marked, TightSet}
+use Rattle.board.specs.Answered.{refusalOf, answerOf, Leaves}
+use Rattle.board.specs.declared.answers.Refusal.{Refusal}
+use Rattle.board.specs.declared.answers.Refusal.the-variants as code
+use Rattle.board.specs.declared.answers.Answer.{Answer}
+use Rattle.board.specs.declared.answers.Answer.the-variants as told
+
+-- heights and their sets
+
+-- nothing is in a list of length 0
+none-in : (x : ℕ) (l : List ℕ) → length l ≡ 0 → In x l → ⊥
+none-in x [] e i = i
+none-in x (y ∷ l) e i = absurd (omega arith)
+
+-- a height of 1 or more, with no bench in its set, is above the heaviest load ..
+empty-high : (b : Board) → Valid b → (h : ℕ) → h ≢ 0 → length (tightSet b h) ≡ 0 → heaviest b < h
+unfolding heaviest
+empty-high b v h p e = omega (arith, p, greatest-most (b .benches) (load (b .holders)) (h - 1) low)
+  where
+    low : (x : ℕ) → 1 ≤ x → x ≤ b .benches → load (b .holders) x ≤ h - 1
+    low x m n = elim (decLe h (load (b .holders) x)) [
+      | yes k ↦ absurd (none-in x (tightSet b h) e ((tight-reached b v h x) .1 (x, within-both 1 (b .benches) x m n, k, reach-here (steps b) x)))
+      | no k ↦ omega (arith, k)
+    ]
+
+-- .. and a height with a bench in its set is not
+bench-low : (b : Board) → Valid b → (h : ℕ) → length (tightSet b h) ≢ 0 → h ≤ heaviest b
+bench-low b v h p =
+    let (x, t, l, w) = (tight-reached b v h _) .0 (in-getD (tightSet b h) 0 0 (omega (arith, p))) in
+    omega (arith, l, load-heaviest b x t)
+
+-- what is left
+
+-- a refused call leaves all that it was lent
+refused-leaves : (c : Call) (t : List ℕ) (r : Refusal) → (outcome c t) .answer ≡ refused (refusalOf r) → Leaves (outcome c t) (told.Refused r) t (lentList c)
+refused-leaves c t r e =
+    let k = refused-by c t (refusalOf r) e in
+    record { answer = sym e; bytes = sym (k .table); listed = sym (k .list) }
+
+-- an outcome that has just this answer and these bytes
+answered-leaves : {o : Outcome} {r : Answer} {t list : List ℕ} → o ≡ record { answer = answerOf r; table = t; list = list } → Leaves o r t list
+answered-leaves {o} {r} {t} {list} e =
+    subst (λ q. Leaves q r t list) (sym e) (record { answer = refl; bytes = refl; listed = refl })
+
+module _ {t : List ℕ} {s : Size} (z : SoundTable t s) where
+  -- form check
+  pub form-sound : Leaves (outcome formCheck t) told.Sound t []
+  unfolding conditions accepted
+  form-sound = answered-leaves (sound-outcome formCheck t (z .sound))
+
+  -- level check
+  pub level-told : (y : Bool) → y ≡ level (decode t) → Leaves (outcome levelCheck t) (cond y told.Level told.NotLevel) t []
+  unfolding conditions accepted
+  level-told true e = answered-leaves (sound-outcome levelCheck t (z .sound) ∙ rw (sym e))
+  level-told false e = answered-leaves (sound-outcome levelCheck t (z .sound) ∙ rw (sym e))
+
+  -- the heaviest load
+  pub heaviest-told : (n : ℕ) → n ≡ heaviest (decode t) → Leaves (outcome heaviestLoad t) (told.Heaviest n) t []
+  unfolding conditions accepted
+  heaviest-told n e = answered-leaves (sound-outcome heaviestLoad t (z .sound) ∙ rw e)
+
+  module _ (x : ℕ) where
+    -- the board's benches are those of the size
+    same-within : {y : Bool} → within 1 (s .benches) x ≡ y → within 1 ((decode t) .benches) x ≡ y
+    same-within w = ap (λ n. within 1 n x) (z .size .board-benches) ∙ w
+
+    -- the load of a bench of 1 to B ..
+    pub load-told : (n : ℕ) → within 1 (s .benches) x ≡ true → n ≡ load ((decode t) .holders) x → Leaves (outcome (loadOf x) t) (told.Load n) t []
+    unfolding conditions accepted
+    load-told n w e = answered-leaves (sound-outcome (loadOf x) t (z .sound) ∙ rw (same-within w, e))
+
+    -- .. and 4 for any other number
+    pub bench-refused : within 1 (s .benches) x ≡ false → Leaves (outcome (loadOf x) t) (told.Refused code.BenchNumber) t []
+    bench-refused w = refused-leaves (loadOf x) t code.BenchNumber (load-refused t (z .sound) x (same-within w))
+
+  -- a height of 0 gives 7
+  pub zero-refused : (h : ℕ) (list : List ℕ) → h ≡ 0 → Leaves (outcome (tightSetOf h list) t) (told.Refused code.Height) t list
+  zero-refused h list p = refused-leaves (tightSetOf h list) t code.Height (tight-height-refused t (z .sound) h list (inl p))
+
+  module _ {h : ℕ} {marks : List Bool} {r : Extent} (m : TightSet (decode t) s h marks r) where
+    -- the set has at most B benches
+    pub set-most : r .benches ≤ mostBenches
+    set-most =
+        let short = length-keep (mark marks) (rising 1 (s .benches)) in
+        omega (arith, m .benches, ap length (m .set), short, length-rising 1 (s .benches), z .size .limits .benches-most)
+
+    module _ (list : List ℕ) where
+      -- a list that is not too short has room for the marked benches
+      pub list-room : 2 * r .benches ≤ length list → 2 * length (marked s marks) ≤ length list
+      list-room f = omega (arith, m .benches, ap length (m .set))
+
+      -- a height of 1 or more whose set has no bench gives 7
+      pub high-refused : h ≢ 0 → r .benches ≡ 0 → Leaves (outcome (tightSetOf h list) t) (told.Refused code.Height) t list
+      high-refused p e =
+          let high = empty-high (decode t) (z .storable .valid) h p (sym (m .benches) ∙ e) in
+          refused-leaves (tightSetOf h list) t code.Height (tight-height-refused t (z .sound) h list (inr high))
+
+      module _ (p : h ≢ 0) (e : r .benches ≢ 0) where
+        low : 1 ≤ h
+        low = omega arith
+
+        high : h ≤ heaviest (decode t)
+        high = bench-low (decode t) (z .storable .valid) h (λ k. e (m .benches ∙ k))
+
+        -- a list that is shorter than the set's words gives 8
+        pub short-refused : length list < 2 * r .benches → Leaves (outcome (tightSetOf h list) t) (told.Refused code.ListTooShort) t list
+        short-refused f =
+            refused-leaves (tightSetOf h list) t code.ListTooShort (tight-list-refused t (z .sound) h list low high (omega (arith, m .benches)))
+
+        -- in any other the marked benches are the set
+        pub set-told : (u : List ℕ) → 2 * r .benches ≤ length list → u ≡ bytesOf (marked s marks) ++ drop (2 * length (marked s marks)) list → Leaves (outcome (tightSetOf h list) t) (told.TightSet (r .benches) (r .jobs)) t u
+        unfolding tightSetOutcome
+        set-told u f w =
+            answered-leaves (tight-answered t (z .sound) h list low high (omega (arith, m .benches)) ∙ rw (w, m .set, m .benches, m .jobs))
