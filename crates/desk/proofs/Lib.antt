@@ -1,2 +1,3 @@
--- What the C calls return.
-pub mod Returned
+-- What the C calls report.
+pub mod Fits
+pub mod Reports

@@ -1,32 +1,129 @@
 // The calls for C programs, over numbers and the table's bytes; a slice is passed as a pointer and its length in bytes. Each returns the
-// refusal's number, or 0.
-ghost use mathlib.Core.Path.{_≡_};
-ghost use Rattle.rules.specs.Calls.{outcome, blanking, formCheck};
-ghost use Rattle.desk.specs.Desk.{returned};
-use form::Form;
-use table::header;
+// refusal's number, or 0. Results go through lent numbers, which a refused call leaves alone.
+ghost use mathlib.Core.List.{[], _∷_};
+ghost use Rattle.rules.specs.Calls.{outcome, blanking, arrival, closing, levelling, loadOf, heaviestLoad, tightSetOf, formCheck, levelCheck};
+ghost use Rattle.desk.specs.Desk.{Reported};
+use board::changes;
+use board::questions;
 
 // Writes a table without jobs; 1 where the length is not that of so many benches and jobs.
 #[no_mangle]
 pub extern "C" fn jobboard_blank(table: &mut [u8], benches: u32, jobs: u32) -> u32
-    ensures { λ r. ⌜ r ≡ returned (blanking benches jobs (now (table .entry)) .answer) ⌝ }
-    ensures { λ r. ⌜ now (table .exit) ≡ blanking benches jobs (now (table .entry)) .table ⌝ }
+    ensures { λ r. ⌜ Reported (blanking benches jobs (now (table .entry))) r (now (table .exit)) [] [] [] ⌝ }
 {
-    if header::blank(table, benches as usize, jobs as usize) {
-        0
-    } else {
-        1
-    }
+    changes::blank(table, benches as usize, jobs as usize).number()
 }
 
 // 0 for a sound table, 1 where its sizes do not fit, else 2.
 #[no_mangle]
 pub extern "C" fn jobboard_check(table: &[u8]) -> u32
-    ensures { λ r. ⌜ r ≡ returned (outcome formCheck (now (table .entry)) .answer) ⌝ }
+    ensures { λ r. ⌜ Reported (outcome formCheck (now (table .entry))) r (now (table .entry)) [] [] [] ⌝ }
 {
-    match form::check(table) {
-        Form::Sizes => 1,
-        Form::Unsound => 2,
-        Form::Sound(_) => 0,
-    }
+    questions::form_check(table).number()
+}
+
+// Arrival of a job that names two benches. Results: the bench that holds it in the end, the bench whose load rose, the other jobs moved.
+#[no_mangle]
+pub extern "C" fn jobboard_arrival(
+    table: &mut [u8],
+    job: u32,
+    first: u32,
+    second: u32,
+    holder: &mut u32,
+    rose: &mut u32,
+    moved: &mut u32,
+) -> u32
+    ensures { λ r. ⌜ Reported (outcome (arrival job first second) (now (table .entry))) r (now (table .exit)) [] (now (holder .entry) ∷ now (rose .entry) ∷ now (moved .entry) ∷ []) (now (holder .exit) ∷ now (rose .exit) ∷ now (moved .exit) ∷ []) ⌝ }
+{
+    let a = changes::arrival(table, job as usize, first as usize, second as usize);
+    let v = a.values();
+    *holder = v.get(1, *holder as usize) as u32;
+    *rose = v.get(2, *rose as usize) as u32;
+    *moved = v.get(3, *moved as usize) as u32;
+    a.number()
+}
+
+// Closing of a standing job. Results: the bench whose load fell, the jobs moved.
+#[no_mangle]
+pub extern "C" fn jobboard_closing(
+    table: &mut [u8],
+    job: u32,
+    fell: &mut u32,
+    moved: &mut u32,
+) -> u32
+    ensures { λ r. ⌜ Reported (outcome (closing job) (now (table .entry))) r (now (table .exit)) [] (now (fell .entry) ∷ now (moved .entry) ∷ []) (now (fell .exit) ∷ now (moved .exit) ∷ []) ⌝ }
+{
+    let a = changes::closing(table, job as usize);
+    let v = a.values();
+    *fell = v.get(1, *fell as usize) as u32;
+    *moved = v.get(2, *moved as usize) as u32;
+    a.number()
+}
+
+// Levelling with an allowance of paths. Results: the paths turned, and 1 for level or 0 for stopped.
+#[no_mangle]
+pub extern "C" fn jobboard_levelling(
+    table: &mut [u8],
+    allowance: u32,
+    paths: &mut u32,
+    level: &mut u32,
+) -> u32
+    ensures { λ r. ⌜ Reported (outcome (levelling allowance) (now (table .entry))) r (now (table .exit)) [] (now (paths .entry) ∷ now (level .entry) ∷ []) (now (paths .exit) ∷ now (level .exit) ∷ []) ⌝ }
+{
+    let a = changes::levelling(table, allowance);
+    let v = a.values();
+    *paths = v.get(1, *paths as usize) as u32;
+    *level = v.get(2, *level as usize) as u32;
+    a.number()
+}
+
+// Level check. Result: 1 for yes, 0 for no.
+#[no_mangle]
+pub extern "C" fn jobboard_level_check(table: &[u8], level: &mut u32) -> u32
+    ensures { λ r. ⌜ Reported (outcome levelCheck (now (table .entry))) r (now (table .entry)) [] (now (level .entry) ∷ []) (now (level .exit) ∷ []) ⌝ }
+{
+    let a = questions::level_check(table);
+    let v = a.values();
+    *level = v.get(1, *level as usize) as u32;
+    a.number()
+}
+
+// The load of a bench.
+#[no_mangle]
+pub extern "C" fn jobboard_load(table: &[u8], bench: u32, load: &mut u32) -> u32
+    ensures { λ r. ⌜ Reported (outcome (loadOf bench) (now (table .entry))) r (now (table .entry)) [] (now (load .entry) ∷ []) (now (load .exit) ∷ []) ⌝ }
+{
+    let a = questions::load(table, bench as usize);
+    let v = a.values();
+    *load = v.get(1, *load as usize) as u32;
+    a.number()
+}
+
+// The heaviest load.
+#[no_mangle]
+pub extern "C" fn jobboard_heaviest(table: &[u8], load: &mut u32) -> u32
+    ensures { λ r. ⌜ Reported (outcome heaviestLoad (now (table .entry))) r (now (table .entry)) [] (now (load .entry) ∷ []) (now (load .exit) ∷ []) ⌝ }
+{
+    let a = questions::heaviest(table);
+    let v = a.values();
+    *load = v.get(1, *load as usize) as u32;
+    a.number()
+}
+
+// The tight set of a height: its benches, rising, as words at the list's beginning. Results: benches in the set, jobs inside.
+#[no_mangle]
+pub extern "C" fn jobboard_tight_set(
+    table: &[u8],
+    height: u32,
+    list: &mut [u8],
+    benches: &mut u32,
+    jobs: &mut u32,
+) -> u32
+    ensures { λ r. ⌜ Reported (outcome (tightSetOf height (now (list .entry))) (now (table .entry))) r (now (table .entry)) (now (list .exit)) (now (benches .entry) ∷ now (jobs .entry) ∷ []) (now (benches .exit) ∷ now (jobs .exit) ∷ []) ⌝ }
+{
+    let a = questions::tight_set(table, height as usize, list);
+    let v = a.values();
+    *benches = v.get(1, *benches as usize) as u32;
+    *jobs = v.get(2, *jobs as usize) as u32;
+    a.number()
 }

@@ -1,0 +1,188 @@
+-- The numbers of an answer fit 32 bits, so that a C program's lent numbers hold them; all but a levelling's fit 16.
+use Prim.Native.Nat.{ℕ, _≤_, _<_}
+use native.Mathlib.Omega.{arith}
+use mathlib.Core.Path.{_≡_, refl, sym, ap, subst, _∙_}
+use mathlib.Core.Bool.{Bool, true, false, cond, not, _&&_}
+use mathlib.Core.List.{List, [], _∷_}
+use lib.Dec.{T, eqb}
+use lib.ListN.{length, drop}
+use Rattle.rules.specs.Lists.{bit, member, rising, all, empty, Each}
+use Rattle.rules.specs.Board.{Board, holderOf, namesOf, stands, load, heaviest}
+use Rattle.rules.specs.Table.{mostBenches, mostJobs, sound, decode}
+use Rattle.rules.specs.Sharing.{Levelled, arrive, close, relevel, level, tightSet, inside}
+use Rattle.rules.specs.Answers.{Answer, Outcome, isRefused, inNumbers, refused, blanked, arrived, closed, loadIs, heaviestIs, tightSetIs, isSound, levelYes, levelNo, levelled, stopped}
+use Rattle.rules.specs.Calls.{Call, arrival, closing, levelling, loadOf, heaviestLoad, tightSetOf, formCheck, levelCheck, accepted, outcome, arrivalOutcome, closingOutcome, levellingOutcome, tightSetOutcome}
+use Rattle.rules.specs.Demand2.{handed}
+use Rattle.rules.proofs.Basics.{true→T, false→not, not-false, within-high, is-empty, length-keep, length-rising, length-shares}
+use Rattle.rules.proofs.Counting.{bit-le, count-most, total-most, greatest-most}
+use Rattle.rules.proofs.Sound.{sound-storable}
+use Rattle.rules.proofs.Paths.{holder-bench, holder-none}
+use Rattle.rules.proofs.TightSet.{tight-rising}
+use Rattle.rules.proofs.Refusals.{accepted-by}
+use Rattle.rules.proofs.Outcomes.{arrival-accepted, levelling-accepted}
+use Rattle.rules.proofs.Results.{arrival-result, closing-result}
+use Rattle.rules.proofs.Questions.{heaviest-answered, tight-says}
+
+-- a call that is not refused was lent a sound table
+accepted-sound : (c : Call) (t : List ℕ) → isRefused ((outcome c t) .answer) ≡ false → T (sound t)
+accepted-sound c t n = not-false (sound t) ((accepted-by c t n) .0 .1 .0)
+
+-- at most all jobs move
+handed-most : (j : ℕ) (b c : Board) → handed j b c ≤ length (b .named)
+handed-most j b c =
+    total-most (length (b .named)) (λ i. bit (not (eqb i j) && not (eqb (holderOf c i) (holderOf b i)))) (λ i. bit-le (not (eqb i j) && not (eqb (holderOf c i) (holderOf b i))))
+
+-- at most all jobs are inside
+inside-most : (set : List ℕ) (named : List (List ℕ)) → inside set named ≤ length named
+inside-most set [] = omega arith
+inside-most set (names ∷ named) = omega (arith, bit-le (not (empty names) && all (λ x. member x set) names), inside-most set named)
+
+-- at most all benches are in a tight set
+tight-most : (b : Board) (h : ℕ) → length (tightSet b h) ≤ b .benches
+tight-most b h =
+    omega (arith, ap length (tight-rising b h), length-keep (λ x. member x (tightSet b h)) (rising 1 (b .benches)), length-rising 1 (b .benches))
+
+module _ (t : List ℕ) (s : T (sound t)) where
+  -- a sound table has at most 500 benches ..
+  benches-small : (decode t) .benches ≤ 500
+  benches-small = within-high 1 mostBenches ((decode t) .benches) ((sound-storable t s) .benches)
+
+  -- .. and at most 4,000 jobs
+  jobs-small : length ((decode t) .named) ≤ 4000
+  jobs-small = within-high 1 mostJobs (length ((decode t) .named)) ((sound-storable t s) .jobs)
+
+  -- a holder is 0 or a bench
+  holder-small : (j : ℕ) → holderOf (decode t) j ≤ 500
+  holder-small j = go (stands b j) refl
+    where
+      b : Board
+      b = decode t
+
+      go : (z : Bool) → stands b j ≡ z → holderOf b j ≤ 500
+      go true e = omega (arith, benches-small, within-high 1 (b .benches) (holderOf b j) (holder-bench b ((sound-storable t s) .valid) j (true→T (stands b j) e)))
+      go false e = omega (arith, holder-none b ((sound-storable t s) .valid) j (is-empty (namesOf b j) (false→not (stands b j) e)))
+
+  -- at most all jobs are on one bench ..
+  load-small : (x : ℕ) → load ((decode t) .holders) x ≤ 4000
+  load-small x =
+      let b = decode t in
+      omega (arith, jobs-small, count-most x (b .holders), length-shares (b .named) (b .holders) ((sound-storable t s) .valid .shares))
+
+  -- .. also on the heaviest
+  heaviest-small : heaviest (decode t) ≤ 4000
+  unfolding heaviest
+  heaviest-small = greatest-most ((decode t) .benches) (load ((decode t) .holders)) 4000 (λ x l h. load-small x)
+
+-- an arrival: the holder, the bench that rose, the moved jobs
+arrival-fits : (t : List ℕ) (j x y holder rose moved : ℕ) → (outcome (arrival j x y) t) .answer ≡ arrived holder rose moved → (holder < 65536) × (rose < 65536) × (moved < 65536)
+arrival-fits t j x y holder rose moved e =
+    let s = accepted-sound (arrival j x y) t (ap isRefused e) in
+    let u = (outcome (arrival j x y) t) .table in
+    let r = arrival-result t s j x y holder rose moved e in
+    let after = (arrival-accepted t s j x y (ap isRefused e)) .writes .sound in
+    (omega (arith, r .inTheEnd, holder-small u after j), omega (arith, r .oneRose .bench, benches-small t s), omega (arith, r .others, handed-most j (decode t) (decode u), jobs-small t s))
+
+-- a closing: the bench that fell, the moved jobs
+closing-fits : (t : List ℕ) (j fell moved : ℕ) → (outcome (closing j) t) .answer ≡ closed fell moved → (fell < 65536) × (moved < 65536)
+closing-fits t j fell moved e =
+    let s = accepted-sound (closing j) t (ap isRefused e) in
+    let r = closing-result t s j fell moved e in
+    (omega (arith, r .oneFell .bench, benches-small t s), omega (arith, r .others, handed-most j (decode t) (decode ((outcome (closing j) t) .table)), jobs-small t s))
+
+-- a load
+load-fits : (t : List ℕ) (x n : ℕ) → (outcome (loadOf x) t) .answer ≡ loadIs n → n < 65536
+unfolding accepted
+load-fits t x n e =
+    let s = accepted-sound (loadOf x) t (ap isRefused e) in
+    let a = accepted-by (loadOf x) t (ap isRefused e) in
+    let d : loadIs (load ((decode t) .holders) x) ≡ loadIs n = ap (λ o. o .answer) (sym (a .1)) ∙ e in
+    let same : load ((decode t) .holders) x ≡ n = cc in
+    omega (arith, same, load-small t s x)
+
+-- the heaviest load
+heaviest-fits : (t : List ℕ) (n : ℕ) → (outcome heaviestLoad t) .answer ≡ heaviestIs n → n < 65536
+heaviest-fits t n e =
+    let s = accepted-sound heaviestLoad t (ap isRefused e) in
+    let d : heaviestIs (heaviest (decode t)) ≡ heaviestIs n = sym (heaviest-answered t s) ∙ e in
+    let same : heaviest (decode t) ≡ n = cc in
+    omega (arith, same, heaviest-small t s)
+
+-- a tight set: its benches, the inside jobs
+tight-fits : (t : List ℕ) (h : ℕ) (list : List ℕ) (benches inside : ℕ) → (outcome (tightSetOf h list) t) .answer ≡ tightSetIs benches inside → (benches < 65536) × (inside < 65536)
+tight-fits t h list benches inside e =
+    let s = accepted-sound (tightSetOf h list) t (ap isRefused e) in
+    let a = tight-says t s h list benches inside e in
+    (omega (arith, a .benches, tight-most (decode t) h, benches-small t s), omega (arith, a .insideJobs, inside-most (tightSet (decode t) h) ((decode t) .named), jobs-small t s))
+
+-- every number fits 32 bits
+abbrev pub Fitting : List ℕ → Type 0
+Fitting l = Each (λ n. n < 4294967296) l
+
+-- a refusal has no values
+unless-refused : (a : Answer) → (isRefused a ≡ false → Fitting (drop 1 (inNumbers a))) → Fitting (drop 1 (inNumbers a))
+unless-refused (refused r) f = tt
+unless-refused blanked f = tt
+unless-refused (arrived holder rose moved) f = f refl
+unless-refused (closed fell moved) f = f refl
+unless-refused (loadIs n) f = f refl
+unless-refused (heaviestIs n) f = f refl
+unless-refused (tightSetIs benches inside) f = f refl
+unless-refused isSound f = tt
+unless-refused levelYes f = f refl
+unless-refused levelNo f = f refl
+unless-refused (levelled paths) f = f refl
+unless-refused (stopped paths) f = f refl
+
+-- the call's number that bounds a value fits 32 bits: a levelling turns no more paths than it is allowed
+abbrev pub Bounded : Call → Type 0
+Bounded (arrival j x y) = Unit {0}
+Bounded (closing j) = Unit {0}
+Bounded (levelling allowance) = allowance < 4294967296
+Bounded (loadOf x) = Unit {0}
+Bounded heaviestLoad = Unit {0}
+Bounded (tightSetOf h list) = Unit {0}
+Bounded formCheck = Unit {0}
+Bounded levelCheck = Unit {0}
+
+-- the values of an accepted call
+accepted-fits : (c : Call) (t : List ℕ) → Bounded c → T (sound t) → outcome c t ≡ accepted c t (decode t) → Fitting (drop 1 (inNumbers ((accepted c t (decode t)) .answer)))
+unfolding accepted arrivalOutcome closingOutcome levellingOutcome tightSetOutcome
+accepted-fits (arrival j x y) t b s e =
+    let d = arrive (decode t) j (x ∷ y ∷ []) in
+    let f = arrival-fits t j x y (holderOf (d .board) j) (d .bench) (length (d .moved)) (ap (λ o. o .answer) e) in
+    (omega (arith, f .0), (omega (arith, f .1), (omega (arith, f .2), tt)))
+accepted-fits (closing j) t b s e =
+    let d = close (decode t) j in
+    let f = closing-fits t j (d .bench) (length (d .moved)) (ap (λ o. o .answer) e) in
+    (omega (arith, f .0), (omega (arith, f .1), tt))
+accepted-fits (levelling allowance) t b s e = go (level (r .board))
+  where
+    r : Levelled
+    r = relevel allowance (decode t)
+
+    small : r .paths < 4294967296
+    small = omega (arith, b, (levelling-accepted t s allowance) .does .report .allowed)
+
+    go : (z : Bool) → Fitting (drop 1 (inNumbers (cond z (levelled (r .paths)) (stopped (r .paths)))))
+    go true = (small, (omega arith, tt))
+    go false = (small, (omega arith, tt))
+accepted-fits (loadOf x) t b s e = (omega (arith, load-fits t x (load ((decode t) .holders) x) (ap (λ o. o .answer) e)), tt)
+accepted-fits heaviestLoad t b s e = (omega (arith, heaviest-fits t (heaviest (decode t)) (ap (λ o. o .answer) e)), tt)
+accepted-fits (tightSetOf h list) t b s e =
+    let set = tightSet (decode t) h in
+    let f = tight-fits t h list (length set) (inside set ((decode t) .named)) (ap (λ o. o .answer) e) in
+    (omega (arith, f .0), (omega (arith, f .1), tt))
+accepted-fits formCheck t b s e = tt
+accepted-fits levelCheck t b s e = go (level (decode t))
+  where
+    go : (z : Bool) → Fitting (drop 1 (inNumbers (cond z levelYes levelNo)))
+    go true = (omega arith, tt)
+    go false = (omega arith, tt)
+
+-- the values of any call's answer fit 32 bits
+pub values-fit : (c : Call) (t : List ℕ) → Bounded c → Fitting (drop 1 (inNumbers ((outcome c t) .answer)))
+values-fit c t b =
+    unless-refused ((outcome c t) .answer)
+    (λ n.
+    let e = (accepted-by c t n) .1 in
+    subst (λ (o : Outcome). Fitting (drop 1 (inNumbers (o .answer)))) (sym e) (accepted-fits c t b (accepted-sound c t n) e))
