@@ -2,56 +2,64 @@
 use Prim.Native.Nat.{ℕ, zero, suc, _+_, _-_, _≤_, _<_}
 use native.Mathlib.Omega.{arith}
 use native.Mathlib.Decide.{ℕ-discrete, decLt}
-use mathlib.Core.Path.{_≡_, refl, sym, _∙_}
-use mathlib.Core.Logic.{_⊎_, inl, inr, _↔_, _≢_}
+use mathlib.Core.Path.{_≡_, refl, sym, ap, _∙_}
+use mathlib.Core.Logic.{_⊎_, inl, inr, ⊎-elim, _↔_, _≢_}
 use mathlib.Core.List.{List}
 use lib.Dec.{T}
-use lib.ListN.{length, set, replicate, length-set, length-replicate, getD-replicate, List·getD-eq-default}
+use lib.ListN.{length, getD, set, replicate, length-set, length-replicate, List·getD-eq-default}
 use lib.Seq.{getD-set-same, getD-set-other}
 use Rattle.rules.specs.Lists.{within}
 use Rattle.rules.specs.Table.{mostBenches, mostJobs}
-use Rattle.rules.proofs.Basics.{within-low, within-high, within-both}
+use Rattle.rules.proofs.Basics.{within-low, within-high, within-both, each-replicate, each-getD}
 use Rattle.table.specs.Sizes.{Limits}
 use Rattle.table.specs.declared.size.Size.{Size}
 use Rattle.search.specs.Arrays.{at, Leads, Arcs, LoadsIn}
 use Rattle.search.specs.Lists.{LeastFrom, Listable, ListedBy, On, head, tail, Joins, Ways}
 
--- an array of zeros has 0 everywhere, beyond its end too
-zeros : (n k : ℕ) → at (replicate n 0) k ≡ 0
-zeros n k =
-    elim (decLt k n) [
-      | yes h ↦ getD-replicate n k 0 0 h
-      | no h ↦ List·getD-eq-default (replicate n 0) 0 (rw (length-replicate {A = ℕ} n 0) (omega arith))
-    ]
+-- arrays made of one value
 
--- arrays of m and p zeros can list 1 to n by keys below m
-listable : (m n p : ℕ) (key : List ℕ) → n < 65536 → n < length key → n < p → ((i : ℕ) → 1 ≤ i → i ≤ n → at key i < m) → Listable n key (replicate m 0) (replicate p 0)
-listable m n p key small keys places below =
+-- an array made of one value has it everywhere, beyond its end too ..
+pub array-at : {A : Type 0} {a : A} {l : List A} (n : ℕ) → l ≡ replicate n a → (k : ℕ) → getD l k a ≡ a
+array-at {a = a} n e k = rw e (each-getD (λ x. x ≡ a) (replicate n a) k a refl (each-replicate (λ x. x ≡ a) n a refl))
+
+-- .. and is as long as it was made
+pub array-long : {A : Type 0} {n : ℕ} {l : List A} (a : A) → l ≡ replicate n a → length l ≡ n
+array-long {n = n} a e = ap length e ∙ length-replicate n a
+
+-- arrays of m and p zeros can list 1 to n by keys below m ..
+listable : (m p : ℕ) {n : ℕ} {key first next : List ℕ} → first ≡ replicate m 0 → next ≡ replicate p 0 → n < 65536 → n < length key → n < p → ((i : ℕ) → 1 ≤ i → i ≤ n → at key i < m) → Listable n key first next
+listable m p f x small keys places below =
     record {
       small = small;
       keys = keys;
-      places = rw (length-replicate {A = ℕ} p 0) places;
-      below = λ i l h. rw (length-replicate {A = ℕ} m 0) (below i l h);
-      blank = zeros m;
+      places = rw (array-long {n = p} 0 x) places;
+      below = λ i l h. rw (array-long {n = m} 0 f) (below i l h);
+      blank = array-at m f;
     }
 
--- arcs can be listed by the bench that they leave ..
-pub listable-arcs : (s : Size) (from to : List ℕ) → Limits s → Arcs s from to → Listable (s .jobs) from (replicate (mostBenches + 1) 0) (replicate (mostJobs + 1) 0)
-listable-arcs s from to l r =
-    listable (mostBenches + 1) (s .jobs) (mostJobs + 1) from
+-- .. arcs by the bench that they leave ..
+pub listable-arcs : {s : Size} {from to first next : List ℕ} {n : ℕ} → Limits s → Arcs s from to → first ≡ replicate (mostBenches + 1) 0 → next ≡ replicate (mostJobs + 1) 0 → n ≡ s .jobs → Listable n from first next
+listable-arcs {s} l r f x e =
+    listable (mostBenches + 1) (mostJobs + 1) f x
     (omega (arith, l .jobs-most))
     (omega (arith, l .jobs-most, r .from-long))
     (omega (arith, l .jobs-most))
-    (λ i h k. omega (arith, l .benches-most, r .leaves i (within-both 1 (s .jobs) i h k)))
+    (λ i h k. omega (arith, l .benches-most, r .leaves i (within-both 1 (s .jobs) i h (omega arith))))
 
 -- .. and benches by their load
-pub listable-loads : (s : Size) (loads : List ℕ) → Limits s → LoadsIn s loads → Listable (s .benches) loads (replicate (mostJobs + 1) 0) (replicate (mostBenches + 1) 0)
-listable-loads s loads l r =
-    listable (mostJobs + 1) (s .benches) (mostBenches + 1) loads
+pub listable-loads : {s : Size} {loads first next : List ℕ} {n : ℕ} → Limits s → LoadsIn s loads → first ≡ replicate (mostJobs + 1) 0 → next ≡ replicate (mostBenches + 1) 0 → n ≡ s .benches → Listable n loads first next
+listable-loads l r f x e =
+    listable (mostJobs + 1) (mostBenches + 1) f x
     (omega (arith, l .benches-most))
     (omega (arith, l .benches-most, r .long))
     (omega (arith, l .benches-most))
     (λ i h k. omega (arith, l .jobs-most, r .most i h))
+
+-- numbers listed into an array of m zeros have keys below m
+pub listed-below : {m n k : ℕ} {a key first next : List ℕ} → a ≡ replicate m 0 → n ≡ k → ListedBy (length a) n key first next → ListedBy m k key first next
+listed-below {m} e f l = rw (array-long {n = m} 0 e, f) at l
+
+-- the least with a key
 
 module _ {key : List ℕ} {n : ℕ} where
   -- beyond n there is no number
@@ -72,6 +80,12 @@ module _ {key : List ℕ} {n : ℕ} where
           | no q ↦ f .least m (omega arith) h e
         ];
       }
+
+  -- the least of some numbers is none or one of them
+  pub least-some : {i k r : ℕ} (m : ℕ) → n ≤ m → LeastFrom key n i k r → (r ≡ 0) ⊎ ((i ≤ r) × (r ≤ m))
+  least-some {r = r} m h f = elim (ℕ-discrete r 0) [ yes e ↦ inl e | no d ↦ let g = f .found d in inr (g .0, omega (arith, g .1)) ]
+
+-- one turn of the listing
 
 -- the numbers above i, to n, are listed by their keys, which are below m, in arrays of m and p numbers
 pub record Listing (m p n : ℕ) (key : List ℕ) (i : ℕ) (first next : List ℕ) : Type 0 where
@@ -127,10 +141,67 @@ module _ {m p n : ℕ} {key : List ℕ} {i : ℕ} {first next : List ℕ} where
         long = l .long;
       }
 
--- nothing is on a list that begins with 0
-on-end : (next : List ℕ) (r a : ℕ) → r ≡ 0 → On next r a → ⊥
-on-end next r a e (head _ d) = d e
-on-end next r a e (tail _ _ d o) = d e
+-- what is on a list
+
+module _ {next : List ℕ} where
+  -- 0 begins no list ..
+  pub on-some : {a b : ℕ} → On next a b → a ≢ 0
+  on-some (head a d) = d
+  on-some (tail a b d o) = d
+
+  -- .. what is on one is its first, or is on the rest ..
+  pub on-rest : {a b : ℕ} → On next a b → a ≢ b → On next (at next a) b
+  on-rest (head a d) n = absurd (n refl)
+  on-rest (tail a b d o) n = o
+
+  -- .. and what comes after a number on it is on it
+  pub on-next : {a b : ℕ} → On next a b → at next b ≢ 0 → On next a (at next b)
+  on-next (head a d) n = tail a (at next a) d (head (at next a) n)
+  on-next (tail a b d o) n = tail a (at next b) d (on-next o n)
+
+-- every number on the list that begins with a is the last, or below the next, which is at most m
+abbrev pub Rises : List ℕ → ℕ → ℕ → Type 0
+Rises next m a = (b : ℕ) → On next a b → (at next b ≡ 0) ⊎ ((b < at next b) × (at next b ≤ m))
+
+module _ {next : List ℕ} {m : ℕ} where
+  -- the list after its first number rises too
+  rises-next : (a : ℕ) → a ≢ 0 → Rises next m a → Rises next m (at next a)
+  rises-next a d r b o = r b (tail a b d o)
+
+  -- the first number is below all that is not below the second
+  first-below : (a b : ℕ) → a ≢ 0 → Rises next m a → at next a ≢ 0 → at next a ≤ b → a < b
+  first-below a b d r n h = ⊎-elim (λ e. absurd (n e)) (λ l. omega (arith, l .0)) (r a (head a d))
+
+  -- no number on the list is below its first ..
+  pub on-above : {a b : ℕ} → Rises next m a → On next a b → a ≤ b
+  on-above r (head a d) = omega arith
+  on-above r (tail a b d o) = let l = first-below a b d r (on-some o) (on-above (rises-next a d r) o) in omega arith
+
+  -- .. nor above m
+  pub on-most : {a b : ℕ} → a ≤ m → Rises next m a → On next a b → b ≤ m
+  on-most l r (head a d) = l
+  on-most l r (tail a b d o) = on-most (⊎-elim (λ e. omega arith) (λ h. h .1) (r a (head a d))) (rises-next a d r) o
+
+  -- each number on the list is below a, or is a, or is at least what comes after a
+  pub on-split : {s a b : ℕ} → Rises next m s → On next s a → On next s b → (b < a) ⊎ (b ≡ a) ⊎ ((at next a ≢ 0) × (at next a ≤ b))
+  on-split r (head s d) (head _ e) = inr (inl refl)
+  on-split r (head s d) (tail _ b e o) = inr (inr (on-some o, on-above (rises-next s d r) o))
+  on-split r (tail s a d p) (head _ e) = inl (first-below s a d r (on-some p) (on-above (rises-next s d r) p))
+  on-split r (tail s a d p) (tail _ b e o) = on-split (rises-next s d r) p o
+
+-- how many numbers to m can come from a on; a list ends with 0
+abbrev pub left : ℕ → ℕ → ℕ
+left m zero = 0
+left m (suc a) = m - a
+
+-- fewer can come from the next on
+pub left-less : (m a b : ℕ) → a ≢ 0 → a ≤ m → (b ≡ 0) ⊎ ((a < b) × (b ≤ m)) → left m b < left m a
+left-less m zero b d u r = absurd (d refl)
+left-less m (suc a) zero d u r = omega arith
+left-less m (suc a) (suc b) d u (inl e) = absurd (omega arith)
+left-less m (suc a) (suc b) d u (inr r) = omega arith
+
+-- lists by a key
 
 module _ {m n : ℕ} {key first next : List ℕ} (l : ListedBy m n key first next) where
   -- on the list from the least of i to n with key k on are numbers of i to n with that key ..
@@ -162,14 +233,6 @@ on-listed {m} {n} {key} {first} {next} l k a h = (
 )
 
 module _ (s : Size) (from to first next : List ℕ) (limits : Limits s) (arcs : Arcs s from to) (listed : ListedBy (mostBenches + 1) (s .jobs) from first next) where
-  -- the least of some arcs is none or an arc
-  least-arc : (i k r : ℕ) → LeastFrom from (s .jobs) i k r → (r ≡ 0) ⊎ ((i ≤ r) × (r ≤ mostJobs))
-  least-arc i k r f =
-      elim (ℕ-discrete r 0) [
-        | yes e ↦ inl e
-        | no d ↦ let g = f .found d in inr (g .0, omega (arith, g .1, limits .jobs-most))
-      ]
-
   -- what is on a bench's list is an arc that leaves it
   on-bench : (x a : ℕ) → T (within 1 mostBenches x) → On next (at first x) a → T (within 1 (s .jobs) a) × (at from a ≡ x)
   on-bench x a t o = on-listed listed x a (omega (arith, within-high 1 mostBenches x t)) .0 o
@@ -178,12 +241,9 @@ module _ (s : Size) (from to first next : List ℕ) (limits : Limits s) (arcs : 
   pub listed-ways : Ways first next to
   listed-ways =
       record {
-        heads = λ x t. elim (least-arc 1 x (at first x) (listed .heads x (omega (arith, within-high 1 mostBenches x t)))) [
-          | inl e ↦ omega arith
-          | inr g ↦ g .1
-        ];
+        heads = λ x t. ⊎-elim (λ e. omega arith) (λ g. g .1) (least-some mostJobs (limits .jobs-most) (listed .heads x (omega (arith, within-high 1 mostBenches x t))));
         rise = λ x a t o. let w = on-bench x a t o .0 in
-            least-arc (suc a) (at from a) (at next a) (listed .later a (within-low 1 (s .jobs) a w) (within-high 1 (s .jobs) a w));
+            least-some mostJobs (limits .jobs-most) (listed .later a (within-low 1 (s .jobs) a w) (within-high 1 (s .jobs) a w));
         leads = λ x a t o. let w = on-bench x a t o in
             let b = arcs .leads a (w .0) (omega (arith, w .1, within-low 1 mostBenches x t)) in
             within-both 1 mostBenches (at to a) (b .least) (omega (arith, b .most, limits .benches-most));
@@ -194,7 +254,7 @@ module _ (s : Size) (from to first next : List ℕ) (limits : Limits s) (arcs : 
   joins-leads x y = (
     λ j. elim (decLt x (mostBenches + 1)) [
       | yes h ↦ let w = on-listed listed x (j .0) h .0 (j .1) in (j .0, w .0, w .1, j .2)
-      | no h ↦ absurd (on-end next (at first x) (j .0) (List·getD-eq-default first 0 (omega (arith, listed .long))) (j .1))
+      | no h ↦ absurd (on-some (j .1) (List·getD-eq-default first 0 (omega (arith, listed .long))))
     ],
     λ g. (g .0, on-listed listed x (g .0) (omega (arith, arcs .leaves (g .0) (g .1), g .2, limits .benches-most)) .1 (g .1, g .2), g .3),
   )

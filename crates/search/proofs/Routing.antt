@@ -3,39 +3,22 @@ use Prim.Native.Nat.{ℕ, zero, suc, _+_, _-_, _≤_, _<_}
 use native.Mathlib.Omega.{arith}
 use native.Mathlib.Numerals.{add-one}
 use mathlib.Core.Path.{_≡_, refl, sym, ap, subst, _∙_}
-use mathlib.Core.Logic.{_⊎_, inl, inr, ⊎-elim, _≢_}
-use mathlib.Core.Bool.{cond}
+use mathlib.Core.Logic.{_⊎_, ⊎-elim, _≢_}
 use mathlib.Core.List.{List, [], _∷_, _++_, append-assoc, append-nil}
-use lib.Dec.{T, eqb, ltb}
-use lib.ListN.{length, set, replicate, take, length-set, length-replicate}
+use lib.Dec.{T}
+use lib.ListN.{length, set, replicate, take, length-set}
 use lib.Seq.{take-suc-set}
-use borrow.Author.Tests.{eq-eqb, ne-eqb, le-ltb}
-use Rattle.rules.specs.Lists.{bit, within, total}
+use Rattle.rules.specs.Lists.{within}
 use Rattle.rules.specs.Table.{mostBenches, mostJobs}
 use Rattle.rules.proofs.Basics.{within-low, within-both}
-use Rattle.rules.proofs.Counting.{bit-le, total-most}
 use Rattle.table.specs.Sizes.{Limits, BenchIn}
 use Rattle.table.specs.declared.size.Size.{Size}
 use Rattle.search.specs.Arrays.{at, Leads, Arcs}
-use Rattle.search.specs.Lists.{Listable, ListedBy, On, head, tail, Joins, Ways}
-use Rattle.search.specs.Spread.{Queued, Spread, Distances}
+use Rattle.search.specs.Lists.{ListedBy, On, head, tail, Joins, Ways}
+use Rattle.search.specs.Spread.{Spread, Distances}
 use Rattle.search.specs.Route.{FirstNearer, Falls, Follows, Routed}
-use Rattle.search.proofs.Listing.{listable-arcs, on-listed, joins-leads}
-
--- arcs in lists
-
--- arcs can be listed in arrays of zeros ..
-pub zeros-listable : {s : Size} {from to first next : List ℕ} {n : ℕ} → Limits s → Arcs s from to → first ≡ replicate (mostBenches + 1) 0 → next ≡ replicate (mostJobs + 1) 0 → n ≡ s .jobs → Listable n from first next
-zeros-listable {s} {from} {to} l r f x e = rw (f, x, e) (listable-arcs s from to l r)
-
--- .. which are as long as said ..
-zeros-long : {l : List ℕ} {n : ℕ} → l ≡ replicate n 0 → length l ≡ n
-zeros-long {l} {n} e = ap length e ∙ length-replicate {A = ℕ} n 0
-
--- .. so that there is a list for every bench
-pub zeros-listed : {from first₀ first next : List ℕ} {n jobs : ℕ} → first₀ ≡ replicate (mostBenches + 1) 0 → n ≡ jobs → ListedBy (length first₀) n from first next → ListedBy (mostBenches + 1) jobs from first next
-zeros-listed {from} {first = first} {next} {jobs = jobs} f e l =
-    subst (λ (m : ℕ). ListedBy m jobs from first next) (zeros-long f) (rw e at l)
+use Rattle.search.proofs.Listing.{array-at, on-some, on-rest, on-above, on-listed, joins-leads}
+use Rattle.search.proofs.Widening.{queued-few}
 
 -- distances
 
@@ -43,40 +26,12 @@ zeros-listed {from} {first = first} {next} {jobs = jobs} f e l =
 pub bench-within : (s : Size) (x : ℕ) → Limits s → BenchIn s x → T (within 1 mostBenches x)
 bench-within s x l b = within-both 1 mostBenches x (b .least) (omega arith)
 
--- where no bench has a number, none is counted
-total-none : (n : ℕ) (dist : List ℕ) → ((y : ℕ) → at dist y ≡ 0) → total n (λ y. bit (ltb 0 (at dist y))) ≡ 0
-total-none zero dist z = refl
-total-none (suc n) dist z = omega (arith, total-none n dist z, ap bit (le-ltb 0 (at dist (suc n)) (omega (arith, z (suc n)))))
-
--- an array of zeros has 0 everywhere
-zeros-blank : (n y : ℕ) → at (replicate n 0) y ≡ 0
-zeros-blank zero y = refl
-zeros-blank (suc n) zero = refl
-zeros-blank (suc n) (suc y) = zeros-blank n y
-
--- in arrays of zeros nothing is found
-pub zeros-queued : {queue dist : List ℕ} → queue ≡ replicate (mostBenches + 1) 0 → dist ≡ replicate (mostBenches + 1) 0 → Queued 0 queue dist
-zeros-queued {queue} {dist} q d =
-    record {
-      queue-long = zeros-long q;
-      dist-long = zeros-long d;
-      counted = sym (total-none mostBenches dist zeros);
-      most = λ y. omega (arith, zeros y);
-    }
-  where
-    zeros : (y : ℕ) → at dist y ≡ 0
-    zeros y = ap (λ (l : List ℕ). at l y) d ∙ zeros-blank (mostBenches + 1) y
-
--- no more are found than are counted
-found-most : (n found : ℕ) (dist : List ℕ) → found ≡ total n (λ y. bit (ltb 0 (at dist y))) → found ≤ n
-found-most n found dist e = rw e (total-most n (λ y. bit (ltb 0 (at dist y))) (λ y. bit-le (ltb 0 (at dist y))))
-
 -- a search that starts with no bench numbered gives the distances
 blank-distances : (s : Size) (from to first next : List ℕ) → Limits s → Arcs s from to → ListedBy (mostBenches + 1) (s .jobs) from first next → (v : ℕ) → BenchIn s v → (found : ℕ) (queue dist₀ dist : List ℕ) → ((y : ℕ) → at dist₀ y ≡ 0) → Spread (Joins first next to) v 0 dist₀ found queue dist → Distances s from to v dist
 blank-distances s from to first next l r e v b found queue dist₀ dist blank p =
     record {
       bench = λ y h. bench y (at dist y) refl h;
-      most = λ y. let most = found-most mostBenches found dist (p .queued .counted) in omega (arith, p .queued .most y);
+      most = λ y. omega (arith, p .queued .most y, queued-few (p .queued));
       here = p .first (blank v);
       only = λ y. p .only y (blank y);
       comes = comes;
@@ -101,7 +56,7 @@ blank-distances s from to first next l r e v b found queue dist₀ dist blank p 
 -- a search that starts with nothing found gives the distances
 pub spread-distances : (s : Size) (from to first next : List ℕ) → Limits s → Arcs s from to → ListedBy (mostBenches + 1) (s .jobs) from first next → (v : ℕ) → BenchIn s v → (found : ℕ) (queue dist : List ℕ) → Spread (Joins first next to) v 0 (replicate (mostBenches + 1) 0) found queue dist → Distances s from to v dist
 spread-distances s from to first next l r e v b found queue dist p =
-    blank-distances s from to first next l r e v b found queue (replicate (mostBenches + 1) 0) dist (zeros-blank (mostBenches + 1)) p
+    blank-distances s from to first next l r e v b found queue (replicate (mostBenches + 1) 0) dist (array-at (mostBenches + 1) refl) p
 
 -- distances to v, by arcs taken backwards, fall along arcs
 pub distances-fall : (s : Size) (from to : List ℕ) (v : ℕ) (dist : List ℕ) → Distances s to from v dist → Falls s from to dist
@@ -111,25 +66,6 @@ distances-fall s from to v dist d = record { bench = d .bench; most = d .most; n
     nearer y n e = let q = d .comes y n e in let a = q .2 in (q .0, q .1, (a .0, a .1, a .3, a .2))
 
 -- the smallest arc that goes nearer
-
--- 0 begins no list
-on-some : {next : List ℕ} {a b : ℕ} → On next a b → a ≢ 0
-on-some (head a d) = d
-on-some (tail a b d o) = d
-
--- what is on a list is its first, or is on the rest
-on-rest : {next : List ℕ} {a b : ℕ} → On next a b → a ≢ b → On next (at next a) b
-on-rest (head a d) n = absurd (n refl)
-on-rest (tail a b d o) n = o
-
--- the first of a list that rises is the smallest
-on-rises : {next : List ℕ} {a b : ℕ} → ((c : ℕ) → On next a c → (at next c ≡ 0) ⊎ ((c < at next c) × (at next c ≤ mostJobs))) → On next a b → a ≤ b
-on-rises f (head a d) = omega arith
-on-rises {next} f (tail a b d o) = go (on-rises (λ c i. f c (tail a c d i)) o) (f a (head a d))
-  where
-    go : at next a ≤ b → (at next a ≡ 0) ⊎ ((a < at next a) × (at next a ≤ mostJobs)) → a ≤ b
-    go h (inl e) = absurd (on-some o e)
-    go h (inr p) = omega (arith, p .0)
 
 -- no arc of x before arc a goes nearer; a is 0 after the last
 pub record Seeking (first next to dist : List ℕ) (x a : ℕ) : Type 0 where
@@ -160,24 +96,12 @@ module _ {first next to dist : List ℕ} {x : ℕ} (ways : Ways first next to) (
   seeking-found {a} d e i =
       record {
         none = λ z. absurd (d z);
-        some = λ z. (i .on a (head a d), e, λ b o q. on-rises (λ c j. ways .rise x c bench (i .on c j)) (i .left b o q));
+        some = λ z. (i .on a (head a d), e, λ b o q. on-above (λ c j. ways .rise x c bench (i .on c j)) (i .left b o q));
       }
 
 -- after the last arc there is none
 pub seeking-none : {first next to dist : List ℕ} {x : ℕ} → Seeking first next to dist x 0 → FirstNearer first next to dist x 0
 seeking-none i = record { none = λ z a o e. on-some (i .left a o e) refl; some = λ d. absurd (d refl) }
-
--- how many arcs can come from arc a on; a list ends with 0
-abbrev pub after : ℕ → ℕ
-after a = cond (eqb a 0) 0 (mostJobs + 1 - a)
-
--- fewer can come from the next arc on
-pub after-less : (a b : ℕ) → a ≢ 0 → a ≤ mostJobs → (b ≡ 0) ⊎ ((a < b) × (b ≤ mostJobs)) → after b < after a
-after-less a b d h r = rw (ne-eqb a 0 d) (go r)
-  where
-    go : (b ≡ 0) ⊎ ((a < b) × (b ≤ mostJobs)) → after b < mostJobs + 1 - a
-    go (inl e) = rw (eq-eqb b 0 e) (omega arith)
-    go (inr p) = rw (ne-eqb b 0 (λ e. omega arith)) (omega (arith, p .0))
 
 -- the whole way
 

@@ -2,22 +2,22 @@
 use Prim.Native.Nat.{ℕ, zero, suc, _+_, _-_, _≤_, _<_}
 use native.Mathlib.Omega.{arith}
 use native.Mathlib.Decide.{ℕ-discrete, decLe, decLt}
-use mathlib.Core.Path.{_≡_, refl, sym, ap, subst, _∙_}
+use mathlib.Core.Path.{_≡_, refl, sym, ap, subst}
 use mathlib.Core.Logic.{_⊎_, inl, inr, ⊎-elim, _≢_, _↔_}
 use mathlib.Core.List.{List}
-use lib.Dec.{T, ltb}
-use lib.ListN.{length, replicate, length-replicate}
-use Rattle.rules.specs.Lists.{bit, within, total}
+use lib.Dec.{T}
+use lib.ListN.{replicate}
+use Rattle.rules.specs.Lists.{within}
 use Rattle.rules.specs.Table.{mostBenches, mostJobs}
 use Rattle.rules.proofs.Basics.{within-low, within-high, within-both}
-use Rattle.rules.proofs.Counting.{bit-le, total-most}
 use Rattle.table.specs.Sizes.{Limits}
 use Rattle.table.specs.declared.size.Size.{Size}
 use Rattle.search.specs.Arrays.{at, Leads, Reached, here, step, Arcs, LoadsIn}
 use Rattle.search.specs.Lists.{LeastFrom, ListedBy, Joins, Ways}
-use Rattle.search.specs.Spread.{Queued, Spread}
+use Rattle.search.specs.Spread.{Spread}
 use Rattle.search.specs.Start.{QueuedIn, LowIn, AsHeavy, StartsLow, FirstStart, StartOf, Searching, Searched}
-use Rattle.search.proofs.Listing.{listed-ways, joins-leads}
+use Rattle.search.proofs.Listing.{array-at, least-some, listed-ways, joins-leads}
+use Rattle.search.proofs.Widening.{queued-few, none-queued}
 
 -- what is reached
 
@@ -42,13 +42,10 @@ module _ {Joined : ℕ → ℕ → Type 0} where
   -- a search puts benches into the queue
   pub spread-queued : {x found end : ℕ} {dist queue' dist' loads : List ℕ} → Spread Joined x found dist end queue' dist' → ((y : ℕ) → T (within 1 mostBenches y) → at loads y ≤ mostJobs) → QueuedIn queue' found end loads
   spread-queued {found = found} {end} {dist} {queue'} {dist'} s h =
-      record { most = most; bench = λ i l u. within-high 1 mostBenches (at queue' i) (bench i l u); few = λ i l u. h (at queue' i) (bench i l u) }
+      record { most = queued-few (s .queued); bench = λ i l u. within-high 1 mostBenches (at queue' i) (bench i l u); few = λ i l u. h (at queue' i) (bench i l u) }
     where
       bench : (i : ℕ) → found ≤ i → i < end → T (within 1 mostBenches (at queue' i))
       bench i l u = let (e, f) = s .new i l u in s .bench (at queue' i) e f
-
-      most : end ≤ mostBenches
-      most = rw (s .queued .counted) (total-most mostBenches (λ y. bit (ltb 0 (at dist' y))) (λ y. bit-le (ltb 0 (at dist' y))))
 
 -- a low load in the queue
 
@@ -74,20 +71,9 @@ pub record Among (Joined : ℕ → ℕ → Type 0) (loads : List ℕ) (load x fo
 least-bench : {loads : List ℕ} {i load x : ℕ} → LeastFrom loads mostBenches i load x → 1 ≤ i → x ≢ 0 → T (within 1 mostBenches x) × (at loads x ≡ load)
 least-bench {x = x} h l d = let (a, b, e) = h .found d in (within-both 1 mostBenches x (omega arith) b, e)
 
--- benches from x on, none where x is 0
-abbrev pub left : ℕ → ℕ
-left zero = 0
-left (suc x) = mostBenches - x
-
--- after a bench of the list comes a later one or none ..
-pub left-less : {loads : List ℕ} {load x y : ℕ} → LeastFrom loads mostBenches (suc x) load y → T (within 1 mostBenches x) → left y < left x
-left-less {x = zero} h t = absurd t
-left-less {x = suc x} {y = zero} h t = omega (arith, within-high 1 mostBenches (suc x) t)
-left-less {x = suc x} {y = suc y} h t = omega (arith, h .found (λ e. omega arith) .0, within-high 1 mostBenches (suc x) t)
-
--- .. no number above those of benches
+-- no number is above those of benches
 pub least-most : {loads : List ℕ} {i load x : ℕ} → LeastFrom loads mostBenches i load x → x ≤ mostBenches
-least-most {x = x} h = elim (ℕ-discrete x 0) [ yes e ↦ omega arith | no d ↦ h .found d .1 ]
+least-most h = ⊎-elim (λ e. omega arith) (λ g. g .1) (least-some mostBenches (omega arith) h)
 
 module _ {Joined : ℕ → ℕ → Type 0} {loads : List ℕ} where
   -- no bench of this load was searched yet
@@ -186,7 +172,7 @@ module _ {Joined : ℕ → ℕ → Type 0} {loads : List ℕ} where
 
 module _ {A B : ℕ → ℕ → Type 0} where
   -- what is reached by one relation's steps is reached by another's, if that has the same steps
-  reached-same : ((x y : ℕ) → A x y → B x y) → (x y : ℕ) → Reached A x y → Reached B x y
+  pub reached-same : ((x y : ℕ) → A x y → B x y) → (x y : ℕ) → Reached A x y → Reached B x y
   reached-same f x _ (here _) = here x
   reached-same f x y (step _ z _ j r) = step x z y (f x z j) (reached-same f z y r)
 
@@ -200,24 +186,6 @@ start-same {loads = loads} {r} f s =
     record { none = λ e w t h. s .none e w t (starts-same loads (λ x y. f x y .1) w h); some = λ d. let g = s .some d in record { bench = g .bench; starts = starts-same loads (λ x y. f x y .0) r (g .starts); first = λ w t h. g .first w t (starts-same loads (λ x y. f x y .1) w h) } }
 
 -- every load in turn
-
--- an array of zeros has 0 everywhere ..
-blank : (n i : ℕ) → at (replicate n 0) i ≡ 0
-blank zero i = refl
-blank (suc n) zero = refl
-blank (suc n) (suc i) = blank n i
-
--- .. and is as long as it was made
-blank-long : {n : ℕ} {a : List ℕ} → a ≡ replicate n 0 → length a ≡ n
-blank-long {n} e = ap length e ∙ length-replicate {A = ℕ} n 0
-
--- nothing is found where no bench has a number
-none-queued : (queue dist : List ℕ) → length queue ≡ mostBenches + 1 → length dist ≡ mostBenches + 1 → ((y : ℕ) → at dist y ≡ 0) → Queued 0 queue dist
-none-queued queue dist q d z = record { queue-long = q; dist-long = d; counted = sym (none mostBenches); most = λ y. omega (arith, z y) }
-  where
-    none : (n : ℕ) → total n (λ y. bit (ltb 0 (at dist y))) ≡ 0
-    none zero = refl
-    none (suc n) = rw (none n, z (suc n)) refl
 
 -- what is least among 1 to n is least among more, if the others have other keys
 least-more : {key : List ℕ} {n i k r : ℕ} (m : ℕ) → LeastFrom key n i k r → n ≤ m → ((x : ℕ) → n < x → at key x ≢ k) → LeastFrom key m i k r
@@ -242,10 +210,6 @@ listed-heavy {s} {loads} {heavy} {after} limits l listed load p q =
           | no u ↦ absurd (omega (arith, l .beyond y (omega arith)))
         ]
 
--- numbers listed into an array of m zeros have keys below m
-pub listed-blank : {m n k : ℕ} {a key first next : List ℕ} → a ≡ replicate m 0 → n ≡ k → ListedBy (length a) n key first next → ListedBy m k key first next
-listed-blank {m} {a = a} e f l = let long : length a ≡ m = blank-long e in rw (long, f) at l
-
 -- the lists of arcs and of loads, and what is found: no bench above this load starts an improving path
 pub record Falling (jobs : ℕ) (from to loads first next heavy after : List ℕ) (load found : ℕ) (queue dist : List ℕ) : Type 0 where
   pub ways : Ways first next to
@@ -257,10 +221,18 @@ pub record Falling (jobs : ℕ) (from to loads first next heavy after : List ℕ
 -- before the greatest load no bench was searched
 pub falling-start : {s : Size} {from to loads first next heavy after queue dist : List ℕ} → Limits s → Arcs s from to → LoadsIn s loads → ListedBy (mostBenches + 1) (s .jobs) from first next → ListedBy (mostJobs + 1) (s .benches) loads heavy after → queue ≡ replicate (mostBenches + 1) 0 → dist ≡ replicate (mostBenches + 1) 0 → Falling (s .jobs) from to loads first next heavy after (s .jobs) 0 queue dist
 falling-start {s} {from} {to} {loads} {first} {next} {heavy} {after} {queue} {dist} limits arcs l listed benches q d =
-    record { ways = listed-ways s from to first next limits arcs listed; same = joins-leads s from to first next limits arcs listed; each = listed-heavy limits l benches; most = limits .jobs-most; searching = record { queued = none-queued queue dist (blank-long q) (blank-long d) zeros; shut = λ z y h j. absurd (omega (arith, zeros z)); high = λ y h. absurd (omega (arith, zeros y)); none = λ w t h _. omega (arith, l .most w (within-low 1 mostBenches w t)) } }
-  where
-    zeros : (y : ℕ) → at dist y ≡ 0
-    zeros y = ap (λ (a : List ℕ). at a y) d ∙ blank (mostBenches + 1) y
+    record {
+      ways = listed-ways s from to first next limits arcs listed;
+      same = joins-leads s from to first next limits arcs listed;
+      each = listed-heavy limits l benches;
+      most = limits .jobs-most;
+      searching = record {
+        queued = none-queued q d;
+        shut = λ z y h j. absurd (omega (arith, array-at (mostBenches + 1) d z));
+        high = λ y h. absurd (omega (arith, array-at (mostBenches + 1) d y));
+        none = λ w t h _. omega (arith, l .most w (within-low 1 mostBenches w t));
+      };
+    }
 
 module _ {jobs : ℕ} {from to loads first next heavy after : List ℕ} {load found : ℕ} {queue dist : List ℕ} (f : Falling jobs from to loads first next heavy after load found queue dist) where
   -- the benches of this load are listed

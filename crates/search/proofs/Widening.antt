@@ -1,13 +1,13 @@
 -- Breadth-first search: one bench found, the benches behind one found, and the search as a whole.
-use Prim.Native.Nat.{ℕ, suc, _+_, _-_, _≤_, _<_}
+use Prim.Native.Nat.{ℕ, zero, suc, _+_, _≤_, _<_}
 use native.Mathlib.Omega.{arith}
 use native.Mathlib.Decide.{ℕ-discrete, decLt, decLe}
 use mathlib.Core.Path.{_≡_, refl, sym, ap, subst, _∙_}
 use mathlib.Core.Logic.{_⊎_, inl, inr, ⊎-elim, _≢_, _↔_}
 use mathlib.Core.Bool.{Bool, cond}
 use mathlib.Core.List.{List}
-use lib.Dec.{T, eqb, ltb}
-use lib.ListN.{length, set, length-set}
+use lib.Dec.{T, ltb}
+use lib.ListN.{length, set, replicate, length-set}
 use lib.Seq.{getD-set-same, getD-set-other}
 use borrow.Author.Tests.{lt-ltb, le-ltb, eq-eqb, ne-eqb}
 use Rattle.rules.specs.Lists.{bit, within, total}
@@ -15,14 +15,20 @@ use Rattle.rules.specs.Table.{mostBenches, mostJobs}
 use Rattle.rules.proofs.Basics.{Compared, same, other, compared, within-low, within-high}
 use Rattle.rules.proofs.Counting.{bit-le, total-most, total-but-one}
 use Rattle.search.specs.Arrays.{at}
-use Rattle.search.specs.Lists.{On, head, tail, Joins, Ways}
+use Rattle.search.specs.Lists.{On, head, Joins, Ways}
 use Rattle.search.specs.Spread.{Queued, FoundOne, Widened, Spread}
+use Rattle.search.proofs.Listing.{array-at, array-long, on-some, on-next, Rises, on-above, on-most, on-split, left, left-less}
 
 -- the count of found benches
 
--- as many as pass a test are at most all
-passed-few : (n found : ℕ) (test : ℕ → Bool) → found ≡ total n (λ y. bit (test y)) → found ≤ n
-passed-few n found test e = omega (arith, total-most n (λ y. bit (test y)) (λ y. bit-le (test y)))
+-- where no bench has a number, none is found
+pub none-queued : {queue dist : List ℕ} → queue ≡ replicate (mostBenches + 1) 0 → dist ≡ replicate (mostBenches + 1) 0 → Queued 0 queue dist
+none-queued {queue} {dist} q d =
+    record { queue-long = array-long 0 q; dist-long = array-long 0 d; counted = sym (none mostBenches); most = λ y. omega (arith, array-at (mostBenches + 1) d y) }
+  where
+    none : (n : ℕ) → total n (λ y. bit (ltb 0 (at dist y))) ≡ 0
+    none zero = refl
+    none (suc n) = rw (none n, array-at (mostBenches + 1) d (suc n)) refl
 
 -- one more has a number after y got its first one
 counted-more : (n found y k : ℕ) (dist : List ℕ) → found ≡ total n (λ z. bit (ltb 0 (at dist z))) → 1 ≤ y → y ≤ n → y < length dist → at dist y ≡ 0 → 1 ≤ k → found + 1 ≡ total n (λ z. bit (ltb 0 (at (set dist y k) z)))
@@ -36,7 +42,8 @@ counted-more n found y k dist e l u h zero-y one-k =
 
 -- not more benches are found than there are
 pub queued-few : {found : ℕ} {queue dist : List ℕ} → Queued found queue dist → found ≤ mostBenches
-queued-few {found} {queue} {dist} q = passed-few mostBenches found (λ y. ltb 0 (at dist y)) (q .counted)
+queued-few {dist = dist} q =
+    rw (q .counted) (total-most mostBenches (λ y. bit (ltb 0 (at dist y))) (λ y. bit-le (ltb 0 (at dist y))))
 
 -- one number written
 
@@ -218,44 +225,6 @@ found-widened {y} {k} {found} {queue} {dist} {found'} {queue'} {dist'} f q w l u
         let e : found' ≡ found = omega arith in
         rw (e, b, c) (widened-by (grown-none q) (λ z i. omega (arith, ap (at dist) i)) (λ z m n. absurd (omega arith)))
 
--- lists that rise
-
--- every number on the list that begins with a is the last, or below the next, which is at most m
-abbrev Rises : List ℕ → ℕ → ℕ → Type 0
-Rises next m a = (b : ℕ) → On next a b → (at next b ≡ 0) ⊎ ((b < at next b) × (at next b ≤ m))
-
--- what comes after a number on the list is on it
-on-next : (next : List ℕ) (s a : ℕ) → On next s a → at next a ≢ 0 → On next s (at next a)
-on-next next _ _ (head s d) n = tail s (at next s) d (head (at next s) n)
-on-next next _ _ (tail s a d o) n = tail s (at next a) d (on-next next (at next s) a o n)
-
-module _ (next : List ℕ) (m : ℕ) where
-  -- the list after its first number rises too
-  rises-next : (a : ℕ) → a ≢ 0 → Rises next m a → Rises next m (at next a)
-  rises-next a d r b o = r b (tail a b d o)
-
-  -- the first number is below all that is not below the second
-  first-below : (a b : ℕ) → a ≢ 0 → Rises next m a → (at next a ≢ 0) × (at next a ≤ b) → a < b
-  first-below a b d r h = ⊎-elim (λ e. absurd (h .0 e)) (λ l. omega (arith, l .0, h .1)) (r a (head a d))
-
-  -- no number on the list is below its first ..
-  on-above : (a b : ℕ) → Rises next m a → On next a b → (a ≢ 0) × (a ≤ b)
-  on-above _ _ r (head a d) = (d, omega arith)
-  on-above _ _ r (tail a b d o) = (d, omega (arith, first-below a b d r (on-above (at next a) b (rises-next a d r) o)))
-
-  -- .. nor above m
-  on-most : (a b : ℕ) → a ≤ m → Rises next m a → On next a b → b ≤ m
-  on-most _ _ l r (head a d) = l
-  on-most _ _ l r (tail a b d o) =
-      on-most (at next a) b (⊎-elim (λ e. omega arith) (λ h. h .1) (r a (head a d))) (rises-next a d r) o
-
-  -- each number on the list is below a, or is a, or is at least what comes after a
-  on-split : (s a b : ℕ) → Rises next m s → On next s a → On next s b → (b < a) ⊎ (b ≡ a) ⊎ ((at next a ≢ 0) × (at next a ≤ b))
-  on-split _ _ _ r (head s d) (head _ e) = inr (inl refl)
-  on-split _ _ _ r (head s d) (tail _ b e o) = inr (inr (on-above (at next s) b (rises-next s d r) o))
-  on-split _ _ _ r (tail s a d p) (head _ e) = inl (first-below s a d r (on-above (at next s) a (rises-next s d r) p))
-  on-split _ _ _ r (tail s a d p) (tail _ b e o) = on-split (at next s) a b (rises-next s d r) p o
-
 -- the arcs on one bench's list, one by one
 
 -- an arc on the list that begins with s, and before a, leads to y; all are before 0
@@ -267,10 +236,6 @@ pub record Expanding (first next to : List ℕ) (x k found : ℕ) (queue dist : 
   pub widened : Widened (Met next to (at first x) a) k found queue dist found' queue' dist'
   pub left : a ≢ 0 → On next (at first x) a
 
--- how many arcs may be left from a on
-abbrev pub arcsLeft : ℕ → ℕ
-arcsLeft a = cond (eqb a 0) 0 (mostJobs + 1 - a)
-
 module _ {first next to : List ℕ} (x : ℕ) (ways : Ways first next to) (bench : T (within 1 mostBenches x)) where
   -- the bench's list rises
   rises : Rises next mostJobs (at first x)
@@ -281,25 +246,20 @@ module _ {first next to : List ℕ} (x : ℕ) (ways : Ways first next to) (bench
   expand-start q = record { widened = widened-none q none; left = λ d. head (at first x) d }
     where
       none : (y : ℕ) → Met next to (at first x) (at first x) y → ⊥
-      none y b =
-          let h = on-above next mostJobs (at first x) (b .0) rises (b .1) in
-          ⊎-elim (h .0) (λ l. omega (arith, l, h .1)) (b .2)
+      none y b = ⊎-elim (on-some (b .1)) (λ l. omega (arith, on-above rises (b .1))) (b .2)
 
   module _ {k found : ℕ} {queue dist : List ℕ} {a found' : ℕ} {queue' dist' : List ℕ} (e : Expanding first next to x k found queue dist a found' queue' dist') where
     -- an arc to be taken is one of 1 to 4,000
     pub expand-arc : a ≢ 0 → a ≤ mostJobs
-    expand-arc d = on-most next mostJobs (at first x) a (ways .heads x bench) rises (e .left d)
+    expand-arc d = on-most (ways .heads x bench) rises (e .left d)
 
     -- so is what comes after it, or it is the last
     pub expand-after : a ≢ 0 → at next a ≤ mostJobs
     expand-after d = ⊎-elim (λ z. omega arith) (λ l. l .1) (rises a (e .left d))
 
     -- after it, fewer are left
-    pub expand-less : a ≢ 0 → arcsLeft (at next a) < arcsLeft a
-    expand-less d = rw (ne-eqb a 0 d) (⊎-elim (λ z. rw z (omega (arith, expand-arc d))) later (rises a (e .left d)))
-      where
-        later : (a < at next a) × (at next a ≤ mostJobs) → arcsLeft (at next a) < mostJobs + 1 - a
-        later l = rw (ne-eqb (at next a) 0 (λ z. omega (arith, l .0))) (omega (arith, l .0, l .1))
+    pub expand-less : a ≢ 0 → left mostJobs (at next a) < left mostJobs a
+    expand-less d = left-less mostJobs a (at next a) d (expand-arc d) (rises a (e .left d))
 
     -- it leads to a bench
     pub expand-leads : a ≢ 0 → T (within 1 mostBenches (at to a))
@@ -311,7 +271,7 @@ module _ {first next to : List ℕ} (x : ℕ) (ways : Ways first next to) (bench
         let w = e .widened in
         record {
           widened = widened-as (λ y. (joined y, split y)) (widened-more w (found-widened f (w .queued) (expand-leads d) l (omega (arith, w .more))));
-          left = on-next next (at first x) a (e .left d);
+          left = on-next (e .left d);
         }
       where
         s : ℕ
@@ -326,7 +286,7 @@ module _ {first next to : List ℕ} (x : ℕ) (ways : Ways first next to) (bench
         joined y (inr g) = (a, e .left d, past a (omega arith), sym g)
 
         split : (y : ℕ) → Met next to s (at next a) y → Met next to s a y ⊎ (y ≡ at to a)
-        split y (b, o, c, g) = go (on-split next mostJobs s a b rises (e .left d) o)
+        split y (b, o, c, g) = go (on-split rises (e .left d) o)
           where
             go : (b < a) ⊎ (b ≡ a) ⊎ ((at next a ≢ 0) × (at next a ≤ b)) → Met next to s a y ⊎ (y ≡ at to a)
             go (inl h) = inl (b, o, inr h, g)

@@ -3,11 +3,12 @@ use Prim.Native.Nat.{_≤_}
 use native.Mathlib.Omega.{arith}
 use mathlib.Core.Path.{_≡_}
 use borrow.Author.Needs.{needs}
-use Rattle.rules.specs.Table.{mostBenches}
+use Rattle.rules.specs.Table.{mostBenches, mostJobs}
 use Rattle.rules.proofs.Basics.{within-high}
 use Rattle.search.specs.Arrays.{at}
 use Rattle.search.specs.Lists.{head}
-use Rattle.search.proofs.Routing.{Seeking, after, after-less, seeking-start, seeking-rises, seeking-turn, seeking-found, seeking-none}
+use Rattle.search.proofs.Listing.{left, left-less}
+use Rattle.search.proofs.Routing.{Seeking, seeking-start, seeking-rises, seeking-turn, seeking-found, seeking-none}
 use Rattle.search.proofs.route.nearer.Statement.{statement}
 use Rattle.search.proofs.route.nearer.Tie as tie
 
@@ -15,7 +16,7 @@ abbrev Inv-loop : tie.InvT-loop
 Inv-loop first next to dist x near a₀ a = Seeking first next to dist x a
 
 abbrev μ-loop : tie.MeasureT-loop
-μ-loop first next to dist x near a₀ a = after a
+μ-loop first next to dist x near a₀ a = left mostJobs a
 
 -- x is a bench
 small : (c : tie.Start Inv-loop μ-loop) → c .args .x ≤ mostBenches
@@ -89,7 +90,7 @@ loop-less c =
     let p = c .before .before .before .before .before .before .before .before in
     let l = c .before .before .before .before .before .loop in
     let some = c .before .before .before .before .loop-test .taken in
-    after-less (l .a) (at (p .args .next .now) (l .a)) some (l .inv .number) (seeking-rises (p .pre .0) (p .pre .1 .0) some (l .inv))
+    left-less mostJobs (l .a) (at (p .args .next .now) (l .a)) some (l .inv .number) (seeking-rises (p .pre .0) (p .pre .1 .0) some (l .inv))
 
 returns-2 : tie.Need-returns-2 Inv-loop μ-loop
 returns-2 c = let last : c .before .loop .a ≡ 0 = search needs in seeking-none (rw last at (c .before .loop .inv))

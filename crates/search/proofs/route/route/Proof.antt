@@ -9,8 +9,8 @@ use Rattle.rules.specs.Table.{mostBenches, mostJobs}
 use Rattle.rules.proofs.Basics.{within-high}
 use Rattle.table.specs.declared.size.Size.{Size}
 use Rattle.search.specs.Arrays.{at}
-use Rattle.search.proofs.Listing.{listed-ways}
-use Rattle.search.proofs.Routing.{zeros-listable, zeros-listed, Nearest, Fallen, nearest, Routing, routing-start, routing-bench, routing-room, routing-turn, routing-end}
+use Rattle.search.proofs.Listing.{listable-arcs, listed-below, listed-ways}
+use Rattle.search.proofs.Routing.{Nearest, Fallen, nearest, Routing, routing-start, routing-bench, routing-room, routing-turn, routing-end}
 use Rattle.search.proofs.route.route.Statement.{statement}
 use Rattle.search.proofs.route.route.Tie as tie
 
@@ -38,7 +38,7 @@ slice-aggregate-list-by-2 c = search needs
 list-by-requires : tie.Need-list-by-requires Inv-loop μ-loop
 list-by-requires c κs =
     let p = c .before .before .before .before .before .before .pre in
-    zeros-listable (p .0) (p .1 .0) (c .before .before .before .before .before .benches .ensures) (c .before .before .before .before .jobs .ensures) (c .before .before .before .jobs2 .ensures)
+    listable-arcs (p .0) (p .1 .0) (c .before .before .before .before .before .benches .ensures) (c .before .before .before .before .jobs .ensures) (c .before .before .before .jobs2 .ensures)
 
 -- the distances fall along the arcs, and those are listed by the bench that they leave
 fallen : (c : tie.After-list-by Inv-loop μ-loop) → let a = c .before .before .before .before .before .before .before .args in Fallen (a .s) (a .from .now) (a .to .now) (a .dist .now) (c .list-by .last .1 .1 .0) (c .list-by .last .1 .1 .1 .0)
@@ -47,7 +47,7 @@ fallen c =
     record {
       limits = p .0;
       falls = p .1 .1 .0;
-      listed = zeros-listed (c .before .before .before .before .before .before .benches .ensures) (c .before .before .before .before .jobs2 .ensures) (c .list-by .ensures);
+      listed = listed-below (c .before .before .before .before .before .before .benches .ensures) (c .before .before .before .before .jobs2 .ensures) (c .list-by .ensures);
     }
 
 loop-holds : tie.Need-loop-holds Inv-loop μ-loop

@@ -3,8 +3,9 @@ use Prim.Native.Nat.{_+_}
 use borrow.Author.Needs.{needs}
 use Rattle.rules.specs.Table.{mostBenches}
 use Rattle.search.specs.Lists.{ListedBy}
-use Rattle.search.proofs.Listing.{listed-ways}
-use Rattle.search.proofs.Routing.{zeros-listable, zeros-listed, bench-within, zeros-queued, spread-distances}
+use Rattle.search.proofs.Listing.{listable-arcs, listed-below, listed-ways}
+use Rattle.search.proofs.Routing.{bench-within, spread-distances}
+use Rattle.search.proofs.Widening.{none-queued}
 use Rattle.search.proofs.spread.distances.Statement.{statement}
 use Rattle.search.proofs.spread.distances.Tie as tie
 
@@ -26,14 +27,14 @@ slice-aggregate-list-by-2 c = search needs
 list-by-requires : tie.Need-list-by-requires
 list-by-requires c κs =
     let p = c .before .before .before .before .before .before .pre in
-    zeros-listable (p .0) (p .1 .0) (c .before .before .before .before .before .benches .ensures) (c .before .before .before .before .jobs .ensures) (c .before .before .before .jobs2 .ensures)
+    listable-arcs (p .0) (p .1 .0) (c .before .before .before .before .before .benches .ensures) (c .before .before .before .before .jobs .ensures) (c .before .before .before .jobs2 .ensures)
 
 benches-requires-2 : tie.Need-benches-requires-2
 benches-requires-2 c κs = search needs
 
 -- the arcs are listed by the bench that they leave
 listed : (c : tie.After-list-by) → let a = c .before .before .before .before .before .before .before .args in ListedBy (mostBenches + 1) (a .s .jobs) (a .from .now) (c .list-by .last .1 .1 .0) (c .list-by .last .1 .1 .1 .0)
-listed c = zeros-listed (c .before .before .before .before .before .before .benches .ensures) (c .before .before .before .before .jobs2 .ensures) (c .list-by .ensures)
+listed c = listed-below (c .before .before .before .before .before .before .benches .ensures) (c .before .before .before .before .jobs2 .ensures) (c .list-by .ensures)
 
 spread-requires : tie.Need-spread-requires
 spread-requires c κs =
@@ -41,7 +42,7 @@ spread-requires c κs =
     let start = c .before .before .before .before .before .before .before .before .before .before .before .before .before .before in
     let a = start .args in
     let p = start .pre in
-    (listed-ways (a .s) (a .from .now) (a .to .now) (k .list-by .last .1 .1 .0) (k .list-by .last .1 .1 .1 .0) (p .0) (p .1 .0) (listed k), (bench-within (a .s) (a .v) (p .0) (p .1 .1 .0), zeros-queued (c .before .before .before .before .benches2 .ensures) (p .1 .1 .1)))
+    (listed-ways (a .s) (a .from .now) (a .to .now) (k .list-by .last .1 .1 .0) (k .list-by .last .1 .1 .1 .0) (p .0) (p .1 .0) (listed k), (bench-within (a .s) (a .v) (p .0) (p .1 .1 .0), none-queued (c .before .before .before .before .benches2 .ensures) (p .1 .1 .1)))
 
 returns : tie.Need-returns
 returns c =

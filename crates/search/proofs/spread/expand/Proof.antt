@@ -6,7 +6,8 @@ use native.Mathlib.Numerals.{add-one}
 use Rattle.rules.specs.Table.{mostBenches, mostJobs}
 use Rattle.rules.proofs.Basics.{within-high}
 use Rattle.search.specs.Arrays.{at}
-use Rattle.search.proofs.Widening.{queued-few, Expanding, arcsLeft, expand-start, expand-arc, expand-after, expand-less, expand-leads, expand-turn, expand-end}
+use Rattle.search.proofs.Listing.{left}
+use Rattle.search.proofs.Widening.{queued-few, Expanding, expand-start, expand-arc, expand-after, expand-less, expand-leads, expand-turn, expand-end}
 use Rattle.search.proofs.spread.expand.Statement.{statement}
 use Rattle.search.proofs.spread.expand.Tie as tie
 
@@ -15,7 +16,7 @@ Inv-loop first next to x found queue₀ dist₀ k found₀ a₀ queue dist found
     Expanding first next to x k found queue₀ dist₀ a found' queue dist
 
 abbrev μ-loop : tie.MeasureT-loop
-μ-loop first next to x found queue₀ dist₀ k found₀ a₀ queue dist found' a = arcsLeft a
+μ-loop first next to x found queue₀ dist₀ k found₀ a₀ queue dist found' a = left mostJobs a
 
 -- the bench is one of the arrays
 small : (c : tie.Start Inv-loop μ-loop) → c .args .x < mostBenches + 1

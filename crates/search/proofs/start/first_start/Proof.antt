@@ -7,8 +7,8 @@ use mir.Syntax.{w64}
 use mir.Val.{Fits}
 use borrow.Author.Needs.{needs}
 use Rattle.rules.specs.Table.{mostBenches, mostJobs}
-use Rattle.search.proofs.Listing.{listable-arcs, listable-loads}
-use Rattle.search.proofs.Starting.{Falling, falling-start, falling-some, falling-none, falling-turn, falling-heavy, listed-blank, least-most, load-less}
+use Rattle.search.proofs.Listing.{listable-arcs, listable-loads, listed-below}
+use Rattle.search.proofs.Starting.{Falling, falling-start, falling-some, falling-none, falling-turn, falling-heavy, least-most, load-less}
 use Rattle.search.proofs.start.first_start.Statement.{statement}
 use Rattle.search.proofs.start.first_start.Tie as tie
 
@@ -35,8 +35,8 @@ slice-aggregate-list-by-2 c = search needs
 
 list-by-requires : tie.Need-list-by-requires Inv-loop μ-loop
 list-by-requires c κs =
-    let start = c .before .before .before .before .before .before in
-    rw (c .before .before .before .jobs2 .ensures, c .before .before .before .before .before .benches .ensures, c .before .before .before .before .jobs .ensures) (listable-arcs (start .args .s) (start .args .from .now) (start .args .to .now) (start .pre .0) (start .pre .1 .0))
+    let p = c .before .before .before .before .before .before .pre in
+    listable-arcs (p .0) (p .1 .0) (c .before .before .before .before .before .benches .ensures) (c .before .before .before .before .jobs .ensures) (c .before .before .before .jobs2 .ensures)
 
 jobs-requires-3 : tie.Need-jobs-requires-3 Inv-loop μ-loop
 jobs-requires-3 c κs = search needs
@@ -55,8 +55,8 @@ slice-aggregate-list-by-4 c = search needs
 
 list-by-requires-2 : tie.Need-list-by-requires-2 Inv-loop μ-loop
 list-by-requires-2 c κs =
-    let start = c .before .before .before .before .before .before .before .before .before .before .before .before .before .before .before in
-    rw (c .before .before .before .benches3 .ensures, c .before .before .before .before .before .jobs3 .ensures, c .before .before .before .before .benches2 .ensures) (listable-loads (start .args .s) (start .args .loads .now) (start .pre .0) (start .pre .1 .1))
+    let p = c .before .before .before .before .before .before .before .before .before .before .before .before .before .before .before .pre in
+    listable-loads (p .0) (p .1 .1) (c .before .before .before .before .before .jobs3 .ensures) (c .before .before .before .before .benches2 .ensures) (c .before .before .before .benches3 .ensures)
 
 benches-requires-4 : tie.Need-benches-requires-4 Inv-loop μ-loop
 benches-requires-4 c κs = search needs
@@ -70,7 +70,7 @@ jobs-requires-4 c κs = search needs
 loop-holds : tie.Need-loop-holds Inv-loop μ-loop
 loop-holds c =
     let start = c .before .before .before .before .before .before .before .before .before .before .before .before .before .before .before .before .before .before .before .before .before in
-    rw (c .jobs4 .ensures) (falling-start (start .pre .0) (start .pre .1 .0) (start .pre .1 .1) (listed-blank (c .before .before .before .before .before .before .before .before .before .before .before .before .before .before .before .before .before .before .before .before .benches .ensures) (c .before .before .before .before .before .before .before .before .before .before .before .before .before .before .before .before .before .before .jobs2 .ensures) (c .before .before .before .before .before .before .before .before .before .before .before .before .before .before .list-by .ensures)) (listed-blank (c .before .before .before .before .before .before .before .before .before .before .before .jobs3 .ensures) (c .before .before .before .before .before .before .before .before .before .benches3 .ensures) (c .before .before .before .before .before .list-by2 .ensures)) (c .before .before .benches4 .ensures) (c .before .benches5 .ensures))
+    rw (c .jobs4 .ensures) (falling-start (start .pre .0) (start .pre .1 .0) (start .pre .1 .1) (listed-below (c .before .before .before .before .before .before .before .before .before .before .before .before .before .before .before .before .before .before .before .before .benches .ensures) (c .before .before .before .before .before .before .before .before .before .before .before .before .before .before .before .before .before .before .jobs2 .ensures) (c .before .before .before .before .before .before .before .before .before .before .before .before .before .before .list-by .ensures)) (listed-below (c .before .before .before .before .before .before .before .before .before .before .before .jobs3 .ensures) (c .before .before .before .before .before .before .before .before .before .benches3 .ensures) (c .before .before .before .before .before .list-by2 .ensures)) (c .before .before .benches4 .ensures) (c .before .benches5 .ensures))
 
 -- a load is a place of the array, and the place fits a word
 small : (n : ℕ) → n ≤ mostJobs → Fits w64 (n * 2) × (n < 4001)

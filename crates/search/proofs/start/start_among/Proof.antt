@@ -9,7 +9,8 @@ use Rattle.rules.specs.Lists.{within}
 use Rattle.rules.specs.Table.{mostBenches}
 use Rattle.rules.proofs.Basics.{within-high}
 use Rattle.search.specs.Lists.{LeastFrom, Joins}
-use Rattle.search.proofs.Starting.{Among, among-start, among-first, among-turn, among-end, searched-first, spread-queued, left, left-less, least-most}
+use Rattle.search.proofs.Listing.{least-some, left, left-less}
+use Rattle.search.proofs.Starting.{Among, among-start, among-first, among-turn, among-end, searched-first, spread-queued, least-most}
 use Rattle.search.proofs.start.start_among.Statement.{statement}
 use Rattle.search.proofs.start.start_among.Tie as tie
 
@@ -17,7 +18,7 @@ abbrev Inv-loop : tie.InvT-loop
 Inv-loop first next to loads after load x found queue₀ dist₀ found₀ x₀ queue dist found' x' = Among (Joins first next to) loads load x' found' queue dist
 
 abbrev μ-loop : tie.MeasureT-loop
-μ-loop first next to loads after load x found queue₀ dist₀ found₀ x₀ queue dist found' x' = left x'
+μ-loop first next to loads after load x found queue₀ dist₀ found₀ x₀ queue dist found' x' = left mostBenches x'
 
 loop-holds : tie.Need-loop-holds Inv-loop μ-loop
 loop-holds c = among-start (c .pre .1 .0) (c .pre .1 .1)
@@ -63,7 +64,10 @@ cast-x : tie.Need-cast-x Inv-loop μ-loop
 cast-x c = omega (arith, least-most (later (c .before)))
 
 loop-less : tie.Need-loop-less Inv-loop μ-loop
-loop-less c = left-less (later (c .before)) (bench (c .before) .0)
+loop-less c =
+    let p = c .before .before .before .before .before .before .before .before in
+    let l = p .loop in
+    left-less mostBenches (l .x) (getD (p .before .args .after .now) (l .x) 0) (c .before .before .before .before .before .before .before .loop-test .taken) (omega (arith, small (c .before))) (least-some mostBenches (omega arith) (later (c .before)))
 
 loop-again : tie.Need-loop-again Inv-loop μ-loop
 loop-again c =
