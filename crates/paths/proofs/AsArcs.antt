@@ -2,7 +2,7 @@
 use Prim.Native.Nat.{ℕ, _+_, _-_, _≤_, _<_}
 use native.Mathlib.Omega.{arith}
 use native.Mathlib.Decide.{ℕ-discrete, decLe}
-use mathlib.Core.Path.{_≡_, refl, sym, ap, _∙_}
+use mathlib.Core.Path.{_≡_, refl, sym, ap, subst, _∙_}
 use mathlib.Core.Logic.{inl, inr, _≢_}
 use mathlib.Core.List.{List, [], _∷_}
 use lib.Dec.{T}
@@ -12,19 +12,20 @@ use borrow.Author.Tests.{eq-eqb, ne-eqb}
 use Rattle.rules.specs.Lists.{within, In, nth}
 use Rattle.rules.specs.Board.{Board, holderOf, namesOf, stands, load, namesFit}
 use Rattle.rules.specs.Table.{mostBenches, mostJobs, decode}
-use Rattle.rules.specs.Paths.{Step, stepBy, steps}
+use Rattle.rules.specs.Paths.{Step, stepBy, steps, endOf, Walk}
 use Rattle.rules.proofs.Basics.{T→true, within-low, within-high, within-both, is-empty, some-in, each-nth, two-elements, in-numbered, numbered-nth, length-values, length-shares, pair-fits}
 use Rattle.rules.proofs.Counting.{count-none, count-most}
 use Rattle.rules.proofs.Distances.{storable-one-other}
 use Rattle.rules.proofs.Paths.{named-stands, named-bench, shares-nth, held-named, holder-bench, step-is, is-step}
 use Rattle.rules.proofs.Search.{NumberedAway, NumberedTo}
+use Rattle.rules.proofs.Walks.{Reach, reach-here, reach-first}
 use Rattle.table.specs.Sizes.{BenchIn}
 use Rattle.table.specs.declared.size.Size.{Size}
 use Rattle.table.proofs.Sizes.{board-bench}
 use Rattle.store.specs.View.{Kept, Loaded, Place, NameOf}
 use Rattle.store.proofs.Boards.{names-job, holder-most, stands-held, names-length}
 use Rattle.store.proofs.Counts.{holders-long}
-use Rattle.search.specs.Arrays.{at, Arcs, LoadsIn}
+use Rattle.search.specs.Arrays.{at, Leads, Arcs, Reached, here, step, LoadsIn}
 use Rattle.search.specs.Spread.{Distances}
 use Rattle.paths.specs.Arcs.{otherThan, otherOf, OtherOf, ArcsOf}
 
@@ -155,8 +156,8 @@ load-beyond t s x k l = count-none x ((decode t) .holders) never
         omega (arith, r .2, holder-most t s (n .0) k)
 
 -- the loads of a board are loads of its size
-pub loads-in : (t : List ℕ) (s : Size) (loads : List ℕ) → Kept t s → Loaded (decode t) loads → LoadsIn s loads
-loads-in t s loads k l = record { most = most; beyond = beyond; long = long }
+pub loads-in : {t : List ℕ} {s : Size} {loads : List ℕ} → Kept t s → Loaded (decode t) loads → LoadsIn s loads
+loads-in {t} {s} {loads} k l = record { most = most; beyond = beyond; long = long }
   where
     long : length loads ≡ mostBenches + 1
     long = rw (l .whole) (length-values (load ((decode t) .holders)) 0 (mostBenches + 1))
@@ -174,7 +175,18 @@ loads-in t s loads k l = record { most = most; beyond = beyond; long = long }
     beyond : (x : ℕ) → s .benches < x → at loads x ≡ 0
     beyond x h = at-load (λ n. n ≡ 0) x (load-beyond t s x k h) refl
 
-module _ (t : List ℕ) (s : Size) (from to : List ℕ) (kept : Kept t s) (arcs : ArcsOf (decode t) s from to) where
+module _ {t : List ℕ} {s : Size} (kept : Kept t s) where
+  -- a bench of the size is one of the board ..
+  pub on-board : {x : ℕ} → BenchIn s x → T (within 1 ((decode t) .benches) x)
+  on-board {x} i = rw (kept .size .board-benches) (within-both 1 (s .benches) x (i .least) (i .most))
+
+  -- .. and its load stands at its number
+  pub load-at : {loads : List ℕ} {x : ℕ} → Loaded (decode t) loads → BenchIn s x → at loads x ≡ load ((decode t) .holders) x
+  load-at {x = x} l i = l .bench x (omega (arith, i .most, kept .size .limits .benches-most))
+
+-- arcs and steps
+
+module _ {t : List ℕ} {s : Size} {from to : List ℕ} (kept : Kept t s) (arcs : ArcsOf (decode t) s from to) where
   -- an arc from a bench is a job that is held
   arc-held : (a : ℕ) → T (within 1 (s .jobs) a) → 1 ≤ at from a → holderOf (decode t) a ≢ 0
   arc-held a w l e = omega (arith, arcs .holders a w)
@@ -221,26 +233,43 @@ module _ (t : List ℕ) (s : Size) (from to : List ℕ) (kept : Kept t s) (arcs 
       let l : 1 ≤ x = omega (arith, within-low 1 (b .benches) (holderOf b j) h, r .0) in
       (w, f, storable-one-other b (kept .storable) x (stepBy j (at to j)) q (arc-step j x w l f) i refl)
 
-  -- a bench of the size is one of the board
-  on-board : (x : ℕ) → BenchIn s x → T (within 1 ((decode t) .benches) x)
-  on-board x i = rw (kept .size .board-benches) (within-both 1 (s .benches) x (i .least) (i .most))
+  -- what arcs reach from a bench, steps reach ..
+  pub arcs-reach : (x y : ℕ) → 1 ≤ x → Reached (Leads (s .jobs) from to) x y → Reach (steps (decode t)) x y
+  arcs-reach x y h (here _) = reach-here (steps (decode t)) x
+  arcs-reach x y h (step _ z _ (a, w, e, f) r) =
+      let i = arcs-forth .leads a w (omega arith) in
+      let q = subst (λ (z : ℕ). Reach (steps (decode t)) z y) (sym f) (arcs-reach z y (omega (arith, i .least)) r) in
+      reach-first (steps (decode t)) x y (stepBy a (at to a)) (arc-step a x w h e) q
+
+  -- .. and where a walk ends, arcs come
+  walk-reached : (x : ℕ) (r : List Step) → Walk (steps (decode t)) x r → Reached (Leads (s .jobs) from to) x (endOf x r)
+  walk-reached x [] w = here x
+  walk-reached x (q ∷ r) w =
+      let i = step-arc x q (w .0) in
+      step x (q .to) (endOf (q .to) r) (q .job, i .0, i .1, i .2) (walk-reached (q .to) r (w .1))
+
+  -- .. so what steps reach, arcs reach
+  pub steps-reach : (x y : ℕ) → Reach (steps (decode t)) x y → Reached (Leads (s .jobs) from to) x y
+  steps-reach x y q = subst (Reached (Leads (s .jobs) from to) x) (q .2) (walk-reached x (q .0) (q .1))
+
+  -- distances
 
   -- distances along arcs are distances from v on the board ..
-  pub distances-away : (v : ℕ) (dist : List ℕ) → BenchIn s v → Distances s from to v dist → NumberedAway ((decode t) .benches) (steps (decode t)) v (at dist)
-  distances-away v dist b d =
+  pub distances-away : {v : ℕ} {dist : List ℕ} → BenchIn s v → Distances s from to v dist → NumberedAway ((decode t) .benches) (steps (decode t)) v (at dist)
+  distances-away b d =
       record {
-        here = (on-board v b, d .here);
+        here = (on-board kept b, d .here);
         only = λ y w e. d .only y e;
         from = λ y n w e.
             let (z, f, (a, u, g, h)) = d .comes y n e in
             let i = d .bench z (omega arith) in
-            (z, stepBy a (at to a), on-board z i, arc-step a z u (i .least) g, h, f);
+            (z, stepBy a (at to a), on-board kept i, arc-step a z u (i .least) g, h, f);
         on = λ z q w l i. let r = step-arc z q i in d .on z (q .to) l (q .job, r .0, r .1, r .2);
       }
 
   -- .. and against them to v
-  pub distances-to : (v : ℕ) (dist : List ℕ) → Distances s to from v dist → NumberedTo ((decode t) .benches) (steps (decode t)) v (at dist)
-  distances-to v dist d =
+  pub distances-to : {v : ℕ} {dist : List ℕ} → Distances s to from v dist → NumberedTo ((decode t) .benches) (steps (decode t)) v (at dist)
+  distances-to {dist = dist} d =
       record {
         here = d .here;
         only = λ x w e. d .only x e;

@@ -6,15 +6,13 @@ use mathlib.Core.Bool.{true, false}
 use mathlib.Core.Logic.{_⊎_, inl, inr, _≢_, _↔_}
 use mathlib.Core.List.{List, [], _∷_}
 use mathlib.Core.Option.{Option, none, some}
-use lib.Dec.{T}
 use lib.ListN.{length, take, length-map}
 use lib.Seq.{length-take-le}
-use Rattle.rules.specs.Lists.{within}
 use Rattle.rules.specs.Board.{Board, load, namesOf}
 use Rattle.rules.specs.Table.{mostJobs, decode}
 use Rattle.rules.specs.Paths.{BenchPath, stepBy, steps, pathBy, flip}
 use Rattle.rules.specs.Sharing.{arrivalChoice, closingChoice}
-use Rattle.rules.proofs.Basics.{within-both, in-member}
+use Rattle.rules.proofs.Basics.{in-member}
 use Rattle.rules.proofs.Paths.{step-is, step-bench}
 use Rattle.rules.proofs.Distances.{To, Away, Greedy, greedy-walk, storable-one-other}
 use Rattle.rules.proofs.Found.{Lower, ArrivalEnd, Higher, ClosingStart, arrival-not-found, closing-not-found}
@@ -29,30 +27,26 @@ use Rattle.search.specs.Ends.{Candidate, Best, Chosen}
 use Rattle.search.specs.Route.{Follows, Routed}
 use Rattle.paths.specs.Arcs.{ArcsOf}
 use Rattle.paths.specs.Turns.{stepsBy, Handable, handedBy, Along, lastOf, startOf, Turned}
-use Rattle.paths.proofs.AsArcs.{loads-in, arc-step, step-arc, distances-away, distances-to}
+use Rattle.search.proofs.Choosing.{load-most}
+use Rattle.paths.proofs.AsArcs.{loads-in, on-board, load-at, arc-step, step-arc, distances-away, distances-to}
 
 -- numbers taken from m come in the other order
 turn-round : {D : Type 0} (m k n : ℕ) → k ≤ m → n ≤ m → (m - k < m - n) ⊎ ((m - k ≡ m - n) × D) → (n < k) ⊎ ((k ≡ n) × D)
 turn-round m k n p q (inl l) = inl (omega arith)
 turn-round m k n p q (inr (e, d)) = inr (omega arith, d)
 
-module _ (t : List ℕ) (s : Size) (kept : Kept t s) where
-  -- a bench of the size is one of the board
-  on-board : (y : ℕ) → BenchIn s y → T (within 1 ((decode t) .benches) y)
-  on-board y h = within-both 1 ((decode t) .benches) y (h .least) (omega (arith, h .most, kept .size .board-benches))
-
-  -- where no path is chosen the table stays
-  turned-none : (end : ℕ) (tell : Option BenchPath → ℕ) (o : Option BenchPath) → o ≡ none → end ≡ tell none → Turned t t s o (tell o) (record { bench = end; jobs = 0 })
-  turned-none end tell o e f =
-      subst (λ (o : Option BenchPath). Turned t t s o (tell o) (record { bench = end; jobs = 0 })) (sym e)
-      (record { holds = record { kept = kept; board = refl }; bench = f; jobs = refl })
+-- where no path is chosen the table stays
+turned-none : {t : List ℕ} {s : Size} → Kept t s → (end : ℕ) (tell : Option BenchPath → ℕ) (o : Option BenchPath) → o ≡ none → end ≡ tell none → Turned t t s o (tell o) (record { bench = end; jobs = 0 })
+turned-none {t} {s} kept end tell o e f =
+    subst (λ (o : Option BenchPath). Turned t t s o (tell o) (record { bench = end; jobs = 0 })) (sym e)
+    (record { holds = record { kept = kept; board = refl }; bench = f; jobs = refl })
 
 -- the jobs of a route, handed over, are handed over along the distances
 pub routed-along : (b : Board) (u : List ℕ) (s : Size) (from to near path : List ℕ) (x n : ℕ) → Routed s from to near x n path → Holds u s (handedBy b to (take n path)) → Along b u s from to near x n
 routed-along b u s from to near path x n r h =
     record { path = take n path; long = length-take-le n path (omega (arith, r .room, r .short)); far = r .long; follows = r .follows; board = h }
 
-module _ (t u : List ℕ) (s : Size) (from to near : List ℕ) (y n : ℕ) (a : Along (decode t) u s from to near y n) where
+module _ (t : List ℕ) {u : List ℕ} {s : Size} {from to near : List ℕ} {y n : ℕ} (a : Along (decode t) u s from to near y n) where
   -- the path whose jobs were handed over ..
   abbrev pathOf : BenchPath
   pathOf = pathBy y (stepsBy to (a .path))
@@ -68,24 +62,24 @@ module _ (t u : List ℕ) (s : Size) (from to near : List ℕ) (y n : ℕ) (a : 
       subst (λ (o : Option BenchPath). Turned t u s o (tell o) (record { bench = end; jobs = n })) (sym e)
       (record { holds = a .board; bench = f; jobs = omega (arith, a .far, along-far) })
 
-module _ (t : List ℕ) (s : Size) (from to : List ℕ) (kept : Kept t s) (arcs : ArcsOf (decode t) s from to) where
+module _ {t : List ℕ} {s : Size} {from to : List ℕ} (kept : Kept t s) (arcs : ArcsOf (decode t) s from to) where
   -- distances along the arcs are those from v on the board ..
-  away-from : (v : ℕ) (dist : List ℕ) → BenchIn s v → Distances s from to v dist → Away ((decode t) .benches) (steps (decode t)) v (at dist)
-  away-from v dist h d =
-      numbered-away ((decode t) .benches) (steps (decode t)) (step-bench (decode t) (kept .storable .valid)) v (at dist) (distances-away t s from to kept arcs v dist h d)
+  away-from : {v : ℕ} {dist : List ℕ} → BenchIn s v → Distances s from to v dist → Away ((decode t) .benches) (steps (decode t)) v (at dist)
+  away-from {v} {dist} h d =
+      numbered-away ((decode t) .benches) (steps (decode t)) (step-bench (decode t) (kept .storable .valid)) v (at dist) (distances-away kept arcs h d)
 
   -- .. and against them those to v
-  near-to : (v : ℕ) (dist : List ℕ) → Distances s to from v dist → To ((decode t) .benches) (steps (decode t)) v (at dist)
-  near-to v dist d =
-      numbered-to ((decode t) .benches) (steps (decode t)) (step-bench (decode t) (kept .storable .valid)) v (at dist) (distances-to t s from to kept arcs v dist d)
+  near-to : {v : ℕ} {dist : List ℕ} → Distances s to from v dist → To ((decode t) .benches) (steps (decode t)) v (at dist)
+  near-to {v} {dist} d =
+      numbered-to ((decode t) .benches) (steps (decode t)) (step-bench (decode t) (kept .storable .valid)) v (at dist) (distances-to kept arcs d)
 
   module _ (near : List ℕ) (numbered : (y : ℕ) → 1 ≤ at near y → BenchIn s y) where
     -- arcs that follow each other to the end are the greedy route
     follows-greedy : (y : ℕ) (path : List ℕ) → at near y ≡ suc (length path) → Follows (s .jobs) from to near y path → Greedy ((decode t) .benches) (steps (decode t)) (at near) y (stepsBy to path)
     follows-greedy y [] e f = tt
     follows-greedy y (a ∷ path) e f =
-        let i = arc-step t s from to kept arcs a y (f .0 .0) (numbered y (omega arith) .least) (f .0 .1) in
-        ((i, omega (arith, f .0 .2), f .0 .2), (λ q n. let h = step-arc t s from to kept arcs y q (n .0) in f .1 (q .job) (h .0) (h .1) (rw (h .2) (n .2))), follows-greedy (at to a) path (omega (arith, f .0 .2)) (f .2))
+        let i = arc-step kept arcs a y (f .0 .0) (numbered y (omega arith) .least) (f .0 .1) in
+        ((i, omega (arith, f .0 .2), f .0 .2), (λ q n. let h = step-arc kept arcs y q (n .0) in f .1 (q .job) (h .0) (h .1) (rw (h .2) (n .2))), follows-greedy (at to a) path (omega (arith, f .0 .2)) (f .2))
 
     -- arcs that follow each other are jobs that can be handed over
     pub follows-handable : (y : ℕ) (path : List ℕ) → Follows (s .jobs) from to near y path → Handable (decode t) s to path
@@ -93,36 +87,36 @@ module _ (t : List ℕ) (s : Size) (from to : List ℕ) (kept : Kept t s) (arcs 
     follows-handable y (a ∷ path) f =
         let w = f .0 .0 in
         let l : 1 ≤ at near y = omega (arith, f .0 .2) in
-        let i = step-is (decode t) y (stepBy a (at to a)) (arc-step t s from to kept arcs a y w (numbered y l .least) (f .0 .1)) in
+        let i = step-is (decode t) y (stepBy a (at to a)) (arc-step kept arcs a y w (numbered y l .least) (f .0 .1)) in
         ((job-in s a w, in-member (at to a) (namesOf (decode t) a) (i .1)), follows-handable (at to a) path (f .2))
 
   -- jobs handed over along distances are the greedy route
-  along-greedy : (u near : List ℕ) (v y n : ℕ) → Distances s to from v near → (a : Along (decode t) u s from to near y n) → Greedy ((decode t) .benches) (steps (decode t)) (at near) y (stepsBy to (a .path))
-  along-greedy u near v y n d a = follows-greedy near (d .bench) y (a .path) (omega (arith, a .far, a .long)) (a .follows)
+  along-greedy : {u near : List ℕ} {v y n : ℕ} → Distances s to from v near → (a : Along (decode t) u s from to near y n) → Greedy ((decode t) .benches) (steps (decode t)) (at near) y (stepsBy to (a .path))
+  along-greedy {near = near} {y = y} d a = follows-greedy near (d .bench) y (a .path) (omega (arith, a .far, a .long)) (a .follows)
 
-module _ (t : List ℕ) (s : Size) (from to loads : List ℕ) (kept : Kept t s) (arcs : ArcsOf (decode t) s from to) (loaded : Loaded (decode t) loads) (x : ℕ) (bench : BenchIn s x) where
+module _ {t : List ℕ} {s : Size} {from to loads : List ℕ} (kept : Kept t s) (arcs : ArcsOf (decode t) s from to) (loaded : Loaded (decode t) loads) {x : ℕ} (bench : BenchIn s x) where
   -- what stands at a bench is its load ..
-  load-at : (y : ℕ) → BenchIn s y → at loads y ≡ load ((decode t) .holders) y
-  load-at y h = loaded .bench y (omega (arith, h .most, kept .size .limits .benches-most))
+  own : {y : ℕ} → BenchIn s y → at loads y ≡ load ((decode t) .holders) y
+  own h = load-at kept loaded h
 
   -- .. and at most the greatest number of jobs
-  load-most : (y : ℕ) → BenchIn s y → at loads y ≤ mostJobs
-  load-most y h = omega (arith, (loads-in t s loads kept loaded) .most y (h .least), kept .size .limits .jobs-most)
+  few : {y : ℕ} → BenchIn s y → at loads y ≤ mostJobs
+  few h = load-most (kept .size .limits) (loads-in kept loaded) h
 
   -- the candidates for the end of an arrival's path ..
   lower : (dist : List ℕ) (y : ℕ) → Candidate false s loads dist x y ↔ Lower (decode t) x (at dist) y
   lower dist y =
-      (λ c. record { bench = on-board t s kept y (c .bench); reached = c .reached; lower = omega (arith, c .better, load-at y (c .bench), load-at x bench) }, λ c. let h = board-bench y (kept .size) (c .bench) in record { bench = h; reached = c .reached; better = omega (arith, c .lower, load-at y h, load-at x bench) })
+      (λ c. record { bench = on-board kept (c .bench); reached = c .reached; lower = omega (arith, c .better, own (c .bench), own bench) }, λ c. let h = board-bench y (kept .size) (c .bench) in record { bench = h; reached = c .reached; better = omega (arith, c .lower, own h, own bench) })
 
   -- .. and for the start of a closing's
   higher : (dist : List ℕ) (z : ℕ) → Candidate true s loads dist x z ↔ Higher (decode t) x (at dist) z
   higher dist z =
-      (λ c. record { bench = on-board t s kept z (c .bench); reaches = c .reached; higher = omega (arith, c .better, load-most z (c .bench), load-at z (c .bench), load-at x bench) }, λ c. let h = board-bench z (kept .size) (c .bench) in record { bench = h; reached = c .reaches; better = omega (arith, c .higher, load-most z h, load-at z h, load-at x bench) })
+      (λ c. record { bench = on-board kept (c .bench); reaches = c .reached; higher = omega (arith, c .better, few (c .bench), own (c .bench), own bench) }, λ c. let h = board-bench z (kept .size) (c .bench) in record { bench = h; reached = c .reaches; better = omega (arith, c .higher, few h, own h, own bench) })
 
   -- the best candidate is the end bench by the arrival's order ..
   arrival-end : (dist : List ℕ) (y : ℕ) → Best false s loads dist x y → ArrivalEnd (decode t) x (at dist) y
   arrival-end dist y b =
-      record { is = (lower dist y) .0 (b .is); first = λ z l. let c = (lower dist z) .1 l in rw (sym (load-at y (b .is .bench)), sym (load-at z (c .bench))) (b .first z c) }
+      record { is = (lower dist y) .0 (b .is); first = λ z l. let c = (lower dist z) .1 l in rw (sym (own (b .is .bench)), sym (own (c .bench))) (b .first z c) }
 
   -- .. and the first bench by the closing's
   closing-start : (dist : List ℕ) (z : ℕ) → Best true s loads dist x z → ClosingStart (decode t) x (at dist) z
@@ -131,47 +125,47 @@ module _ (t : List ℕ) (s : Size) (from to loads : List ℕ) (kept : Kept t s) 
         is = (higher dist z) .0 (b .is);
         first = λ w l.
             let c = (higher dist w) .1 l in
-            rw (sym (load-at z (b .is .bench)), sym (load-at w (c .bench)))
-            (turn-round mostJobs (at loads z) (at loads w) (load-most z (b .is .bench)) (load-most w (c .bench)) (b .first w c));
+            rw (sym (own (b .is .bench)), sym (own (c .bench)))
+            (turn-round mostJobs (at loads z) (at loads w) (few (b .is .bench)) (few (c .bench)) (b .first w c));
       }
 
   -- an arrival at x: no end bench, no path ..
-  pub from-none : (away : List ℕ) → Distances s from to x away → Chosen false s loads away x 0 → Turned t t s (arrivalChoice (decode t) x) (lastOf x (arrivalChoice (decode t) x)) (record { bench = x; jobs = 0 })
-  from-none away d c =
-      turned-none t s kept x (lastOf x) (arrivalChoice (decode t) x)
-      (arrival-not-found (decode t) (kept .storable .valid) x (at away) (away-from t s from to kept arcs x away bench d) (λ z l. c .none refl z ((lower away z) .1 l)))
+  pub from-none : {away : List ℕ} → Distances s from to x away → Chosen false s loads away x 0 → Turned t t s (arrivalChoice (decode t) x) (lastOf x (arrivalChoice (decode t) x)) (record { bench = x; jobs = 0 })
+  from-none {away} d c =
+      turned-none kept x (lastOf x) (arrivalChoice (decode t) x)
+      (arrival-not-found (decode t) (kept .storable .valid) x (at away) (away-from kept arcs bench d) (λ z l. c .none refl z ((lower away z) .1 l)))
       refl
 
   -- .. else the path to it
-  pub from-some : (away near u : List ℕ) (y n : ℕ) → Distances s from to x away → Chosen false s loads away x y → y ≢ 0 → Distances s to from y near → Along (decode t) u s from to near x n → Turned t u s (arrivalChoice (decode t) x) (lastOf x (arrivalChoice (decode t) x)) (record { bench = y; jobs = n })
-  from-some away near u y n d c e f a =
+  pub from-some : {away near u : List ℕ} {y n : ℕ} → Distances s from to x away → Chosen false s loads away x y → y ≢ 0 → Distances s to from y near → Along (decode t) u s from to near x n → Turned t u s (arrivalChoice (decode t) x) (lastOf x (arrivalChoice (decode t) x)) (record { bench = y; jobs = n })
+  from-some {away} {near} {y = y} d c e f a =
       let v = kept .storable .valid in
       let r = stepsBy to (a .path) in
-      let w = on-board t s kept x bench in
-      let go = near-to t s from to kept arcs y near f in
-      let far = along-far t u s from to near x n a in
-      let greedy = along-greedy t s from to kept arcs u near y x n f a in
+      let w = on-board kept bench in
+      let go = near-to kept arcs f in
+      let far = along-far t a in
+      let greedy = along-greedy kept arcs f a in
       let walk = greedy-walk ((decode t) .benches) (steps (decode t)) (step-bench (decode t) v) y (at near) go x r w far greedy in
-      turned-some t u s from to near x n a y (lastOf x) (arrivalChoice (decode t) x)
-      (arrival-greedy (decode t) v (storable-one-other (decode t) (kept .storable)) x y (at away) (at near) r w (away-from t s from to kept arcs x away bench d) (arrival-end away y (c .some e)) go far greedy)
+      turned-some t a y (lastOf x) (arrivalChoice (decode t) x)
+      (arrival-greedy (decode t) v (storable-one-other (decode t) (kept .storable)) x y (at away) (at near) r w (away-from kept arcs bench d) (arrival-end away y (c .some e)) go far greedy)
       (sym (walk .1))
 
   -- a closing at x: no first bench, no path ..
-  pub to-none : (near : List ℕ) → Distances s to from x near → Chosen true s loads near x 0 → Turned t t s (closingChoice (decode t) x) (startOf x (closingChoice (decode t) x)) (record { bench = x; jobs = 0 })
-  to-none near d c =
-      turned-none t s kept x (startOf x) (closingChoice (decode t) x)
-      (closing-not-found (decode t) (kept .storable .valid) x (at near) (near-to t s from to kept arcs x near d) (λ z h. c .none refl z ((higher near z) .1 h)))
+  pub to-none : {near : List ℕ} → Distances s to from x near → Chosen true s loads near x 0 → Turned t t s (closingChoice (decode t) x) (startOf x (closingChoice (decode t) x)) (record { bench = x; jobs = 0 })
+  to-none {near} d c =
+      turned-none kept x (startOf x) (closingChoice (decode t) x)
+      (closing-not-found (decode t) (kept .storable .valid) x (at near) (near-to kept arcs d) (λ z h. c .none refl z ((higher near z) .1 h)))
       refl
 
   -- .. else the path from it
-  pub to-some : (near u : List ℕ) (z n : ℕ) → Distances s to from x near → Chosen true s loads near x z → z ≢ 0 → Along (decode t) u s from to near z n → Turned t u s (closingChoice (decode t) x) (startOf x (closingChoice (decode t) x)) (record { bench = z; jobs = n })
-  to-some near u z n d c e a =
-      turned-some t u s from to near z n a z (startOf x) (closingChoice (decode t) x)
-      (closing-greedy (decode t) (kept .storable .valid) (storable-one-other (decode t) (kept .storable)) x z (at near) (stepsBy to (a .path)) (near-to t s from to kept arcs x near d) (closing-start near z (c .some e)) (along-far t u s from to near z n a) (along-greedy t s from to kept arcs u near x z n d a))
+  pub to-some : {near u : List ℕ} {z n : ℕ} → Distances s to from x near → Chosen true s loads near x z → z ≢ 0 → Along (decode t) u s from to near z n → Turned t u s (closingChoice (decode t) x) (startOf x (closingChoice (decode t) x)) (record { bench = z; jobs = n })
+  to-some {near} {z = z} d c e a =
+      turned-some t a z (startOf x) (closingChoice (decode t) x)
+      (closing-greedy (decode t) (kept .storable .valid) (storable-one-other (decode t) (kept .storable)) x z (at near) (stepsBy to (a .path)) (near-to kept arcs d) (closing-start near z (c .some e)) (along-far t a) (along-greedy kept arcs d a))
       refl
 
   -- x has a distance to the end bench of an arrival's path
-  pub end-reached : (away near : List ℕ) (y : ℕ) → Distances s from to x away → Chosen false s loads away x y → y ≢ 0 → Distances s to from y near → 1 ≤ at near x
-  end-reached away near y d c e f =
+  pub end-reached : {away near : List ℕ} {y : ℕ} → Distances s from to x away → Chosen false s loads away x y → y ≢ 0 → Distances s to from y near → 1 ≤ at near x
+  end-reached {away} {near} {y} d c e f =
       let i = (c .some e) .is in
-      omega (arith, i .reached, away-to (decode t) (kept .storable .valid) x y (at away) (at near) (on-board t s kept x bench) (on-board t s kept y (i .bench)) (away-from t s from to kept arcs x away bench d) (near-to t s from to kept arcs y near f))
+      omega (arith, i .reached, away-to (decode t) (kept .storable .valid) x y (at away) (at near) (on-board kept bench) (on-board kept (i .bench)) (away-from kept arcs bench d) (near-to kept arcs f))

@@ -1,8 +1,8 @@
 -- The route by the distances is handed over.
-use Prim.Native.Nat.{ℕ, _+_}
-use lib.ListN.{take, length-replicate}
+use lib.ListN.{take}
 use borrow.Author.Needs.{needs}
-use Rattle.rules.specs.Table.{mostBenches, decode}
+use Rattle.rules.specs.Table.{decode}
+use Rattle.search.proofs.Listing.{array-long}
 use Rattle.paths.proofs.AsArcs.{arcs-forth}
 use Rattle.paths.proofs.Chosen.{follows-handable, routed-along}
 use Rattle.paths.proofs.turns.turn_along.Statement.{statement}
@@ -16,7 +16,7 @@ route-requires c κs =
     let start = c .before .before .before in
     let a = start .args in
     let (kept, (arcs, (falls, reached))) = start .pre in
-    (kept .size .limits, (arcs-forth (a .t .now) (a .s) (a .from .now) (a .to .now) kept arcs, (falls, (reached, rw (c .before .benches .ensures) (length-replicate {A = ℕ} (mostBenches + 1) 0)))))
+    (kept .size .limits, (arcs-forth kept arcs, (falls, (reached, array-long 0 (c .before .benches .ensures)))))
 
 hand-over-requires : tie.Need-hand-over-requires
 hand-over-requires c κs =
@@ -24,7 +24,7 @@ hand-over-requires c κs =
     let a = start .args in
     let (kept, (arcs, (falls, reached))) = start .pre in
     let r = c .before .before .route in
-    (kept, (r .ensures .short, (r .ensures .room, follows-handable (a .t .now) (a .s) (a .from .now) (a .to .now) kept arcs (a .near .now) (falls .bench) (a .x) (take (r .result) (r .last .1 .1 .1 .1 .1 .0)) (r .ensures .follows))))
+    (kept, (r .ensures .short, (r .ensures .room, follows-handable kept arcs (a .near .now) (falls .bench) (a .x) (take (r .result) (r .last .1 .1 .1 .1 .1 .0)) (r .ensures .follows))))
 
 same-length : tie.Need-same-length
 same-length c = search needs

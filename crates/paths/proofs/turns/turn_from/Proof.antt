@@ -14,14 +14,14 @@ distances-requires c κs =
     let start = c .before .before .before in
     let a = start .args in
     let (kept, (arcs, (loaded, bench))) = start .pre in
-    (kept .size .limits, (arcs-forth (a .t .now) (a .s) (a .from .now) (a .to .now) kept arcs, (bench, c .before .benches .ensures)))
+    (kept .size .limits, (arcs-forth kept arcs, (bench, c .before .benches .ensures)))
 
 choose-requires : tie.Need-choose-requires
 choose-requires c κs =
     let start = c .before .before .before .before .before in
     let a = start .args in
     let (kept, (arcs, (loaded, bench))) = start .pre in
-    (kept .size .limits, (loads-in (a .t .now) (a .s) (a .loads .now) kept loaded, bench))
+    (kept .size .limits, (loads-in kept loaded, bench))
 
 returns : tie.Need-returns
 returns c =
@@ -29,7 +29,7 @@ returns c =
     let a = start .args in
     let (kept, (arcs, (loaded, bench))) = start .pre in
     let away = c .before .before .before .distances in
-    from-none (a .t .now) (a .s) (a .from .now) (a .to .now) (a .loads .now) kept arcs loaded (a .x) bench (away .last .1 .1 .1 .1 .0) (away .ensures) (rw (c .if1 .taken) at (c .before .choose .ensures))
+    from-none kept arcs loaded bench (away .ensures) (rw (c .if1 .taken) at (c .before .choose .ensures))
 
 benches-requires-2 : tie.Need-benches-requires-2
 benches-requires-2 c κs = search needs
@@ -40,7 +40,7 @@ distances-requires-2 c κs =
     let a = start .args in
     let (kept, (arcs, (loaded, bench))) = start .pre in
     let end = c .before .before .before .choose .ensures .some (c .before .before .if1 .left) in
-    (kept .size .limits, (arcs-back (a .t .now) (a .s) (a .from .now) (a .to .now) kept arcs, (end .is .bench, c .before .benches2 .ensures)))
+    (kept .size .limits, (arcs-back kept arcs, (end .is .bench, c .before .benches2 .ensures)))
 
 turn-along-requires : tie.Need-turn-along-requires
 turn-along-requires c κs =
@@ -51,7 +51,7 @@ turn-along-requires c κs =
     let y = c .before .before .before .before .before .before .choose in
     let left = c .before .before .before .before .before .if1 .left in
     let near = c .before .before .distances2 in
-    (kept, (arcs, (distances-fall (a .s) (a .from .now) (a .to .now) (y .result) (near .last .1 .1 .1 .1 .0) (near .ensures), end-reached (a .t .now) (a .s) (a .from .now) (a .to .now) (a .loads .now) kept arcs loaded (a .x) bench (away .last .1 .1 .1 .1 .0) (near .last .1 .1 .1 .1 .0) (y .result) (away .ensures) (y .ensures) left (near .ensures))))
+    (kept, (arcs, (distances-fall (a .s) (a .from .now) (a .to .now) (y .result) (near .last .1 .1 .1 .1 .0) (near .ensures), end-reached kept arcs loaded bench (away .ensures) (y .ensures) left (near .ensures))))
 
 same-length : tie.Need-same-length
 same-length c = search needs
@@ -66,7 +66,7 @@ returns-2 c =
     let left = c .before .before .before .before .before .before .before .before .if1 .left in
     let near = c .before .before .before .before .before .distances2 in
     let along = c .before .before .turn-along in
-    from-some (a .t .now) (a .s) (a .from .now) (a .to .now) (a .loads .now) kept arcs loaded (a .x) bench (away .last .1 .1 .1 .1 .0) (near .last .1 .1 .1 .1 .0) (along .last .0) (y .result) (along .result) (away .ensures) (y .ensures) left (near .ensures) (along .ensures)
+    from-some kept arcs loaded bench (away .ensures) (y .ensures) left (near .ensures) (along .ensures)
 
 pub turn-from-spec : {M : Type 1} → statement M
 turn-from-spec =

@@ -14,14 +14,14 @@ distances-requires c κs =
     let start = c .before .before .before in
     let a = start .args in
     let (kept, (arcs, (loaded, bench))) = start .pre in
-    (kept .size .limits, (arcs-back (a .t .now) (a .s) (a .from .now) (a .to .now) kept arcs, (bench, c .before .benches .ensures)))
+    (kept .size .limits, (arcs-back kept arcs, (bench, c .before .benches .ensures)))
 
 choose-requires : tie.Need-choose-requires
 choose-requires c κs =
     let start = c .before .before .before .before .before in
     let a = start .args in
     let (kept, (arcs, (loaded, bench))) = start .pre in
-    (kept .size .limits, (loads-in (a .t .now) (a .s) (a .loads .now) kept loaded, bench))
+    (kept .size .limits, (loads-in kept loaded, bench))
 
 returns : tie.Need-returns
 returns c =
@@ -29,7 +29,7 @@ returns c =
     let a = start .args in
     let (kept, (arcs, (loaded, bench))) = start .pre in
     let near = c .before .before .before .distances in
-    to-none (a .t .now) (a .s) (a .from .now) (a .to .now) (a .loads .now) kept arcs loaded (a .x) bench (near .last .1 .1 .1 .1 .0) (near .ensures) (rw (c .if1 .taken) at (c .before .choose .ensures))
+    to-none kept arcs loaded bench (near .ensures) (rw (c .if1 .taken) at (c .before .choose .ensures))
 
 turn-along-requires : tie.Need-turn-along-requires
 turn-along-requires c κs =
@@ -52,7 +52,7 @@ returns-2 c =
     let z = c .before .before .before .before .before .before .choose in
     let left = c .before .before .before .before .before .if1 .left in
     let along = c .before .before .turn-along in
-    to-some (a .t .now) (a .s) (a .from .now) (a .to .now) (a .loads .now) kept arcs loaded (a .x) bench (near .last .1 .1 .1 .1 .0) (along .last .0) (z .result) (along .result) (near .ensures) (z .ensures) left (along .ensures)
+    to-some kept arcs loaded bench (near .ensures) (z .ensures) left (along .ensures)
 
 pub turn-to-spec : {M : Type 1} → statement M
 turn-to-spec =
