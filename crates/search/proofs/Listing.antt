@@ -232,7 +232,7 @@ on-listed {m} {n} {key} {first} {next} l k a h = (
   λ w. keyed-on l a 1 k (at first k) a (omega arith) (omega arith) (l .heads k h) (within-low 1 n a (w .0)) (within-high 1 n a (w .0)) (w .1),
 )
 
-module _ (s : Size) (from to first next : List ℕ) (limits : Limits s) (arcs : Arcs s from to) (listed : ListedBy (mostBenches + 1) (s .jobs) from first next) where
+module _ {s : Size} {from to first next : List ℕ} (limits : Limits s) (arcs : Arcs s from to) (listed : ListedBy (mostBenches + 1) (s .jobs) from first next) where
   -- what is on a bench's list is an arc that leaves it
   on-bench : (x a : ℕ) → T (within 1 mostBenches x) → On next (at first x) a → T (within 1 (s .jobs) a) × (at from a ≡ x)
   on-bench x a t o = on-listed listed x a (omega (arith, within-high 1 mostBenches x t)) .0 o

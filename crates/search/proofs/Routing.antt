@@ -27,21 +27,21 @@ pub bench-within : (s : Size) (x : ℕ) → Limits s → BenchIn s x → T (with
 bench-within s x l b = within-both 1 mostBenches x (b .least) (omega arith)
 
 -- a search that starts with no bench numbered gives the distances
-blank-distances : (s : Size) (from to first next : List ℕ) → Limits s → Arcs s from to → ListedBy (mostBenches + 1) (s .jobs) from first next → (v : ℕ) → BenchIn s v → (found : ℕ) (queue dist₀ dist : List ℕ) → ((y : ℕ) → at dist₀ y ≡ 0) → Spread (Joins first next to) v 0 dist₀ found queue dist → Distances s from to v dist
-blank-distances s from to first next l r e v b found queue dist₀ dist blank p =
+blank-distances : {s : Size} {from to first next : List ℕ} → Limits s → Arcs s from to → ListedBy (mostBenches + 1) (s .jobs) from first next → {v : ℕ} → BenchIn s v → {found : ℕ} {queue dist₀ dist : List ℕ} → ((y : ℕ) → at dist₀ y ≡ 0) → Spread (Joins first next to) v 0 dist₀ found queue dist → Distances s from to v dist
+blank-distances {s} {from} {to} l r e {v} b {dist = dist} blank p =
     record {
       bench = λ y h. bench y (at dist y) refl h;
       most = λ y. omega (arith, p .queued .most y, queued-few (p .queued));
       here = p .first (blank v);
       only = λ y. p .only y (blank y);
       comes = comes;
-      on = λ z y h j. let q = p .on z y (blank z) h ((joins-leads s from to first next l r e z y) .1 j) in (q .0, q .1 (blank y));
+      on = λ z y h j. let q = p .on z y (blank z) h ((joins-leads l r e z y) .1 j) in (q .0, q .1 (blank y));
     }
   where
     comes : (y n : ℕ) → at dist y ≡ suc (suc n) → (z : ℕ) × (at dist z ≡ suc n) × Leads (s .jobs) from to z y
     comes y n d =
         let q = p .comes y n (blank y) d in
-        (q .0, q .2, (joins-leads s from to first next l r e (q .0) y) .0 (q .3))
+        (q .0, q .2, (joins-leads l r e (q .0) y) .0 (q .3))
 
     -- a bench with a number is v, or an arc leads to it
     bench : (y n : ℕ) → at dist y ≡ n → 1 ≤ at dist y → BenchIn s y
@@ -54,13 +54,12 @@ blank-distances s from to first next l r e v b found queue dist₀ dist blank p 
         subst (BenchIn s) (a .3) (r .leads (a .0) (a .1) (omega (arith, a .2)))
 
 -- a search that starts with nothing found gives the distances
-pub spread-distances : (s : Size) (from to first next : List ℕ) → Limits s → Arcs s from to → ListedBy (mostBenches + 1) (s .jobs) from first next → (v : ℕ) → BenchIn s v → (found : ℕ) (queue dist : List ℕ) → Spread (Joins first next to) v 0 (replicate (mostBenches + 1) 0) found queue dist → Distances s from to v dist
-spread-distances s from to first next l r e v b found queue dist p =
-    blank-distances s from to first next l r e v b found queue (replicate (mostBenches + 1) 0) dist (array-at (mostBenches + 1) refl) p
+pub spread-distances : {s : Size} {from to first next : List ℕ} → Limits s → Arcs s from to → ListedBy (mostBenches + 1) (s .jobs) from first next → {v : ℕ} → BenchIn s v → {found : ℕ} {queue dist : List ℕ} → Spread (Joins first next to) v 0 (replicate (mostBenches + 1) 0) found queue dist → Distances s from to v dist
+spread-distances l r e b p = blank-distances l r e b (array-at (mostBenches + 1) refl) p
 
 -- distances to v, by arcs taken backwards, fall along arcs
-pub distances-fall : (s : Size) (from to : List ℕ) (v : ℕ) (dist : List ℕ) → Distances s to from v dist → Falls s from to dist
-distances-fall s from to v dist d = record { bench = d .bench; most = d .most; nearer = nearer }
+pub distances-fall : {s : Size} {from to : List ℕ} {v : ℕ} {dist : List ℕ} → Distances s to from v dist → Falls s from to dist
+distances-fall {s} {from} {to} {dist = dist} d = record { bench = d .bench; most = d .most; nearer = nearer }
   where
     nearer : (y n : ℕ) → at dist y ≡ suc (suc n) → (z : ℕ) × (at dist z ≡ suc n) × Leads (s .jobs) from to y z
     nearer y n e = let q = d .comes y n e in let a = q .2 in (q .0, q .1, (a .0, a .1, a .3, a .2))

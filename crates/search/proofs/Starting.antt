@@ -220,10 +220,10 @@ pub record Falling (jobs : ℕ) (from to loads first next heavy after : List ℕ
 
 -- before the greatest load no bench was searched
 pub falling-start : {s : Size} {from to loads first next heavy after queue dist : List ℕ} → Limits s → Arcs s from to → LoadsIn s loads → ListedBy (mostBenches + 1) (s .jobs) from first next → ListedBy (mostJobs + 1) (s .benches) loads heavy after → queue ≡ replicate (mostBenches + 1) 0 → dist ≡ replicate (mostBenches + 1) 0 → Falling (s .jobs) from to loads first next heavy after (s .jobs) 0 queue dist
-falling-start {s} {from} {to} {loads} {first} {next} {heavy} {after} {queue} {dist} limits arcs l listed benches q d =
+falling-start limits arcs l listed benches q d =
     record {
-      ways = listed-ways s from to first next limits arcs listed;
-      same = joins-leads s from to first next limits arcs listed;
+      ways = listed-ways limits arcs listed;
+      same = joins-leads limits arcs listed;
       each = listed-heavy limits l benches;
       most = limits .jobs-most;
       searching = record {

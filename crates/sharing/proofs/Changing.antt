@@ -7,7 +7,7 @@ use mathlib.Core.Bool.{Bool, true, false, not}
 use mathlib.Core.List.{List, [], _∷_}
 use mathlib.Core.Option.{Option, none, some}
 use lib.Dec.{T, eqb}
-use lib.ListN.{length, replicate, length-replicate, length-map}
+use lib.ListN.{length, length-map}
 use borrow.Author.Tests.{lt-ltb, le-ltb}
 use Rattle.rules.specs.Lists.{bit, count, keep, In}
 use Rattle.rules.specs.Board.{Board, Valid, holderOf, stands, put, load, namesFit}
@@ -38,10 +38,6 @@ lighter-second holders x y e f l = rw (lt-ltb (load holders y) (load holders x) 
 -- .. else the first
 pub lighter-first : (holders : List ℕ) (x y : ℕ) {m n : ℕ} → m ≡ load holders y → n ≡ load holders x → n ≤ m → x ≡ getter holders (x ∷ y ∷ [])
 lighter-first holders x y e f l = rw (le-ltb (load holders y) (load holders x) (omega arith)) refl
-
--- an array of n zeros is n long
-pub zeros-long : {n : ℕ} {l : List ℕ} → l ≡ replicate n 0 → length l ≡ n
-zeros-long {n} e = ap length e ∙ length-replicate n 0
 
 -- a path turned on the board b, which the table held: the choice is that on b
 turned-on : {u v : List ℕ} {s : Size} {b : Board} {r : Turn} (choice : Board → Option BenchPath) (end : Option BenchPath → ℕ) → decode u ≡ b → Turned u v s (choice (decode u)) (end (choice (decode u))) r → (decode v ≡ turnedBy b (choice b)) × (r .bench ≡ end (choice b)) × (r .jobs ≡ lengthOf (choice b))
@@ -87,7 +83,7 @@ others-count j (y ∷ l) = omega (arith, keep-counts (λ i. not (eqb i j)) y l, 
     once false = refl
 
 -- as the code counts the new job among those that changed holder: 0 if x, which got it, holds it still, else 1
-abbrev pub Strayed : ℕ → ℕ → ℕ → Type 0
+abbrev Strayed : ℕ → ℕ → ℕ → Type 0
 Strayed h x n = ((h ≡ x) × (n ≡ 0)) ⊎ ((h ≡ x → ⊥) × (n ≡ 1))
 
 -- where x holds it still, that is 0 ..

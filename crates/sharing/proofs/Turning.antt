@@ -5,39 +5,35 @@ use native.Mathlib.Decide.{ℕ-discrete, decLe}
 use native.Mathlib.Numerals.{add-one}
 use mathlib.Core.Path.{_≡_, refl, sym, ap, subst, _∙_}
 use mathlib.Core.Logic.{_≢_, _↔_}
-use mathlib.Core.List.{List, [], _∷_}
+use mathlib.Core.List.{List}
 use mathlib.Core.Option.{Option, none, some}
 use lib.Dec.{T, eqb}
-use lib.ListN.{length, replicate, length-replicate}
 use Rattle.rules.specs.Lists.{within, In}
 use Rattle.rules.specs.Board.{Board, Valid, load}
-use Rattle.rules.specs.Table.{mostBenches, mostJobs, decode}
-use Rattle.rules.specs.Paths.{Step, BenchPath, steps, stepBy, endOf, Walk, improvingFrom, flip}
+use Rattle.rules.specs.Table.{mostBenches, decode}
+use Rattle.rules.specs.Paths.{BenchPath, steps, improvingFrom, flip}
 use Rattle.rules.specs.Sharing.{arrivalChoice, levellingChoice, level, Levelled}
 use Rattle.rules.specs.Demand2.{Turns, rest}
 use Rattle.table.specs.Sizes.{Limits, BenchIn, SoundTable}
 use Rattle.table.specs.declared.size.Size.{Size}
 use Rattle.store.specs.View.{Kept, Loaded, Settled}
-use Rattle.search.specs.Arrays.{at, Leads, Arcs, Reached, here, step, LoadsIn}
+use Rattle.search.specs.Arrays.{at, Leads, Arcs, LoadsIn}
 use Rattle.search.specs.Start.{StartsLow, StartOf}
 use Rattle.paths.specs.Arcs.{ArcsOf}
 use Rattle.paths.specs.Turns.{turnedBy, Turned}
 use Rattle.paths.specs.declared.turns.Turn.{Turn}
 use Rattle.sharing.specs.Levels.{Levels, LevellingOf}
 use Rattle.sharing.specs.declared.levels.Levelling.{Levelling}
-use Rattle.rules.proofs.Basics.{tests-same, T-eqb, eqb-T, within-low, within-high, within-both}
+use Rattle.rules.proofs.Basics.{tests-same, T-eqb, eqb-T, within-low, within-both}
 use Rattle.rules.proofs.Paths.{improvingFrom-every, loads-improve}
 use Rattle.rules.proofs.Choice.{arrival-none, level-choice}
-use Rattle.rules.proofs.Walks.{Reach, reach-here, reach-first, reach-path, reach-bench}
+use Rattle.rules.proofs.Walks.{Reach, reach-path, reach-bench}
 use Rattle.rules.proofs.Found.{StartsOne, level-starts, levelling-found}
 use Rattle.rules.proofs.Levelling.{turns-more, turns-relevel}
 use Rattle.table.proofs.Sizes.{board-bench}
 use Rattle.store.proofs.Boards.{sound-kept}
-use Rattle.paths.proofs.AsArcs.{loads-in, arcs-forth, arc-step, step-arc}
-
--- an array of zeros for the jobs has the length of such an array
-pub zeros-long : {l : List ℕ} → l ≡ replicate (mostJobs + 1) 0 → length l ≡ mostJobs + 1
-zeros-long e = ap length e ∙ length-replicate {A = ℕ} (mostJobs + 1) 0
+use Rattle.search.proofs.Routing.{bench-within}
+use Rattle.paths.proofs.AsArcs.{loads-in, load-at, arcs-forth, arcs-reach, steps-reach}
 
 -- a bench that starts an improving path has one that an arrival there would turn
 starts-choice : (b : Board) → Valid b → (x : ℕ) → StartsOne b x → (p : BenchPath) × (arrivalChoice b x ≡ some p)
@@ -53,32 +49,15 @@ starts-choice b v x (y, r, d) = go (arrivalChoice b x) refl
 module _ {t : List ℕ} {s : Size} {from to loads : List ℕ} (k : Kept t s) (a : ArcsOf (decode t) s from to) (l : Loaded (decode t) loads) where
   -- what the search for the first bench asks
   pub search-ready : Limits s × (Arcs s from to × LoadsIn s loads)
-  search-ready = (k .size .limits, (arcs-forth t s from to k a, loads-in t s loads k l))
-
-  -- what arcs reach from a bench, steps reach ..
-  arcs-reach : (x y : ℕ) → 1 ≤ x → Reached (Leads (s .jobs) from to) x y → Reach (steps (decode t)) x y
-  arcs-reach x y h (here _) = reach-here (steps (decode t)) x
-  arcs-reach x y h (step _ z _ (j, w, e, f) r) =
-      let i = (arcs-forth t s from to k a) .leads j w (omega arith) in
-      let q = subst (λ (z : ℕ). Reach (steps (decode t)) z y) (sym f) (arcs-reach z y (omega (arith, i .least)) r) in
-      reach-first (steps (decode t)) x y (stepBy j (at to j)) (arc-step t s from to k a j x w h e) q
-
-  -- .. and where a walk ends, arcs come
-  steps-reach : (x : ℕ) (r : List Step) → Walk (steps (decode t)) x r → Reached (Leads (s .jobs) from to) x (endOf x r)
-  steps-reach x [] w = here x
-  steps-reach x (q ∷ r) w =
-      let i = step-arc t s from to k a x q (w .0) in
-      step x (q .to) (endOf (q .to) r) (q .job, i .0, i .1, i .2) (steps-reach (q .to) r (w .1))
+  search-ready = (k .size .limits, (arcs-forth k a, loads-in k l))
 
   -- a bench of the board is one of the most that there may be ..
   among-most : (x : ℕ) → T (within 1 ((decode t) .benches) x) → T (within 1 mostBenches x)
-  among-most x h =
-      let i = board-bench x (k .size) h in
-      within-both 1 mostBenches x (i .least) (omega (arith, i .most, k .size .limits .benches-most))
+  among-most x h = bench-within s x (k .size .limits) (board-bench x (k .size) h)
 
   -- .. and its load is at its number
   weighs : (x : ℕ) → T (within 1 ((decode t) .benches) x) → at loads x ≡ load ((decode t) .holders) x
-  weighs x h = l .bench x (within-high 1 mostBenches x (among-most x h))
+  weighs x h = load-at k l (board-bench x (k .size) h)
 
   -- a bench of the board reaches one that is lighter by two or more exactly if it starts an improving path
   starts : (x : ℕ) → T (within 1 ((decode t) .benches) x) → StartsLow (Leads (s .jobs) from to) loads x ↔ StartsOne (decode t) x
@@ -89,13 +68,11 @@ module _ {t : List ℕ} {s : Size} {from to loads : List ℕ} (k : Kept t s) (a 
 
       forth : StartsLow (Leads (s .jobs) from to) loads x → StartsOne (decode t) x
       forth (y, r, d) =
-          let q = arcs-reach x y (within-low 1 ((decode t) .benches) x h) r in
+          let q = arcs-reach k a x y (within-low 1 ((decode t) .benches) x h) r in
           (y, q, omega (arith, d, weighs x h, reached y q))
 
       back : StartsOne (decode t) x → StartsLow (Leads (s .jobs) from to) loads x
-      back (y, q, d) =
-          let r = subst (Reached (Leads (s .jobs) from to) x) (q .2) (steps-reach x (q .0) (q .1)) in
-          (y, r, omega (arith, d, weighs x h, reached y q))
+      back (y, q, d) = (y, steps-reach k a x y q, omega (arith, d, weighs x h, reached y q))
 
   module _ {x : ℕ} (f : StartOf (Leads (s .jobs) from to) loads x) where
     -- the bench found is one of the board: those beyond have no load
@@ -104,7 +81,7 @@ module _ {t : List ℕ} {s : Size} {from to loads : List ℕ} (k : Kept t s) (a 
         let g = f .some d in
         elim (decLe x ((decode t) .benches)) [
           | yes h ↦ within-both 1 ((decode t) .benches) x (within-low 1 mostBenches x (g .bench)) h
-          | no h ↦ absurd (omega (arith, g .starts .2, (loads-in t s loads k l) .beyond x (omega (arith, k .size .board-benches))))
+          | no h ↦ absurd (omega (arith, g .starts .2, (loads-in k l) .beyond x (omega (arith, k .size .board-benches))))
         ]
 
     -- on a level board none is found ..

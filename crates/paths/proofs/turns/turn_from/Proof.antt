@@ -12,21 +12,18 @@ benches-requires c κs = search needs
 distances-requires : tie.Need-distances-requires
 distances-requires c κs =
     let start = c .before .before .before in
-    let a = start .args in
     let (kept, (arcs, (loaded, bench))) = start .pre in
     (kept .size .limits, (arcs-forth kept arcs, (bench, c .before .benches .ensures)))
 
 choose-requires : tie.Need-choose-requires
 choose-requires c κs =
     let start = c .before .before .before .before .before in
-    let a = start .args in
     let (kept, (arcs, (loaded, bench))) = start .pre in
     (kept .size .limits, (loads-in kept loaded, bench))
 
 returns : tie.Need-returns
 returns c =
     let start = c .before .before .before .before .before .before .before in
-    let a = start .args in
     let (kept, (arcs, (loaded, bench))) = start .pre in
     let away = c .before .before .before .distances in
     from-none kept arcs loaded bench (away .ensures) (rw (c .if1 .taken) at (c .before .choose .ensures))
@@ -37,7 +34,6 @@ benches-requires-2 c κs = search needs
 distances-requires-2 : tie.Need-distances-requires-2
 distances-requires-2 c κs =
     let start = c .before .before .before .before .before .before .before .before .before in
-    let a = start .args in
     let (kept, (arcs, (loaded, bench))) = start .pre in
     let end = c .before .before .before .choose .ensures .some (c .before .before .if1 .left) in
     (kept .size .limits, (arcs-back kept arcs, (end .is .bench, c .before .benches2 .ensures)))
@@ -45,13 +41,12 @@ distances-requires-2 c κs =
 turn-along-requires : tie.Need-turn-along-requires
 turn-along-requires c κs =
     let start = c .before .before .before .before .before .before .before .before .before .before .before .before in
-    let a = start .args in
     let (kept, (arcs, (loaded, bench))) = start .pre in
     let away = c .before .before .before .before .before .before .before .before .distances in
     let y = c .before .before .before .before .before .before .choose in
     let left = c .before .before .before .before .before .if1 .left in
     let near = c .before .before .distances2 in
-    (kept, (arcs, (distances-fall (a .s) (a .from .now) (a .to .now) (y .result) (near .last .1 .1 .1 .1 .0) (near .ensures), end-reached kept arcs loaded bench (away .ensures) (y .ensures) left (near .ensures))))
+    (kept, (arcs, (distances-fall (near .ensures), end-reached kept arcs loaded bench (away .ensures) (y .ensures) left (near .ensures))))
 
 same-length : tie.Need-same-length
 same-length c = search needs
@@ -59,7 +54,6 @@ same-length c = search needs
 returns-2 : tie.Need-returns-2
 returns-2 c =
     let start = c .before .before .before .before .before .before .before .before .before .before .before .before .before .before .before in
-    let a = start .args in
     let (kept, (arcs, (loaded, bench))) = start .pre in
     let away = c .before .before .before .before .before .before .before .before .before .before .before .distances in
     let y = c .before .before .before .before .before .before .before .before .before .choose in

@@ -12,21 +12,18 @@ benches-requires c κs = search needs
 distances-requires : tie.Need-distances-requires
 distances-requires c κs =
     let start = c .before .before .before in
-    let a = start .args in
     let (kept, (arcs, (loaded, bench))) = start .pre in
     (kept .size .limits, (arcs-back kept arcs, (bench, c .before .benches .ensures)))
 
 choose-requires : tie.Need-choose-requires
 choose-requires c κs =
     let start = c .before .before .before .before .before in
-    let a = start .args in
     let (kept, (arcs, (loaded, bench))) = start .pre in
     (kept .size .limits, (loads-in kept loaded, bench))
 
 returns : tie.Need-returns
 returns c =
     let start = c .before .before .before .before .before .before .before in
-    let a = start .args in
     let (kept, (arcs, (loaded, bench))) = start .pre in
     let near = c .before .before .before .distances in
     to-none kept arcs loaded bench (near .ensures) (rw (c .if1 .taken) at (c .before .choose .ensures))
@@ -34,11 +31,10 @@ returns c =
 turn-along-requires : tie.Need-turn-along-requires
 turn-along-requires c κs =
     let start = c .before .before .before .before .before .before .before .before .before in
-    let a = start .args in
     let (kept, (arcs, (loaded, bench))) = start .pre in
     let near = c .before .before .before .before .before .distances in
     let first = c .before .before .before .choose .ensures .some (c .before .before .if1 .left) in
-    (kept, (arcs, (distances-fall (a .s) (a .from .now) (a .to .now) (a .x) (near .last .1 .1 .1 .1 .0) (near .ensures), first .is .reached)))
+    (kept, (arcs, (distances-fall (near .ensures), first .is .reached)))
 
 same-length : tie.Need-same-length
 same-length c = search needs
@@ -46,7 +42,6 @@ same-length c = search needs
 returns-2 : tie.Need-returns-2
 returns-2 c =
     let start = c .before .before .before .before .before .before .before .before .before .before .before .before in
-    let a = start .args in
     let (kept, (arcs, (loaded, bench))) = start .pre in
     let near = c .before .before .before .before .before .before .before .before .distances in
     let z = c .before .before .before .before .before .before .choose in

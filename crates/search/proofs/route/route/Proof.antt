@@ -70,11 +70,10 @@ element-copy-out-if1 c = omega (arith, within-high 1 mostBenches (c .loop .y) (b
 nearer-requires : tie.Need-nearer-requires Inv-loop μ-loop
 nearer-requires c κs =
     let start = c .before .before .before .before .before .before .before .before .before .before .before .before .before .before in
-    let a = start .args in
     let p = start .pre in
     let k = c .before .before .before .before .before .before .before in
     let l = c .before .before .before .before in
-    (listed-ways (a .s) (a .from .now) (a .to .now) (k .list-by .last .1 .1 .0) (k .list-by .last .1 .1 .1 .0) (p .0) (p .1 .0) ((fallen k) .listed), (bench l, (inv l) .numbered))
+    (listed-ways (p .0) (p .1 .0) ((fallen k) .listed), (bench l, (inv l) .numbered))
 
 -- the arc is the smallest that goes nearer ..
 arc : (c : tie.After-nearer Inv-loop μ-loop) → let a = c .before .before .before .before .before .before .before .before .before .before .before .before .before .before .before .args in Nearest (a .s .jobs) (a .from .now) (a .to .now) (a .dist .now) (c .before .before .before .before .before .loop .y) (c .nearer .result)

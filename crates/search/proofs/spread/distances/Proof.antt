@@ -42,15 +42,14 @@ spread-requires c κs =
     let start = c .before .before .before .before .before .before .before .before .before .before .before .before .before .before in
     let a = start .args in
     let p = start .pre in
-    (listed-ways (a .s) (a .from .now) (a .to .now) (k .list-by .last .1 .1 .0) (k .list-by .last .1 .1 .1 .0) (p .0) (p .1 .0) (listed k), (bench-within (a .s) (a .v) (p .0) (p .1 .1 .0), none-queued (c .before .before .before .before .benches2 .ensures) (p .1 .1 .1)))
+    (listed-ways (p .0) (p .1 .0) (listed k), (bench-within (a .s) (a .v) (p .0) (p .1 .1 .0), none-queued (c .before .before .before .before .benches2 .ensures) (p .1 .1 .1)))
 
 returns : tie.Need-returns
 returns c =
     let k = c .before .before .before .before .before .before .before .before in
     let start = c .before .before .before .before .before .before .before .before .before .before .before .before .before .before .before in
-    let a = start .args in
     let p = start .pre in
-    spread-distances (a .s) (a .from .now) (a .to .now) (k .list-by .last .1 .1 .0) (k .list-by .last .1 .1 .1 .0) (p .0) (p .1 .0) (listed k) (a .v) (p .1 .1 .0) (c .spread .result) (c .spread .last .1 .1 .1 .1 .1 .0) (c .spread .last .1 .1 .1 .1 .1 .1 .0) (rw (p .1 .1 .1) at (c .spread .ensures))
+    spread-distances (p .0) (p .1 .0) (listed k) (p .1 .1 .0) (rw (p .1 .1 .1) at (c .spread .ensures))
 
 pub distances-spec : {M : Type 1} → statement M
 distances-spec =

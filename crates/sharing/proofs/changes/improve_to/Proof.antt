@@ -1,6 +1,6 @@
 -- The arcs are the board's, the loads its benches', and the path is turned along them: the board stays as it was until then.
 use borrow.Author.Needs.{needs}
-use Rattle.sharing.proofs.Changing.{zeros-long}
+use Rattle.search.proofs.Listing.{array-long}
 use Rattle.sharing.proofs.changes.improve_to.Statement.{statement}
 use Rattle.sharing.proofs.changes.improve_to.Tie as tie
 
@@ -13,7 +13,7 @@ jobs-requires-2 c κs = search needs
 fill-requires : tie.Need-fill-requires
 fill-requires c κs =
     let made = c .before .before .before in
-    (made .before .before .before .pre .0, (zeros-long (made .before .jobs .ensures), zeros-long (made .jobs2 .ensures)))
+    (made .before .before .before .pre .0, (array-long 0 (made .before .jobs .ensures), array-long 0 (made .jobs2 .ensures)))
 
 benches-requires : tie.Need-benches-requires
 benches-requires c κs = search needs

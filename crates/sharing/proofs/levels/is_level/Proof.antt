@@ -1,6 +1,7 @@
 -- Whether the search for a first bench finds none.
 use borrow.Author.Needs.{needs}
-use Rattle.sharing.proofs.Turning.{zeros-long, search-ready, zero-level}
+use Rattle.search.proofs.Listing.{array-long}
+use Rattle.sharing.proofs.Turning.{search-ready, zero-level}
 use Rattle.sharing.proofs.levels.is_level.Statement.{statement}
 use Rattle.sharing.proofs.levels.is_level.Tie as tie
 
@@ -12,7 +13,7 @@ jobs-requires-2 c κs = search needs
 
 fill-requires : tie.Need-fill-requires
 fill-requires c κs =
-    (c .before .before .before .before .before .pre, (zeros-long (c .before .before .before .jobs .ensures), zeros-long (c .before .before .jobs2 .ensures)))
+    (c .before .before .before .before .before .pre, (array-long 0 (c .before .before .before .jobs .ensures), array-long 0 (c .before .before .jobs2 .ensures)))
 
 benches-requires : tie.Need-benches-requires
 benches-requires c κs = search needs
@@ -22,8 +23,7 @@ loads-requires c κs = c .before .before .before .before .before .before .before
 
 first-start-requires : tie.Need-first-start-requires
 first-start-requires c κs =
-    let r = search-ready (c .before .before .before .before .before .before .before .before .before .before .before .before .pre) (c .before .before .before .before .before .before .fill .ensures) (c .before .before .before .loads .ensures) in
-    r
+    search-ready (c .before .before .before .before .before .before .before .before .before .before .before .before .pre) (c .before .before .before .before .before .before .fill .ensures) (c .before .before .before .loads .ensures)
 
 returns : tie.Need-returns
 returns c =

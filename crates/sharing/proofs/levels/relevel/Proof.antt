@@ -6,7 +6,8 @@ use mathlib.Core.Logic.{⊎-elim}
 use borrow.Author.Needs.{needs}
 use borrow.Author.Tests.{ltb-true, ltb-false}
 use Rattle.store.proofs.Boards.{sound-kept}
-use Rattle.sharing.proofs.Turning.{zeros-long, search-ready, Turning, turning-start, turning-bench, turning-turn, turning-end}
+use Rattle.search.proofs.Listing.{array-long}
+use Rattle.sharing.proofs.Turning.{search-ready, Turning, turning-start, turning-bench, turning-turn, turning-end}
 use Rattle.sharing.proofs.levels.relevel.Statement.{statement}
 use Rattle.sharing.proofs.levels.relevel.Tie as tie
 
@@ -24,7 +25,7 @@ jobs-requires-2 c κs = search needs
 
 fill-requires : tie.Need-fill-requires Inv-loop μ-loop
 fill-requires c κs =
-    (sound-kept _ _ (c .before .before .before .before .before .before .pre), (zeros-long (c .before .before .before .before .jobs .ensures), zeros-long (c .before .before .before .jobs2 .ensures)))
+    (sound-kept _ _ (c .before .before .before .before .before .before .pre), (array-long 0 (c .before .before .before .before .jobs .ensures), array-long 0 (c .before .before .before .jobs2 .ensures)))
 
 benches-requires : tie.Need-benches-requires Inv-loop μ-loop
 benches-requires c κs = search needs
@@ -35,8 +36,7 @@ loads-requires c κs = sound-kept _ _ (c .before .before .before .before .before
 first-start-requires : tie.Need-first-start-requires Inv-loop μ-loop
 first-start-requires c κs =
     let filled = c .before .before .before .before .before .before .before in
-    let r = search-ready (sound-kept _ _ (filled .before .before .before .before .before .before .before .pre)) (filled .fill .ensures) (c .before .before .before .loads .ensures) in
-    r
+    search-ready (sound-kept _ _ (filled .before .before .before .before .before .before .before .pre)) (filled .fill .ensures) (c .before .before .before .loads .ensures)
 
 loop-holds : tie.Need-loop-holds Inv-loop μ-loop
 loop-holds c =
@@ -70,8 +70,7 @@ loads-requires-2 c κs = c .before .before .before .before .before .before .befo
 first-start-requires-2 : tie.Need-first-start-requires-2 Inv-loop μ-loop
 first-start-requires-2 c κs =
     let filled = c .before .before .before .before .before .before in
-    let r = search-ready (filled .before .before .before .before .before .before .turn-from .ensures .holds .kept) (filled .fill2 .ensures) (c .before .before .before .loads2 .ensures) in
-    r
+    search-ready (filled .before .before .before .before .before .before .turn-from .ensures .holds .kept) (filled .fill2 .ensures) (c .before .before .before .loads2 .ensures)
 
 loop-less : tie.Need-loop-less Inv-loop μ-loop
 loop-less c = omega (arith, less (c .before .before .before .before .before .before .before .before .before .before .before .before .before .before .before .before .before .before))
