@@ -6,29 +6,31 @@ use mathlib.Core.Logic.{_↔_}
 use mathlib.Core.Bool.{Bool, true, false, cond, not, false≢true}
 use mathlib.Core.List.{List, [], _∷_, _++_, append-nil}
 use lib.Dec.{T, eqb}
-use lib.ListN.{length, getD, drop, replicate, length-append, length-replicate}
+use lib.ListN.{length, getD, drop, replicate, length-append}
 use Rattle.rules.specs.Lists.{bit, within, count, member, rising, total, keep, In}
 use Rattle.rules.specs.Board.{Board, Valid, load, Shares}
 use Rattle.rules.specs.Paths.{Step, stepBy, steps}
 use Rattle.rules.specs.Sharing.{tightSet, inside}
 use Rattle.rules.specs.Table.{mostBenches, mostJobs, decode, bytesOf}
-use Rattle.rules.proofs.Basics.{never→false, Compared, same, other, compared, T-eqb, within-low, within-high, within-both, in-each, keep-in, member-in, Member, is-in, not-in, membered, member-marked, length-shares, length-keep, length-rising}
+use Rattle.rules.proofs.Basics.{false→not, never→false, Compared, same, other, compared, T-eqb, within-low, within-both, in-each, keep-in, member-in, Member, is-in, not-in, membered, member-marked, length-shares, length-keep, length-rising}
 use Rattle.rules.proofs.Counting.{bit-other, total-same, total-count, keep-counts}
 use Rattle.rules.proofs.Paths.{is-step}
 use Rattle.rules.proofs.Sets.{inside-skips, inside-counts}
 use Rattle.rules.proofs.Sound.{two-more, two-more-high}
 use Rattle.rules.proofs.TightSet.{tight-marked, tight-bench, tight-reached}
-use Rattle.rules.proofs.Walks.{Reach, reach-here, reach-first, reach-more, reach-all}
+use Rattle.rules.proofs.Walks.{Reach, reach-more, reach-all}
 use Rattle.table.specs.Bytes.{setWord}
 use Rattle.table.specs.Sizes.{Limits, BenchIn}
 use Rattle.table.specs.declared.size.Size.{Size}
 use Rattle.table.proofs.Bytes.{length-setWord}
+use Rattle.table.proofs.Sizes.{board-bench}
 use Rattle.store.specs.View.{Kept, Loaded}
-use Rattle.search.specs.Arrays.{at, Leads, Arcs, Reached, here, step, LoadsIn}
+use Rattle.search.specs.Arrays.{at, Leads, LoadsIn}
 use Rattle.search.specs.Lists.{ListedBy, Joins}
-use Rattle.search.proofs.Listing.{joins-leads}
+use Rattle.search.proofs.Listing.{array-at, joins-leads}
+use Rattle.search.proofs.Starting.{reached-same}
 use Rattle.paths.specs.Arcs.{ArcsOf}
-use Rattle.paths.proofs.AsArcs.{arcs-forth, arc-step, step-arc}
+use Rattle.paths.proofs.AsArcs.{on-board, load-at, arcs-forth, step-arc, arcs-reach}
 use Rattle.tight.specs.Marks.{mark, Brings, marked, Measured, TightSet}
 use Rattle.tight.specs.declared.set.Extent.{Extent}
 
@@ -251,23 +253,6 @@ tight-inside b v h =
 
 -- the tight set as marks
 
--- an array of one value is as long as it was made
-pub array-long : {A : Type 0} (n : ℕ) (a : A) (l : List A) → l ≡ replicate n a → length l ≡ n
-array-long n a l e = ap length e ∙ length-replicate n a
-
--- an array without a mark has none anywhere
-no-mark : (n y : ℕ) → T (not (mark (replicate n false) y))
-no-mark zero y = tt
-no-mark (suc n) zero = tt
-no-mark (suc n) (suc y) = no-mark n y
-
--- where each step of a relation is one of the board's, what is reached by it is reached by steps
-reached-reach : (out : ℕ → List Step) (Joined : ℕ → ℕ → Type 0) → ((x y : ℕ) → 1 ≤ x → Joined x y → (q : Step) × In q (out x) × (q .to ≡ y) × (1 ≤ y)) → {x y : ℕ} → Reached Joined x y → 1 ≤ x → Reach out x y
-reached-reach out Joined f (here x) l = reach-here out x
-reached-reach out Joined f (step x y z j r) l =
-    let (q, i, e, m) = f x y l j in
-    reach-first out x z q i (rw e (reached-reach out Joined f r m))
-
 -- what `tight_set` has when its benches are marked
 pub record Found (t : List ℕ) (s : Size) (h : ℕ) (from to first next loads : List ℕ) (marks₀ marks : List Bool) : Type 0 where
   pub kept : Kept t s
@@ -280,34 +265,22 @@ pub record Found (t : List ℕ) (s : Size) (h : ℕ) (from to first next loads :
 module _ {t : List ℕ} {s : Size} {h : ℕ} {from to first next loads : List ℕ} {marks₀ marks : List Bool} (f : Found t s h from to first next loads marks₀ marks) where
   -- every mark is new
   new : (y : ℕ) → T (not (mark marks₀ y))
-  new y = rw (f .blank) (no-mark (mostBenches + 1) y)
-
-  -- the board's jobs are arcs
-  forth : Arcs s from to
-  forth = arcs-forth t s from to (f .kept) (f .arcs)
+  new y = false→not (mark marks₀ y) (array-at (mostBenches + 1) (f .blank) y)
 
   -- what is listed are these arcs
   joined : (x y : ℕ) → Joins first next to x y ↔ Leads (s .jobs) from to x y
-  joined = joins-leads s from to first next (f .kept .size .limits) forth (f .listed)
-
-  -- a listed arc is a step, to a bench
-  joined-step : (x y : ℕ) → 1 ≤ x → Joins first next to x y → (q : Step) × In q (steps (decode t) x) × (q .to ≡ y) × (1 ≤ y)
-  joined-step x y l j =
-      let (a, w, e, d) = (joined x y) .0 j in
-      let i = arc-step t s from to (f .kept) (f .arcs) a x w l e in
-      let b = forth .leads a w (omega arith) in
-      (stepBy a (at to a), i, d, omega (arith, b .least))
+  joined = joins-leads (f .kept .size .limits) (arcs-forth (f .kept) (f .arcs)) (f .listed)
 
   -- a step is a listed arc
   step-joined : (x : ℕ) (q : Step) → In q (steps (decode t) x) → Joins first next to x (q .to)
-  step-joined x q i = let r = step-arc t s from to (f .kept) (f .arcs) x q i in (joined x (q .to)) .1 (q .job, r .0, r .1, r .2)
+  step-joined x q i = let r = step-arc (f .kept) (f .arcs) x q i in (joined x (q .to)) .1 (q .job, r .0, r .1, r .2)
 
   -- a marked bench is reached from one with load h or more ..
   marked-reached : (y : ℕ) → T (mark marks y) → (x : ℕ) × T (within 1 ((decode t) .benches) x) × (h ≤ load ((decode t) .holders) x) × Reach (steps (decode t)) x y
   marked-reached y m =
       let (x, (b, l), r) = f .brought .only y (new y) m in
-      let limits = f .kept .size .limits in
-      (x, within-both 1 ((decode t) .benches) x (b .least) (omega (arith, b .most, f .kept .size .board-benches)), omega (arith, f .loaded .bench x (omega (arith, b .most, limits .benches-most))), reached-reach (steps (decode t)) (Joins first next to) joined-step r (b .least))
+      let q = arcs-reach (f .kept) (f .arcs) x y (b .least) (reached-same (λ x y. (joined x y) .0) x y r) in
+      (x, on-board (f .kept) b, omega (arith, load-at (f .kept) (f .loaded) b), q)
 
   -- .. and each that is reached is marked
   reached-marked : (x y : ℕ) → T (within 1 ((decode t) .benches) x) → h ≤ load ((decode t) .holders) x → Reach (steps (decode t)) x y → T (mark marks y)
@@ -316,11 +289,8 @@ module _ {t : List ℕ} {s : Size} {h : ℕ} {from to first next loads : List �
       on : (z : ℕ) (q : Step) → T (mark marks z) → In q (steps (decode t) z) → T (mark marks (q .to))
       on z q m i = f .brought .shut z (q .to) (new z) m (step-joined z q i)
 
-      most : x ≤ s .benches
-      most = omega (arith, within-high 1 ((decode t) .benches) x w, f .kept .size .board-benches)
-
       start : T (mark marks x)
-      start = f .brought .every x (record { least = within-low 1 ((decode t) .benches) x w; most = most }, omega (arith, f .loaded .bench x (omega (arith, most, f .kept .size .limits .benches-most))))
+      start = let b = board-bench x (f .kept .size) w in f .brought .every x (b, omega (arith, load-at (f .kept) (f .loaded) b))
 
   -- the marked benches are the tight set ..
   marked-tight : marked s marks ≡ tightSet (decode t) h
@@ -337,9 +307,9 @@ module _ {t : List ℕ} {s : Size} {h : ℕ} {from to first next loads : List �
     where
       each : (x : ℕ) → 1 ≤ x → x ≤ (decode t) .benches → markedLoad loads marks x ≡ cond (member x (tightSet (decode t) h)) (load ((decode t) .holders) x) 0
       each x l u =
-          let most : x ≤ s .benches = omega (arith, f .kept .size .board-benches) in
-          let e : member x (tightSet (decode t) h) ≡ mark marks x = ap (member x) (sym marked-tight) ∙ member-marked (s .benches) (mark marks) x (within-both 1 (s .benches) x l most) in
-          rw (e, f .loaded .bench x (omega (arith, f .kept .size .limits .benches-most))) refl
+          let b = board-bench x (f .kept .size) (within-both 1 ((decode t) .benches) x l u) in
+          let e : member x (tightSet (decode t) h) ≡ mark marks x = ap (member x) (sym marked-tight) ∙ member-marked (s .benches) (mark marks) x (within-both 1 (s .benches) x (b .least) (b .most)) in
+          rw (e, load-at (f .kept) (f .loaded) b) refl
 
   -- so what is measured is the tight set's
   pub found-tight : {r : Extent} → Measured s loads marks r → TightSet (decode t) s h marks r

@@ -1,5 +1,5 @@
 -- Marks: one bench's own, what one visit or walk adds to another's, and the pair that falls.
-use Prim.Native.Nat.{ℕ, zero, suc, _+_, _-_, _*_, _≤_, _<_}
+use Prim.Native.Nat.{ℕ, zero, suc, _+_, _*_, _≤_, _<_}
 use native.Mathlib.Nat.{suc-mul, mul-le-mul-right}
 use native.Mathlib.Omega.{arith}
 use mathlib.Core.Path.{_≡_, refl, sym, ap, subst, _∙_}
@@ -17,25 +17,10 @@ use Rattle.table.specs.Sizes.{BenchIn}
 use Rattle.table.specs.declared.size.Size.{Size}
 use Rattle.search.specs.Arrays.{at, Reached, here, step}
 use Rattle.search.specs.Lists.{On, head, tail, Joins, Ways}
+use Rattle.search.proofs.Listing.{on-some, on-next, on-most, left, left-less}
 use Rattle.tight.specs.Marks.{mark, Marks, OnChain, FromList, Brings}
 
 -- chains
-
-module _ {next : List ℕ} where
-  -- a chain with a job on it does not begin with 0 ..
-  on-first : {a b : ℕ} → On next a b → a ≢ 0
-  on-first (head a n) = n
-  on-first (tail a b n o) = n
-
-  -- .. the job after one on the chain is on it ..
-  on-next : {a b : ℕ} → On next a b → at next b ≢ 0 → On next a (at next b)
-  on-next (head a n) d = tail a (at next a) n (head (at next a) d)
-  on-next (tail a b n o) d = tail a (at next b) n (on-next o d)
-
-  -- .. and what the first has and each hands on, all on the chain have
-  on-all : (P : ℕ → Type 0) {a b : ℕ} → P a → ((c : ℕ) → On next a c → at next c ≢ 0 → P (at next c)) → On next a b → P b
-  on-all P p f (head a n) = p
-  on-all P p f (tail a b n o) = on-all P (f a (head a n) (on-first o)) (λ c i. f c (tail a c n i)) o
 
 module _ {first next to : List ℕ} (w : Ways first next to) where
   -- a bench's chain begins with a job on it, or has none
@@ -53,8 +38,7 @@ module _ {first next to : List ℕ} (w : Ways first next to) where
       where
         go : OnChain first next j → j ≤ mostJobs
         go (inl e) = omega arith
-        go (inr r) = on-all (λ i. i ≤ mostJobs) (w .heads (r .0) (r .1))
-            (λ i p d. ⊎-elim (λ e. absurd (d e)) (λ u. u .1) (w .rise (r .0) i (r .1) p)) (r .2)
+        go (inr r) = on-most (w .heads (r .0) (r .1)) (λ i. w .rise (r .0) i (r .1)) (r .2)
 
     module _ (d : j ≢ 0) where
       -- .. a job on it leads to a bench ..
@@ -102,26 +86,14 @@ unmarked-one n marks x l u h e =
     let q : g x ≡ 0 = ap (λ (z : Bool). bit (not z)) (getD-set-same marks x true false h) in
     omega (arith, total-but-one n f g x l u (λ y k m d. sym (ap (λ (z : Bool). bit (not z)) (getD-set-other marks x y true false d))))
 
--- the length of a chain from job j on, at most
-abbrev rest : ℕ → ℕ
-rest zero = 0
-rest (suc i) = mostJobs - i
-
--- it is no longer than there are jobs ..
-rest-most : (j : ℕ) → rest j ≤ mostJobs
-rest-most zero = omega arith
-rest-most (suc i) = omega arith
-
--- .. and shorter where the chain goes on with a greater number or ends
-rest-less : (j i : ℕ) → j ≢ 0 → j ≤ mostJobs → (i ≡ 0) ⊎ ((j < i) × (i ≤ mostJobs)) → rest i < rest j
-rest-less zero i d u r = absurd (d refl)
-rest-less (suc j) zero d u r = omega arith
-rest-less (suc j) (suc i) d u (inl e) = absurd (omega arith)
-rest-less (suc j) (suc i) d u (inr r) = omega arith
+-- a chain is no longer than there are jobs
+left-most : (m j : ℕ) → left m j ≤ m
+left-most m zero = omega arith
+left-most m (suc i) = omega arith
 
 -- the pair of unmarked benches and remaining chain, as one number
 pub falling : List Bool → ℕ → ℕ
-falling marks j = unmarked mostBenches marks * (mostJobs + 1) + rest j
+falling marks j = unmarked mostBenches marks * (mostJobs + 1) + left mostJobs j
 
 -- it falls where a bench is marked, whatever chain is walked then ..
 pub falls-marked : (marks : List Bool) (x j : ℕ) → Marks marks → T (within 1 mostBenches x) → mark marks x ≡ false → falling (set marks x true) j < falling marks 0
@@ -131,10 +103,10 @@ falls-marked marks x j m b e =
     let h = within-high 1 mostBenches x b in
     let u = unmarked mostBenches (set marks x true) in
     let n : unmarked mostBenches marks ≡ suc u = unmarked-one mostBenches marks x l h (omega (arith, m .long)) e in
-    rw n (omega (arith, suc-mul u (mostJobs + 1), rest-most j))
+    rw n (omega (arith, suc-mul u (mostJobs + 1), left-most mostJobs j))
 
 -- .. and where no mark goes and less of the chain is left
-falls-left : (marks marks' : List Bool) (j i : ℕ) → ((y : ℕ) → T (mark marks y) → T (mark marks' y)) → rest i < rest j → falling marks' i < falling marks j
+falls-left : (marks marks' : List Bool) (j i : ℕ) → ((y : ℕ) → T (mark marks y) → T (mark marks' y)) → left mostJobs i < left mostJobs j → falling marks' i < falling marks j
 unfolding falling
 falls-left marks marks' j i f r =
     omega (arith, mul-le-mul-right (mostJobs + 1) (unmarked-less mostBenches marks marks' f))
@@ -142,12 +114,12 @@ falls-left marks marks' j i f r =
 module _ {first next to : List ℕ} (w : Ways first next to) (marks : List Bool) (j : ℕ) (o : OnChain first next j) (d : j ≢ 0) where
   -- so a job's other bench ..
   pub falls-visit : falling marks 0 < falling marks j
-  falls-visit = falls-left marks marks j 0 (λ y t. t) (rest-less j 0 d (chain-most w j o) (inl refl))
+  falls-visit = falls-left marks marks j 0 (λ y t. t) (left-less mostJobs j 0 d (chain-most w j o) (inl refl))
 
   -- .. and the chain after it leave less to do
   pub falls-walk : (marks' : List Bool) → ((y : ℕ) → T (mark marks y) → T (mark marks' y)) → falling marks' (at next j) < falling marks j
   falls-walk marks' f =
-      falls-left marks marks' j (at next j) f (rest-less j (at next j) d (chain-most w j o) (chain-rises w j o d))
+      falls-left marks marks' j (at next j) f (left-less mostJobs j (at next j) d (chain-most w j o) (chain-rises w j o d))
 
 -- what benches bring in
 
@@ -237,7 +209,7 @@ module _ (first next to : List ℕ) where
 
   -- a chain that has ended brings in nothing ..
   pub brings-end : (j : ℕ) (m : List Bool) → Marks m → j ≡ 0 → Brings J (FromList next to j) m m
-  brings-end j m l e = brings-none (FromList next to j) m l (λ y i. absurd (on-first (i .1) e))
+  brings-end j m l e = brings-none (FromList next to j) m l (λ y i. absurd (on-some (i .1) e))
 
   -- .. and one with a job on it that job's other bench, and what the chain after it does
   pub brings-job : (j : ℕ) (m m₁ m₂ : List Bool) → j ≢ 0 → Brings J (λ y. y ≡ at to j) m m₁ → Brings J (FromList next to (at next j)) m₁ m₂ → Brings J (FromList next to j) m m₂
