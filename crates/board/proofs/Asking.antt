@@ -7,30 +7,31 @@ use mathlib.Core.Logic.{inl, inr, _≢_}
 use mathlib.Core.Bool.{Bool, true, false, cond}
 use mathlib.Core.List.{List, [], _∷_, _++_}
 use lib.ListN.{length, drop}
-use Rattle.rules.specs.Lists.{within, rising, In}
+use Rattle.rules.specs.Lists.{within, In}
 use Rattle.rules.specs.Board.{Board, Valid, load, heaviest}
 use Rattle.rules.specs.Table.{mostBenches, bytesOf, decode}
 use Rattle.rules.specs.Paths.{steps}
 use Rattle.rules.specs.Sharing.{level, tightSet}
-use Rattle.rules.specs.Answers.{Outcome, refused}
-use Rattle.rules.specs.Calls.{Call, loadOf, heaviestLoad, tightSetOf, formCheck, levelCheck, conditions, lentList, accepted, outcome, tightSetOutcome}
-use Rattle.rules.proofs.Basics.{within-both, in-getD, length-keep, length-rising}
+use Rattle.rules.specs.Answers.{Outcome}
+use Rattle.rules.specs.Calls.{loadOf, heaviestLoad, tightSetOf, formCheck, levelCheck, conditions, accepted, outcome, tightSetOutcome}
+use Rattle.rules.proofs.Basics.{within-both, in-getD}
 use Rattle.rules.proofs.Counting.{greatest-most}
 use Rattle.rules.proofs.Choice.{load-heaviest}
 use Rattle.rules.proofs.Walks.{reach-here}
 use Rattle.rules.proofs.TightSet.{tight-reached}
-use Rattle.rules.proofs.Refusals.{refused-by}
 use Rattle.rules.proofs.ChainOrder.{sound-outcome}
 use Rattle.rules.proofs.Questions.{load-refused, tight-answered, tight-list-refused, tight-height-refused}
 use Rattle.table.specs.declared.size.Size.{Size}
 use Rattle.table.specs.Sizes.{SoundTable}
 use Rattle.tight.specs.declared.set.Extent.{Extent}
 use Rattle.tight.specs.Marks.{mark, marked, TightSet}
-use Rattle.board.specs.Answered.{refusalOf, answerOf, Leaves}
-use Rattle.board.specs.declared.answers.Refusal.{Refusal}
+use Rattle.tight.proofs.AsSet.{kept-few}
+use Rattle.board.specs.Answered.{answerOf, Leaves}
 use Rattle.board.specs.declared.answers.Refusal.the-variants as code
 use Rattle.board.specs.declared.answers.Answer.{Answer}
 use Rattle.board.specs.declared.answers.Answer.the-variants as told
+use Rattle.board.proofs.Formal.{refused-leaves}
+use Rattle.board.proofs.Writing.{bench-of-board}
 
 -- heights and their sets
 
@@ -58,12 +59,6 @@ bench-low b v h p =
 
 -- what is left
 
--- a refused call leaves all that it was lent
-refused-leaves : (c : Call) (t : List ℕ) (r : Refusal) → (outcome c t) .answer ≡ refused (refusalOf r) → Leaves (outcome c t) (told.Refused r) t (lentList c)
-refused-leaves c t r e =
-    let k = refused-by c t (refusalOf r) e in
-    record { answer = sym e; bytes = sym (k .table); listed = sym (k .list) }
-
 -- an outcome that has just this answer and these bytes
 answered-leaves : {o : Outcome} {r : Answer} {t list : List ℕ} → o ≡ record { answer = answerOf r; table = t; list = list } → Leaves o r t list
 answered-leaves {o} {r} {t} {list} e =
@@ -87,29 +82,23 @@ module _ {t : List ℕ} {s : Size} (z : SoundTable t s) where
   heaviest-told n e = answered-leaves (sound-outcome heaviestLoad t (z .sound) ∙ rw e)
 
   module _ (x : ℕ) where
-    -- the board's benches are those of the size
-    same-within : {y : Bool} → within 1 (s .benches) x ≡ y → within 1 ((decode t) .benches) x ≡ y
-    same-within w = ap (λ n. within 1 n x) (z .size .board-benches) ∙ w
-
     -- the load of a bench of 1 to B ..
-    pub load-told : (n : ℕ) → within 1 (s .benches) x ≡ true → n ≡ load ((decode t) .holders) x → Leaves (outcome (loadOf x) t) (told.Load n) t []
+    pub load-told : {h : Bool} (n : ℕ) → h ≡ within 1 (s .benches) x → h ≡ true → n ≡ load ((decode t) .holders) x → Leaves (outcome (loadOf x) t) (told.Load n) t []
     unfolding conditions accepted
-    load-told n w e = answered-leaves (sound-outcome (loadOf x) t (z .sound) ∙ rw (same-within w, e))
+    load-told n b w e = answered-leaves (sound-outcome (loadOf x) t (z .sound) ∙ rw (sym (bench-of-board z x b) ∙ w, e))
 
     -- .. and 4 for any other number
-    pub bench-refused : within 1 (s .benches) x ≡ false → Leaves (outcome (loadOf x) t) (told.Refused code.BenchNumber) t []
-    bench-refused w = refused-leaves (loadOf x) t code.BenchNumber (load-refused t (z .sound) x (same-within w))
+    pub bench-refused : {h : Bool} → h ≡ within 1 (s .benches) x → h ≡ false → Leaves (outcome (loadOf x) t) (told.Refused code.BenchNumber) t []
+    bench-refused b w = refused-leaves code.BenchNumber (loadOf x) t (load-refused t (z .sound) x (sym (bench-of-board z x b) ∙ w))
 
   -- a height of 0 gives 7
   pub zero-refused : (h : ℕ) (list : List ℕ) → h ≡ 0 → Leaves (outcome (tightSetOf h list) t) (told.Refused code.Height) t list
-  zero-refused h list p = refused-leaves (tightSetOf h list) t code.Height (tight-height-refused t (z .sound) h list (inl p))
+  zero-refused h list p = refused-leaves code.Height (tightSetOf h list) t (tight-height-refused t (z .sound) h list (inl p))
 
   module _ {h : ℕ} {marks : List Bool} {r : Extent} (m : TightSet (decode t) s h marks r) where
     -- the set has at most B benches
     pub set-most : r .benches ≤ mostBenches
-    set-most =
-        let short = length-keep (mark marks) (rising 1 (s .benches)) in
-        omega (arith, m .benches, ap length (m .set), short, length-rising 1 (s .benches), z .size .limits .benches-most)
+    set-most = omega (arith, m .benches, ap length (m .set), kept-few (mark marks) (s .benches), z .size .limits .benches-most)
 
     module _ (list : List ℕ) where
       -- a list that is not too short has room for the marked benches
@@ -120,7 +109,7 @@ module _ {t : List ℕ} {s : Size} (z : SoundTable t s) where
       pub high-refused : h ≢ 0 → r .benches ≡ 0 → Leaves (outcome (tightSetOf h list) t) (told.Refused code.Height) t list
       high-refused p e =
           let high = empty-high (decode t) (z .storable .valid) h p (sym (m .benches) ∙ e) in
-          refused-leaves (tightSetOf h list) t code.Height (tight-height-refused t (z .sound) h list (inr high))
+          refused-leaves code.Height (tightSetOf h list) t (tight-height-refused t (z .sound) h list (inr high))
 
       module _ (p : h ≢ 0) (e : r .benches ≢ 0) where
         low : 1 ≤ h
@@ -132,7 +121,7 @@ module _ {t : List ℕ} {s : Size} (z : SoundTable t s) where
         -- a list that is shorter than the set's words gives 8
         pub short-refused : length list < 2 * r .benches → Leaves (outcome (tightSetOf h list) t) (told.Refused code.ListTooShort) t list
         short-refused f =
-            refused-leaves (tightSetOf h list) t code.ListTooShort (tight-list-refused t (z .sound) h list low high (omega (arith, m .benches)))
+            refused-leaves code.ListTooShort (tightSetOf h list) t (tight-list-refused t (z .sound) h list low high (omega (arith, m .benches)))
 
         -- in any other the marked benches are the set
         pub set-told : (u : List ℕ) → 2 * r .benches ≤ length list → u ≡ bytesOf (marked s marks) ++ drop (2 * length (marked s marks)) list → Leaves (outcome (tightSetOf h list) t) (told.TightSet (r .benches) (r .jobs)) t u

@@ -24,6 +24,6 @@ unfolding outcome
 sizes-refused c t e = refused-leaves Sizes c t (rw e)
 
 -- 2
-pub unsound-refused : (c : Call) (t : List ℕ) → fits t ≡ true → sound t ≡ false → Leaves (outcome c t) (Refused Unsound) t (lentList c)
+pub unsound-refused : (c : Call) (t : List ℕ) → (fits t ≡ true) × (sound t ≡ false) → Leaves (outcome c t) (Refused Unsound) t (lentList c)
 unfolding outcome
-unsound-refused c t e f = refused-leaves Unsound c t (rw (e, f))
+unsound-refused c t e = refused-leaves Unsound c t (rw (e .0, e .1))

@@ -78,7 +78,7 @@ module _ {t : List ℕ} {s : Size} (z : SoundTable t s) where
   job-of-board : (j : ℕ) {h : Bool} → h ≡ within 1 (s .jobs) j → h ≡ within 1 (length ((decode t) .named)) j
   job-of-board j e = rw (z .size .board-jobs) e
 
-  bench-of-board : (x : ℕ) {h : Bool} → h ≡ within 1 (s .benches) x → h ≡ within 1 ((decode t) .benches) x
+  pub bench-of-board : (x : ℕ) {h : Bool} → h ≡ within 1 (s .benches) x → h ≡ within 1 ((decode t) .benches) x
   bench-of-board x e = rw (z .size .board-benches) e
 
   -- 3

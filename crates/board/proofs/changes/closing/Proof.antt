@@ -26,17 +26,14 @@ same-length c = search needs
 
 returns : tie.Need-returns
 returns c =
-    let a = c .before .before .before .before .before .args in
-    sizes-refused (closing (a .job)) (a .t .now) (rw (c .enum-told .given .1) at (c .before .before .check .ensures .says))
+    sizes-refused (closing _) _ (rw (c .enum-told .given .1) at (c .before .before .check .ensures .says))
 
 same-length-2 : tie.Need-same-length-2
 same-length-2 c = search needs
 
 returns-2 : tie.Need-returns-2
 returns-2 c =
-    let a = c .before .before .before .before .before .args in
-    let says = rw (c .enum-told2 .given .1) at (c .before .before .check .ensures .says) in
-    unsound-refused (closing (a .job)) (a .t .now) (says .0) (says .1)
+    unsound-refused (closing _) _ (rw (c .enum-told2 .given .1) at (c .before .before .check .ensures .says))
 
 same-length-3 : tie.Need-same-length-3
 same-length-3 c = search needs

@@ -23,8 +23,7 @@ returns c = sizes-refused formCheck _ (rw (c .enum-told .given .1) at (c .before
 
 returns-2 : tie.Need-returns-2
 returns-2 c =
-    let u = rw (c .enum-told2 .given .1) at (c .before .before .check .ensures .says) in
-    unsound-refused formCheck _ (u .0) (u .1)
+    unsound-refused formCheck _ (rw (c .enum-told2 .given .1) at (c .before .before .check .ensures .says))
 
 returns-3 : tie.Need-returns-3
 returns-3 c = form-sound (rw (c .enum-told3 .given .1) at (c .before .before .check .ensures .says))

@@ -31,8 +31,7 @@ returns c = sizes-refused heaviestLoad _ (rw (c .enum-told .given .1) at (c .bef
 
 returns-2 : tie.Need-returns-2
 returns-2 c =
-    let u = rw (c .enum-told2 .given .1) at (c .before .before .check .ensures .says) in
-    unsound-refused heaviestLoad _ (u .0) (u .1)
+    unsound-refused heaviestLoad _ (rw (c .enum-told2 .given .1) at (c .before .before .check .ensures .says))
 
 returns-3 : tie.Need-returns-3
 returns-3 c = heaviest-told (sound-table (c .before)) (c .heaviest .result) (c .heaviest .ensures)

@@ -34,8 +34,7 @@ returns c = sizes-refused levelCheck _ (rw (c .enum-told .given .1) at (c .befor
 
 returns-2 : tie.Need-returns-2
 returns-2 c =
-    let u = rw (c .enum-told2 .given .1) at (c .before .before .check .ensures .says) in
-    unsound-refused levelCheck _ (u .0) (u .1)
+    unsound-refused levelCheck _ (rw (c .enum-told2 .given .1) at (c .before .before .check .ensures .says))
 
 returns-3 : tie.Need-returns-3
 returns-3 c = level-told (sound-table (c .before .before)) true (sym (c .if1 .taken) ∙ c .before .is-level .ensures)

@@ -37,14 +37,13 @@ returns c = sizes-refused (loadOf _) _ (rw (c .enum-told .given .1) at (c .befor
 
 returns-2 : tie.Need-returns-2
 returns-2 c =
-    let u = rw (c .enum-told2 .given .1) at (c .before .before .check .ensures .says) in
-    unsound-refused (loadOf _) _ (u .0) (u .1)
+    unsound-refused (loadOf _) _ (rw (c .enum-told2 .given .1) at (c .before .before .check .ensures .says))
 
 returns-3 : tie.Need-returns-3
-returns-3 c = load-told (sound-table (c .before .before .before)) _ (c .load .result) (sym (c .before .before .has-bench .ensures) ∙ c .before .if1 .taken) (c .load .ensures)
+returns-3 c = load-told (sound-table (c .before .before .before)) _ (c .load .result) (c .before .before .has-bench .ensures) (c .before .if1 .taken) (c .load .ensures)
 
 returns-4 : tie.Need-returns-4
-returns-4 c = bench-refused (sound-table (c .before .before)) _ (sym (c .before .has-bench .ensures) ∙ c .if1 .left)
+returns-4 c = bench-refused (sound-table (c .before .before)) _ (c .before .has-bench .ensures) (c .if1 .left)
 
 pub load-spec : {M : Type 1} → statement M
 load-spec =

@@ -25,8 +25,7 @@ returns c = sizes-refused (tightSetOf _ _) _ (rw (c .enum-told .given .1) at (c 
 
 returns-2 : tie.Need-returns-2
 returns-2 c =
-    let u = rw (c .enum-told2 .given .1) at (c .before .before .check .ensures .says) in
-    unsound-refused (tightSetOf _ _) _ (u .0) (u .1)
+    unsound-refused (tightSetOf _ _) _ (rw (c .enum-told2 .given .1) at (c .before .before .check .ensures .says))
 
 same-length : tie.Need-same-length
 same-length c = search needs

@@ -4,7 +4,8 @@ use native.Mathlib.Omega.{arith}
 use mathlib.Core.Path.{_≡_, refl, sym, ap, _∙_}
 use mathlib.Core.Logic.{_≢_}
 use mathlib.Core.List.{List, [], _∷_}
-use lib.ListN.{length, take, getD, length-take}
+use lib.ListN.{length, take, length-take, List·getD-eq-default}
+use lib.Seq.{getD-take}
 use Rattle.rules.specs.Lists.{nth}
 use Rattle.board.proofs.answers.Values.get.Statement.{statement}
 use Rattle.board.proofs.answers.Values.get.Tie as tie
@@ -12,18 +13,12 @@ use Rattle.board.proofs.answers.Values.get.Tie as tie
 -- beyond its end a list has nothing
 beyond : (l : List ℕ) (k d : ℕ) → length l < k → nth l k d ≡ d
 beyond l zero d h = absurd (omega arith)
-beyond [] (suc k) d h = refl
-beyond (x ∷ l) (suc zero) d h = absurd (omega arith)
-beyond (x ∷ l) (suc (suc k)) d h = beyond l (suc k) d (omega arith)
+beyond l (suc k) d h = List·getD-eq-default l d (omega arith)
 
 -- as far as it goes, the beginning of a list is the list
 within : (l : List ℕ) (n k d : ℕ) → k ≤ n → nth (take n l) k d ≡ nth l k d
 within l n zero d h = refl
-within [] zero (suc k) d h = refl
-within [] (suc n) (suc k) d h = refl
-within (x ∷ l) zero (suc k) d h = absurd (omega arith)
-within (x ∷ l) (suc n) (suc zero) d h = refl
-within (x ∷ l) (suc n) (suc (suc k)) d h = within l n (suc k) d (omega arith)
+within l n (suc k) d h = getD-take n l k d (omega arith)
 
 -- no value is at a place that is not 1, 2 or 3
 none : (a b c k d : ℕ) → k ≢ 1 → k ≢ 2 → k ≢ 3 → nth (a ∷ b ∷ c ∷ []) k d ≡ d
