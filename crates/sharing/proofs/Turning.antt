@@ -16,12 +16,11 @@ use Rattle.rules.specs.Sharing.{arrivalChoice, levellingChoice, level, Levelled
 use Rattle.rules.specs.Demand2.{Turns, rest}
 use Rattle.table.specs.Sizes.{Limits, BenchIn, SoundTable}
 use Rattle.table.specs.declared.size.Size.{Size}
-use Rattle.store.specs.View.{Kept, Loaded, Settled}
+use Rattle.store.specs.View.{Kept, Holds, Loaded, Settled}
 use Rattle.search.specs.Arrays.{at, Leads, Arcs, LoadsIn}
 use Rattle.search.specs.Start.{StartsLow, StartOf}
 use Rattle.paths.specs.Arcs.{ArcsOf}
-use Rattle.paths.specs.Turns.{turnedBy, Turned}
-use Rattle.paths.specs.declared.turns.Turn.{Turn}
+use Rattle.paths.specs.Turns.{turnedBy}
 use Rattle.sharing.specs.Levels.{Levels, LevellingOf}
 use Rattle.sharing.specs.declared.levels.Levelling.{Levelling}
 use Rattle.rules.proofs.Basics.{tests-same, T-eqb, eqb-T, within-low, within-both}
@@ -133,12 +132,12 @@ module _ {t₀ t : List ℕ} {s : Size} {allowance : ℕ} {from to loads : List 
   turning-bench d = board-bench x (i .kept .size) (found-bench (i .kept) (i .arcs) (i .loaded) (i .start) d)
 
   -- one more path is turned
-  pub turning-turn : {u from' to' loads' : List ℕ} {x' end : ℕ} {r : Turn} → x ≢ 0 → paths < allowance → Turned t u s (arrivalChoice (decode t) x) end r → ArcsOf (decode u) s from' to' → Loaded (decode u) loads' → StartOf (Leads (s .jobs) from' to') loads' x' → Turning t₀ u s allowance from' to' loads' (paths + 1) x'
+  pub turning-turn : {u from' to' loads' : List ℕ} {x' : ℕ} → x ≢ 0 → paths < allowance → Holds u s (turnedBy (decode t) (arrivalChoice (decode t) x)) → ArcsOf (decode u) s from' to' → Loaded (decode u) loads' → StartOf (Leads (s .jobs) from' to') loads' x' → Turning t₀ u s allowance from' to' loads' (paths + 1) x'
   turning-turn {u} d less c a l f =
       let (p, e, g) = found-choice (i .kept) (i .arcs) (i .loaded) (i .start) d in
-      let h : decode u ≡ flip (decode t) p = c .holds .board ∙ ap (turnedBy (decode t)) e in
+      let h : decode u ≡ flip (decode t) p = c .board ∙ ap (turnedBy (decode t)) e in
       record {
-        kept = c .holds .kept;
+        kept = c .kept;
         arcs = a;
         loaded = l;
         start = f;

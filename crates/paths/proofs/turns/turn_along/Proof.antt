@@ -13,9 +13,7 @@ benches-requires c κs = search needs
 
 route-requires : tie.Need-route-requires
 route-requires c κs =
-    let start = c .before .before .before in
-    let a = start .args in
-    let (kept, (arcs, (falls, reached))) = start .pre in
+    let (kept, (arcs, (falls, reached))) = c .before .before .before .pre in
     (kept .size .limits, (arcs-forth kept arcs, (falls, (reached, array-long 0 (c .before .benches .ensures)))))
 
 hand-over-requires : tie.Need-hand-over-requires

@@ -79,7 +79,7 @@ loop-again : tie.Need-loop-again Inv-loop μ-loop
 loop-again c =
     let turned = c .before .before .before .before .before .before .before .before .before .before .before .before .before in
     let test = turned .before .before .before .before .before in
-    turning-turn (test .before .before .loop .inv) (test .before .loop-test .taken) (less test) (turned .turn-from .ensures)
+    turning-turn (test .before .before .loop .inv) (test .before .loop-test .taken) (less test) (turned .turn-from .ensures .holds)
     (c .before .before .before .before .before .before .before .fill2 .ensures)
     (c .before .before .before .before .loads2 .ensures)
     (c .first-start2 .ensures)
