@@ -20,6 +20,16 @@ fn get(t: &[u8], i: usize) -> usize {
     u16::from_le_bytes([t[2 * i], t[2 * i + 1]]) as usize
 }
 
+/// B and J of a table that fits.
+pub fn sizes(t: &[u8]) -> (usize, usize) {
+    (get(t, 0), get(t, 1))
+}
+
+/// Whether job j stands.
+pub fn stands(t: &[u8], benches: usize, j: usize) -> bool {
+    (0..4).any(|k| get(t, benches + 4 * j + k) != 0)
+}
+
 /// A job number, the two benches it names, and which of them holds it (1 or 2).
 pub type Job = (usize, [usize; 2], usize);
 
@@ -47,9 +57,19 @@ fn random_job(j: usize, benches: usize, random: &mut Random) -> Job {
     (j, [first + 1, second + 1], 1 + random.below(2))
 }
 
+/// A table without jobs.
+pub fn blank(benches: usize, jobs: usize) -> Vec<u8> {
+    table(benches, jobs, &[])
+}
+
 /// Every job stands, with two random benches; chains rise.
 pub fn full(benches: usize, jobs: usize, random: &mut Random) -> Vec<u8> {
-    let standing: Vec<_> = (1..=jobs).rev().map(|j| random_job(j, benches, random)).collect();
+    pairs(benches, jobs, jobs, random)
+}
+
+/// The first jobs stand, with two random benches; chains rise.
+pub fn pairs(benches: usize, standing: usize, jobs: usize, random: &mut Random) -> Vec<u8> {
+    let standing: Vec<_> = (1..=standing).rev().map(|j| random_job(j, benches, random)).collect();
     table(benches, jobs, &standing)
 }
 
@@ -65,7 +85,44 @@ pub fn mixed(benches: usize, jobs: usize, random: &mut Random) -> Vec<u8> {
 
 /// Job j names bench j and the next one, round and round.
 pub fn ring(benches: usize, jobs: usize) -> Vec<u8> {
-    let standing: Vec<_> = (1..=jobs).rev().map(|j| (j, [(j - 1) % benches + 1, j % benches + 1], 1)).collect();
+    open_ring(benches, jobs, jobs)
+}
+
+/// A ring of which only the first jobs stand.
+pub fn open_ring(benches: usize, standing: usize, jobs: usize) -> Vec<u8> {
+    let standing: Vec<_> = (1..=standing).rev().map(|j| (j, [(j - 1) % benches + 1, j % benches + 1], 1)).collect();
+    table(benches, jobs, &standing)
+}
+
+/// Bench 1 holds the first jobs, which name the others in turn.
+pub fn heap(benches: usize, standing: usize, jobs: usize) -> Vec<u8> {
+    let standing: Vec<_> = (1..=standing).rev().map(|j| (j, [1, 2 + (j - 1) % (benches - 1)], 1)).collect();
+    table(benches, jobs, &standing)
+}
+
+/// Job k of a layer of the path boards: it leads from bench k to the next one, and from the last bench back to the one before. A layer
+/// gives each bench one job.
+fn layer_job(k: usize, benches: usize) -> [usize; 2] {
+    if k < benches {
+        [k, k + 1]
+    } else {
+        [benches, benches - 1]
+    }
+}
+
+/// As many jobs as leave one number free and every bench but the last with the same load, the last with one less. All ways to the last
+/// bench go through every bench between: the arrival of job J, naming 1 and 2, moves B - 1 jobs. J is a multiple of B.
+pub fn long_path(benches: usize, jobs: usize) -> Vec<u8> {
+    let place = |j: usize| if j < benches { j } else { (j - benches) % benches + 1 };
+    let standing: Vec<_> = (1..jobs).rev().map(|j| (j, layer_job(place(j), benches), 1)).collect();
+    table(benches, jobs, &standing)
+}
+
+/// Every bench has the same load, and bench 1 one job more, number J: closing job B, which the last bench holds, moves B - 1 jobs.
+pub fn long_path_back(benches: usize, jobs: usize) -> Vec<u8> {
+    let layered = (jobs - 1) / benches * benches;
+    let mut standing = vec![(jobs, [1, 2], 1)];
+    standing.extend((1..=layered).rev().map(|j| (j, layer_job((j - 1) % benches + 1, benches), 1)));
     table(benches, jobs, &standing)
 }
 

@@ -1,11 +1,11 @@
-//! The form check of document 01, written from the document alone and without bounds checks: what the proved one is measured against.
+//! The form check: one pass over the records, then one walk along the chains with a mark for each job.
 
 /// Word `i` of a table.
 ///
 /// # Safety
 /// `t` holds more than `2 * i + 1` bytes.
 #[inline(always)]
-unsafe fn word(t: &[u8], i: usize) -> usize {
+pub unsafe fn word(t: &[u8], i: usize) -> usize {
     u16::from_le_bytes([*t.get_unchecked(2 * i), *t.get_unchecked(2 * i + 1)]) as usize
 }
 

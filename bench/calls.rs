@@ -1,0 +1,144 @@
+//! Random calls, and a call's answer by an implementation: a module with one function for each call.
+use crate::boards::{self, Random};
+
+/// A call with its numbers; a tight set also with the length of its list.
+#[derive(Clone, Copy, Debug)]
+pub enum Call {
+    Blank(u32, u32),
+    FormCheck,
+    Arrival(u32, u32, u32),
+    Closing(u32),
+    Levelling(u32),
+    LevelCheck,
+    Load(u32),
+    Heaviest,
+    TightSet(u32, usize),
+}
+
+/// The values of a call, zeros after them, or its refusal.
+pub type Answer = Result<[u32; 3], u32>;
+
+/// The answer of a call with any number of values.
+pub fn padded<const N: usize>(values: [u32; N]) -> [u32; 3] {
+    let mut three = [0; 3];
+    three[..N].copy_from_slice(&values);
+    three
+}
+
+/// The answer of a call that has no values.
+pub fn bare(number: u32) -> Answer {
+    if number == 0 {
+        Ok([0; 3])
+    } else {
+        Err(number)
+    }
+}
+
+/// The answer of a module's function for a call, on a table and a list.
+#[macro_export]
+macro_rules! answer {
+    ($module:ident, $call:expr, $table:expr, $list:expr) => {
+        match $call {
+            $crate::calls::Call::Blank(b, j) => $crate::calls::bare($module::blank($table, b, j)),
+            $crate::calls::Call::FormCheck => $crate::calls::bare($module::form_check($table)),
+            $crate::calls::Call::Arrival(j, x, y) => $module::arrival($table, j, x, y).map($crate::calls::padded),
+            $crate::calls::Call::Closing(j) => $module::closing($table, j).map($crate::calls::padded),
+            $crate::calls::Call::Levelling(n) => $module::levelling($table, n).map($crate::calls::padded),
+            $crate::calls::Call::LevelCheck => $module::level_check($table).map($crate::calls::padded),
+            $crate::calls::Call::Load(x) => $module::load($table, x).map($crate::calls::padded),
+            $crate::calls::Call::Heaviest => $module::heaviest($table).map($crate::calls::padded),
+            $crate::calls::Call::TightSet(h, _) => $module::tight_set($table, h, $list).map($crate::calls::padded),
+        }
+    };
+}
+
+/// An implementation: the answer to a call on a table and a list.
+pub type Perform = fn(Call, &mut [u8], &mut [u8]) -> Answer;
+
+/// Performs a call with both, which must answer alike and leave the same bytes, in the table and in the list, and all bytes if they refuse.
+/// Gives the table that they leave and their answer.
+pub fn same(both: [Perform; 2], call: Call, t: &[u8], random: &mut Random) -> (Vec<u8>, Answer) {
+    let list: Vec<u8> = match call {
+        Call::TightSet(_, len) => (0..len).map(|_| random.below(256) as u8).collect(),
+        _ => vec![],
+    };
+    let outcomes = both.map(|perform| {
+        let (mut after, mut list) = (t.to_vec(), list.clone());
+        let answer = perform(call, &mut after, &mut list);
+        (answer, after, list)
+    });
+    assert!(outcomes[0] == outcomes[1], "the implementations differ: {call:?} on {t:?} gives {outcomes:?}");
+    let [(answer, after, after_list), _] = outcomes;
+    if answer.is_err() {
+        assert!(after == t && after_list == list, "{call:?} on {t:?} is refused and changes bytes");
+    }
+    (after, answer)
+}
+
+/// Mostly 1 to `most`, else just outside, far outside, or outside by a multiple of a word.
+fn number(most: usize, random: &mut Random) -> u32 {
+    let within = 1 + random.below(most) as u32;
+    match random.below(40) {
+        0 => 0,
+        1 => most as u32 + 1,
+        2 => u32::MAX,
+        3 => within + 65_536 * (1 + random.below(3) as u32),
+        4 => random.below(1 << 32) as u32,
+        _ => within,
+    }
+}
+
+/// A job number, mostly one that stands or, for arrivals, does not.
+fn job(t: &[u8], standing: bool, random: &mut Random) -> u32 {
+    let (benches, jobs) = boards::sizes(t);
+    let start = random.below(jobs);
+    let fitting = (0..jobs).map(|i| 1 + (start + i) % jobs).find(|&j| boards::stands(t, benches, j) == standing);
+    match fitting {
+        Some(j) if random.below(8) != 0 => j as u32,
+        _ => number(jobs, random),
+    }
+}
+
+/// A call for a sound table, with numbers in and out of range.
+pub fn random_call(t: &[u8], random: &mut Random) -> Call {
+    let (benches, jobs) = boards::sizes(t);
+    match random.below(16) {
+        0 if random.below(2) == 0 => Call::Blank(benches as u32, jobs as u32),
+        0 => Call::Blank(number(benches, random), number(jobs, random)),
+        1 => Call::FormCheck,
+        2..=5 => {
+            let (first, second) = (number(benches, random), number(benches, random));
+            let next = if first == second && random.below(4) != 0 { first % benches as u32 + 1 } else { second };
+            Call::Arrival(job(t, false, random), first, next)
+        }
+        6..=8 => Call::Closing(job(t, true, random)),
+        9 | 10 => Call::Levelling(*[0, 1, 2, 3, 5, u32::MAX].get(random.below(7)).unwrap_or(&number(jobs, random))),
+        11 => Call::LevelCheck,
+        12 => Call::Load(number(benches, random)),
+        13 => Call::Heaviest,
+        _ => {
+            let most = if random.below(4) != 0 { 1 + jobs / benches } else { jobs };
+            let list = if random.below(2) == 0 { 2 * benches + random.below(40) } else { random.below(2 * benches + 3) };
+            Call::TightSet(number(most, random), list)
+        }
+    }
+}
+
+/// A sound table: level or not, chains in any order or rising, now and then full, without jobs, or of one bench.
+pub fn random_table(benches: usize, jobs: usize, random: &mut Random, level: fn(&mut Vec<u8>)) -> Vec<u8> {
+    let mut t = match random.below(20) {
+        _ if benches == 1 => boards::blank(benches, jobs),
+        0 => boards::blank(benches, jobs),
+        1 => boards::ring(benches, jobs),
+        2 => boards::long_path(benches, jobs),
+        3 => boards::long_path_back(benches, jobs),
+        4 => boards::full(benches, jobs, random),
+        5..=7 => boards::pairs(benches, jobs - random.below(jobs), jobs, random),
+        8..=10 => boards::heap(benches, jobs - random.below(jobs), jobs),
+        _ => boards::mixed(benches, jobs, random),
+    };
+    if random.below(3) == 0 {
+        level(&mut t);
+    }
+    t
+}

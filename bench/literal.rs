@@ -1,0 +1,75 @@
+//! Holds the independent implementation against document 01 read word for word: all paths are listed, and the rule's key chooses among
+//! them. A program of its own, for small boards, which bench/run builds; it takes a number of rounds and a seed.
+mod boards;
+#[macro_use]
+mod calls;
+mod independent;
+#[path = "literal_rules.rs"]
+mod rules;
+
+use boards::Random;
+use calls::{Call, Perform};
+
+const NAMES: [&str; 9] = ["blanking", "form check", "arrival", "closing", "levelling", "level check", "load", "heaviest", "tight set"];
+
+/// A call's place in NAMES.
+fn kind(call: Call) -> usize {
+    match call {
+        Call::Blank(..) => 0,
+        Call::FormCheck => 1,
+        Call::Arrival(..) => 2,
+        Call::Closing(..) => 3,
+        Call::Levelling(..) => 4,
+        Call::LevelCheck => 5,
+        Call::Load(..) => 6,
+        Call::Heaviest => 7,
+        Call::TightSet(..) => 8,
+    }
+}
+
+/// Answers and bytes must be alike. Counts, for each call, those refused, those accepted, and those that hand jobs along.
+fn compare(rounds: usize, seed: u64) -> [[usize; 3]; 9] {
+    let mut random = Random(seed);
+    let mut counts = [[0; 3]; 9];
+    let both: [Perform; 2] = [|c, t, list| answer!(independent, c, t, list), |c, t, list| answer!(rules, c, t, list)];
+    for _ in 0..rounds {
+        let benches = if random.below(30) == 0 { 1 } else { 2 + random.below(5) };
+        let mut t = calls::random_table(benches, 1 + random.below(10), &mut random, |t| {
+            independent::levelling(t, u32::MAX).unwrap();
+        });
+        for _ in 0..4 {
+            let call = calls::random_call(&t, &mut random);
+            let mut damaged = t.clone();
+            if random.below(10) == 0 {
+                boards::damage(&mut damaged, &mut random);
+            }
+            let (after, values) = calls::same(both, call, &damaged, &mut random);
+            counts[kind(call)][values.is_ok() as usize] += 1;
+            counts[kind(call)][2] += values.map_or(0, |v| moves(call, &v) as usize);
+            if damaged == t {
+                t = after;
+            }
+        }
+    }
+    counts
+}
+
+/// Whether jobs changed holder.
+fn moves(call: Call, values: &[u32]) -> bool {
+    match call {
+        Call::Arrival(..) => values[2] != 0,
+        Call::Closing(..) => values[1] != 0,
+        Call::Levelling(..) => values[0] != 0,
+        _ => false,
+    }
+}
+
+fn main() {
+    let mut given = std::env::args().skip(1).map(|n| n.parse().unwrap());
+    let (rounds, seed) = (given.next().unwrap_or(100_000), given.next().unwrap_or(3));
+    println!("| call | refused | accepted | with jobs moved |");
+    println!("|---|---|---|---|");
+    for (name, [refused, accepted, moved]) in NAMES.iter().zip(compare(rounds as usize, seed)) {
+        println!("| {name} | {refused} | {accepted} | {moved} |");
+    }
+}

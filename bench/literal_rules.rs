@@ -1,0 +1,244 @@
+//! Document 01, read word for word, however slow.
+use std::cmp::Reverse;
+
+/// A standing job: the two benches it names, and its holder, 0 for the first-named or 1.
+type Job = ([usize; 2], usize);
+
+/// The standing jobs by number, and B.
+struct Board {
+    benches: usize,
+    jobs: Vec<Option<Job>>,
+}
+
+/// A path: its benches and, one fewer, its jobs.
+type Path = (Vec<usize>, Vec<usize>);
+
+impl Board {
+    fn load(&self, bench: usize) -> usize {
+        self.chain(bench).count()
+    }
+
+    fn heaviest(&self) -> usize {
+        (1..=self.benches).map(|x| self.load(x)).max().unwrap()
+    }
+
+    /// The jobs that a bench holds, rising, and the other bench of each.
+    fn chain(&self, bench: usize) -> impl Iterator<Item = (usize, usize)> + '_ {
+        self.jobs.iter().enumerate().filter_map(move |(i, job)| match job {
+            Some((names, holder)) if names[*holder] == bench => Some((i + 1, names[1 - holder])),
+            _ => None,
+        })
+    }
+
+    /// Adds every path that goes on from this one.
+    fn go_on(&self, path: Path, paths: &mut Vec<Path>) {
+        for (j, y) in self.chain(*path.0.last().unwrap()) {
+            if !path.0.contains(&y) {
+                let mut longer = path.clone();
+                longer.0.push(y);
+                longer.1.push(j);
+                self.go_on(longer, paths);
+            }
+        }
+        paths.push(path);
+    }
+
+    /// All improving paths.
+    fn improving(&self) -> Vec<Path> {
+        let mut paths = vec![];
+        for x in 1..=self.benches {
+            self.go_on((vec![x], vec![]), &mut paths);
+        }
+        paths.retain(|p| self.load(first(p)) >= self.load(last(p)) + 2);
+        paths
+    }
+
+    fn turn(&mut self, path: &Path) {
+        for &j in &path.1 {
+            let job = self.jobs[j - 1].as_mut().unwrap();
+            job.1 = 1 - job.1;
+        }
+    }
+
+    /// Lowest last load, fewest jobs, lowest last bench, first list.
+    fn arrival_order(&self, path: &Path) -> (usize, usize, usize, Vec<usize>) {
+        (self.load(last(path)), path.1.len(), last(path), path.1.clone())
+    }
+
+    /// The table of this board, its chains rising.
+    fn table(&self) -> Vec<u8> {
+        let standing = self.jobs.iter().flatten().count();
+        let mut words = vec![self.benches, self.jobs.len(), standing, 0];
+        words.extend((1..=self.benches).map(|x| self.chain(x).next().map_or(0, |(j, _)| j)));
+        for (i, job) in self.jobs.iter().enumerate() {
+            match job {
+                None => words.extend([0; 4]),
+                Some((names, holder)) => {
+                    let next = self.chain(names[*holder]).map(|(j, _)| j).find(|&j| j > i + 1);
+                    words.extend([names[0], names[1], holder + 1, next.unwrap_or(0)]);
+                }
+            }
+        }
+        words.into_iter().flat_map(|w| (w as u16).to_le_bytes()).collect()
+    }
+}
+
+fn first(path: &Path) -> usize {
+    path.0[0]
+}
+
+fn last(path: &Path) -> usize {
+    *path.0.last().unwrap()
+}
+
+fn fits(len: usize, benches: u32, jobs: u32) -> bool {
+    let within = (1..=500).contains(&benches) && (1..=4000).contains(&jobs);
+    len % 2 == 0 && len >= 8 && within && len == 2 * (4 + benches as usize + 4 * jobs as usize)
+}
+
+/// The jobs on a chain; None if it meets an empty record, a number above J or a job twice.
+fn follow(words: &[usize], benches: usize, jobs: usize, x: usize) -> Option<Vec<usize>> {
+    let mut met = vec![];
+    let mut j = words[3 + x];
+    while j != 0 {
+        if j > jobs || met.contains(&j) || words[benches + 4 * j..][..4] == [0; 4] {
+            return None;
+        }
+        met.push(j);
+        j = words[benches + 4 * j + 3];
+    }
+    Some(met)
+}
+
+/// The board that a table holds, or refusal 1 or 2.
+fn read(t: &[u8]) -> Result<Board, u32> {
+    let words: Vec<usize> = t.chunks(2).map(|w| w.iter().rev().fold(0, |n, &b| 256 * n + b as usize)).collect();
+    if t.len() < 8 || !fits(t.len(), words[0] as u32, words[1] as u32) {
+        return Err(1);
+    }
+    let (benches, jobs) = (words[0], words[1]);
+    let mut board = Board { benches, jobs: vec![None; jobs] };
+    for j in 1..=jobs {
+        let record = &words[benches + 4 * j..][..4];
+        if record == [0; 4] {
+            continue;
+        }
+        let [x, y, holder] = [record[0], record[1], record[2]];
+        if x < 1 || benches < x || y < 1 || benches < y || x == y || holder < 1 || 2 < holder {
+            return Err(2);
+        }
+        board.jobs[j - 1] = Some(([x, y], holder - 1));
+    }
+    if words[2] != board.jobs.iter().flatten().count() || words[3] != 0 {
+        return Err(2);
+    }
+    for x in 1..=benches {
+        let mut met = follow(&words, benches, jobs, x).ok_or(2u32)?;
+        met.sort();
+        if met != board.chain(x).map(|(j, _)| j).collect::<Vec<_>>() {
+            return Err(2);
+        }
+    }
+    Ok(board)
+}
+
+pub fn form_check(t: &[u8]) -> u32 {
+    read(t).err().unwrap_or(0)
+}
+
+pub fn blank(t: &mut [u8], benches: u32, jobs: u32) -> u32 {
+    if !fits(t.len(), benches, jobs) {
+        return 1;
+    }
+    t.copy_from_slice(&Board { benches: benches as usize, jobs: vec![None; jobs as usize] }.table());
+    0
+}
+
+/// The first number whose condition holds.
+fn refusal(conditions: &[(u32, bool)]) -> Result<(), u32> {
+    conditions.iter().find(|c| c.1).map_or(Ok(()), |c| Err(c.0))
+}
+
+pub fn arrival(t: &mut [u8], job: u32, x: u32, y: u32) -> Result<[u32; 3], u32> {
+    let mut board = read(t)?;
+    let (j, names) = (job as usize, [x as usize, y as usize]);
+    let numbered = 1 <= j && j <= board.jobs.len();
+    let named = names.iter().all(|&x| 1 <= x && x <= board.benches) && x != y;
+    refusal(&[(3, !numbered), (4, !named), (5, numbered && board.jobs[j - 1].is_some())])?;
+    let holder = (board.load(names[1]) < board.load(names[0])) as usize;
+    board.jobs[j - 1] = Some((names, holder));
+    let (mut rose, mut moved) = (names[holder], 0);
+    let paths = board.improving().into_iter().filter(|p| first(p) == names[holder]);
+    if let Some(path) = paths.min_by_key(|p| board.arrival_order(p)) {
+        board.turn(&path);
+        rose = last(&path);
+        moved = path.1.iter().filter(|&&k| k != j).count();
+    }
+    t.copy_from_slice(&board.table());
+    let holds = names[board.jobs[j - 1].unwrap().1];
+    Ok([holds as u32, rose as u32, moved as u32])
+}
+
+pub fn closing(t: &mut [u8], job: u32) -> Result<[u32; 2], u32> {
+    let mut board = read(t)?;
+    let j = job as usize;
+    let numbered = 1 <= j && j <= board.jobs.len();
+    refusal(&[(3, !numbered), (6, numbered && board.jobs[j - 1].is_none())])?;
+    let (names, holder) = board.jobs[j - 1].take().unwrap();
+    let (mut fell, mut moved) = (names[holder], 0);
+    let paths = board.improving().into_iter().filter(|p| last(p) == names[holder]);
+    if let Some(path) = paths.min_by_key(|p| (Reverse(board.load(first(p))), p.1.len(), first(p), p.1.clone())) {
+        board.turn(&path);
+        fell = first(&path);
+        moved = path.1.len();
+    }
+    t.copy_from_slice(&board.table());
+    Ok([fell as u32, moved as u32])
+}
+
+pub fn levelling(t: &mut [u8], allowance: u32) -> Result<[u32; 2], u32> {
+    let mut board = read(t)?;
+    let mut turned = 0;
+    let level = loop {
+        let paths = board.improving();
+        let chosen = paths.iter().min_by_key(|p| (Reverse(board.load(first(p))), first(p), board.arrival_order(p)));
+        match chosen {
+            None => break 1,
+            Some(_) if turned == allowance => break 0,
+            Some(path) => board.turn(path),
+        }
+        turned += 1;
+    };
+    t.copy_from_slice(&board.table());
+    Ok([turned, level])
+}
+
+pub fn level_check(t: &[u8]) -> Result<[u32; 1], u32> {
+    Ok([read(t)?.improving().is_empty() as u32])
+}
+
+pub fn load(t: &[u8], bench: u32) -> Result<[u32; 1], u32> {
+    let board = read(t)?;
+    refusal(&[(4, bench < 1 || (board.benches as u32) < bench)])?;
+    Ok([board.load(bench as usize) as u32])
+}
+
+pub fn heaviest(t: &[u8]) -> Result<[u32; 1], u32> {
+    Ok([read(t)?.heaviest() as u32])
+}
+
+pub fn tight_set(t: &[u8], height: u32, list: &mut [u8]) -> Result<[u32; 2], u32> {
+    let board = read(t)?;
+    refusal(&[(7, height == 0 || (board.heaviest() as u32) < height)])?;
+    let mut set: Vec<usize> = (1..=board.benches).filter(|&x| board.load(x) >= height as usize).collect();
+    while let Some(y) = set.iter().flat_map(|&x| board.chain(x)).map(|(_, y)| y).find(|y| !set.contains(y)) {
+        set.push(y);
+    }
+    refusal(&[(8, list.len() < 2 * set.len())])?;
+    set.sort();
+    for (i, &x) in set.iter().enumerate() {
+        list[2 * i..2 * i + 2].copy_from_slice(&(x as u16).to_le_bytes());
+    }
+    let inside = board.jobs.iter().flatten().filter(|(names, _)| names.iter().all(|x| set.contains(x)));
+    Ok([set.len() as u32, inside.count() as u32])
+}
