@@ -17,7 +17,7 @@ use Rattle.search.specs.Lists.{LeastFrom, ListedBy, Joins, Ways}
 use Rattle.search.specs.Spread.{Spread}
 use Rattle.search.specs.Start.{QueuedIn, LowIn, AsHeavy, StartsLow, FirstStart, StartOf, Searching, Searched}
 use Rattle.search.proofs.Listing.{array-at, least-some, listed-ways, joins-leads}
-use Rattle.search.proofs.Widening.{queued-few, none-queued}
+use Rattle.search.proofs.Widening.{queued-few, none-queued, none-stays, spread-stays}
 
 -- what is reached
 
@@ -62,8 +62,8 @@ module _ (queue loads : List ℕ) (begin load : ℕ) where
 -- one search more
 
 -- the benches of this load before x were searched, and none of them starts an improving path; x is the next, 0 for none
-pub record Among (Joined : ℕ → ℕ → Type 0) (loads : List ℕ) (load x found : ℕ) (queue dist : List ℕ) : Type 0 where
-  pub searching : Searching Joined loads load found queue dist
+pub record Among (Joined : ℕ → ℕ → Type 0) (loads : List ℕ) (n load x found : ℕ) (queue dist : List ℕ) : Type 0 where
+  pub searching : Searching Joined loads n load found queue dist
   pub next : x ≢ 0 → T (within 1 mostBenches x) × (at loads x ≡ load)
   pub each : (w : ℕ) → T (within 1 mostBenches w) → at loads w ≡ load → ((x ≢ 0) × (x ≤ w)) ⊎ (StartsLow Joined loads w → ⊥)
 
@@ -77,16 +77,16 @@ least-most h = ⊎-elim (λ e. omega arith) (λ g. g .1) (least-some mostBenches
 
 module _ {Joined : ℕ → ℕ → Type 0} {loads : List ℕ} where
   -- no bench of this load was searched yet
-  pub among-start : {after : List ℕ} {load x found : ℕ} {queue dist : List ℕ} → AsHeavy loads after load x → Searching Joined loads load found queue dist → Among Joined loads load x found queue dist
+  pub among-start : {after : List ℕ} {n load x found : ℕ} {queue dist : List ℕ} → AsHeavy n loads after load x → Searching Joined loads n load found queue dist → Among Joined loads n load x found queue dist
   among-start h s =
       record { searching = s; next = least-bench (h .head) (omega arith); each = λ w t e. inl (h .head .least w (within-low 1 mostBenches w t) (within-high 1 mostBenches w t) e) }
 
   -- what is found starts no improving path, if its load is not above this one
-  found-none : {load found : ℕ} {queue dist : List ℕ} → Searching Joined loads load found queue dist → (w : ℕ) → 1 ≤ at dist w → at loads w ≤ load → StartsLow Joined loads w → ⊥
+  found-none : {n load found : ℕ} {queue dist : List ℕ} → Searching Joined loads n load found queue dist → (w : ℕ) → 1 ≤ at dist w → at loads w ≤ load → StartsLow Joined loads w → ⊥
   found-none {dist = dist} s w h l (y, r, low) =
       omega (arith, s .high y (reached-all (λ z. 1 ≤ at dist z) (λ z u. s .shut z u) w y h r))
 
-  module _ {load x found end : ℕ} {queue dist queue' dist' : List ℕ} (a : Among Joined loads load x found queue dist) (some : x ≢ 0) (s : Spread Joined x found dist end queue' dist') where
+  module _ {n load x found end : ℕ} {queue dist queue' dist' : List ℕ} (a : Among Joined loads n load x found queue dist) (some : x ≢ 0) (s : Spread Joined x found dist end queue' dist') where
     -- the search from x found a load that is lower by two or more: x is the first that starts an improving path
     pub among-first : LowIn queue' found end loads load → FirstStart Joined loads x
     among-first (i, l, u, low) =
@@ -108,8 +108,8 @@ module _ {Joined : ℕ → ℕ → Type 0} {loads : List ℕ} where
 
     module _ (none : LowIn queue' found end loads load → ⊥) where
       -- it found none: what is found is handed on, and has at least the load less one ..
-      among-searching : Searching Joined loads load end queue' dist'
-      among-searching = record { queued = s .queued; shut = shut; high = high; none = a .searching .none }
+      among-searching : x ≤ n → Searching Joined loads n load end queue' dist'
+      among-searching h = record { queued = s .queued; stays = spread-stays (a .searching .stays) h s; shut = shut; high = high; none = a .searching .none }
         where
           shut : (z y : ℕ) → 1 ≤ at dist' z → Joined z y → 1 ≤ at dist' y
           shut z y h j =
@@ -133,11 +133,14 @@ module _ {Joined : ℕ → ℕ → Type 0} {loads : List ℕ} where
                   ]
 
       -- .. so x starts none, and the next bench of this load is next
-      pub among-turn : {after : List ℕ} {x₀ : ℕ} → AsHeavy loads after load x₀ → Among Joined loads load (at after x) end queue' dist'
+      pub among-turn : {after : List ℕ} {x₀ : ℕ} → AsHeavy n loads after load x₀ → Among Joined loads n load (at after x) end queue' dist'
       among-turn {after} h =
           let (t, e) = a .next some in
-          record { searching = among-searching; next = least-bench (h .later x t e) (omega arith); each = each }
+          record { searching = searching; next = least-bench (h .later x t e) (omega arith); each = each }
         where
+          searching : Searching Joined loads n load end queue' dist'
+          searching = among-searching (h .bench x (a .next some .1))
+
           each : (w : ℕ) → T (within 1 mostBenches w) → at loads w ≡ load → ((at after x ≢ 0) × (at after x ≤ w)) ⊎ (StartsLow Joined loads w → ⊥)
           each w t e = ⊎-elim (λ p. from (p .1)) inr (a .each w t e)
             where
@@ -145,20 +148,20 @@ module _ {Joined : ℕ → ℕ → Type 0} {loads : List ℕ} where
               from l =
                   let (tx, ex) = a .next some in
                   elim (ℕ-discrete x w) [
-                    | yes q ↦ inr (found-none among-searching w (subst (λ (z : ℕ). 1 ≤ at dist' z) q (s .here)) (omega arith))
+                    | yes q ↦ inr (found-none searching w (subst (λ (z : ℕ). 1 ≤ at dist' z) q (s .here)) (omega arith))
                     | no d ↦ inl (h .later x tx ex .least w (omega arith) (within-high 1 mostBenches w t) e)
                   ]
 
   -- the first is known
-  pub searched-first : {load x found : ℕ} {queue dist : List ℕ} → x ≢ 0 → FirstStart Joined loads x → Searched Joined loads load (record { start = x; found = found }) queue dist
+  pub searched-first : {n load x found : ℕ} {queue dist : List ℕ} → x ≢ 0 → FirstStart Joined loads x → Searched Joined loads n load (record { start = x; found = found }) queue dist
   searched-first d f = record { none = λ e. absurd (d e); some = λ _. f }
 
   -- no bench of this load is left
-  pub among-end : {load x found : ℕ} {queue dist : List ℕ} → Among Joined loads load x found queue dist → x ≡ 0 → 1 ≤ load → Searched Joined loads load (record { start = 0; found = found }) queue dist
-  among-end {load} {x} {found} {queue} {dist} a z l =
-      record { none = λ e. record { queued = s .queued; shut = s .shut; high = λ y h. omega (arith, s .high y h); none = none }; some = λ d. absurd (d refl) }
+  pub among-end : {n load x found : ℕ} {queue dist : List ℕ} → Among Joined loads n load x found queue dist → x ≡ 0 → 1 ≤ load → Searched Joined loads n load (record { start = 0; found = found }) queue dist
+  among-end {n} {load} {x} {found} {queue} {dist} a z l =
+      record { none = λ e. record { queued = s .queued; stays = s .stays; shut = s .shut; high = λ y h. omega (arith, s .high y h); none = none }; some = λ d. absurd (d refl) }
     where
-      s : Searching Joined loads load found queue dist
+      s : Searching Joined loads n load found queue dist
       s = a .searching
 
       none : (w : ℕ) → T (within 1 mostBenches w) → load - 1 < at loads w → StartsLow Joined loads w → ⊥
@@ -196,30 +199,30 @@ least-more {key} {n} {i} {k} {r} m h l others =
     least x a b e = elim (decLe x n) [ yes u ↦ h .least x a u e | no u ↦ absurd (others x (omega arith) e) ]
 
 -- listed benches are listed load by load
-listed-heavy : {s : Size} {loads heavy after : List ℕ} → Limits s → LoadsIn s loads → ListedBy (mostJobs + 1) (s .benches) loads heavy after → (load : ℕ) → 1 ≤ load → load ≤ mostJobs → AsHeavy loads after load (at heavy load)
+listed-heavy : {s : Size} {loads heavy after : List ℕ} → Limits s → LoadsIn s loads → ListedBy (mostJobs + 1) (s .benches) loads heavy after → (load : ℕ) → 1 ≤ load → load ≤ mostJobs → AsHeavy (s .benches) loads after load (at heavy load)
 listed-heavy {s} {loads} {heavy} {after} limits l listed load p q =
-    record { few = λ y t. omega (arith, l .most y (within-low 1 mostBenches y t), limits .jobs-most); least = p; head = more 1 (at heavy load) (listed .heads load (omega arith)); later = later }
+    record { bench = bench; few = λ y t. omega (arith, l .most y (within-low 1 mostBenches y t), limits .jobs-most); least = p; head = more 1 (at heavy load) (listed .heads load (omega arith)); later = later }
   where
+    bench : (y : ℕ) → at loads y ≡ load → y ≤ s .benches
+    bench y e = elim (decLe y (s .benches)) [ yes u ↦ u | no u ↦ absurd (omega (arith, l .beyond y (omega arith))) ]
+
     more : (i r : ℕ) → LeastFrom loads (s .benches) i load r → LeastFrom loads mostBenches i load r
     more i r h = least-more mostBenches h (limits .benches-most) (λ x u e. omega (arith, l .beyond x u))
 
     later : (y : ℕ) → T (within 1 mostBenches y) → at loads y ≡ load → LeastFrom loads mostBenches (suc y) load (at after y)
     later y t e =
-        elim (decLe y (s .benches)) [
-          | yes u ↦ more (suc y) (at after y) (subst (λ (k : ℕ). LeastFrom loads (s .benches) (suc y) k (at after y)) e (listed .later y (within-low 1 mostBenches y t) u))
-          | no u ↦ absurd (omega (arith, l .beyond y (omega arith)))
-        ]
+        more (suc y) (at after y) (subst (λ (k : ℕ). LeastFrom loads (s .benches) (suc y) k (at after y)) e (listed .later y (within-low 1 mostBenches y t) (bench y e)))
 
 -- the lists of arcs and of loads, and what is found: no bench above this load starts an improving path
-pub record Falling (jobs : ℕ) (from to loads first next heavy after : List ℕ) (load found : ℕ) (queue dist : List ℕ) : Type 0 where
+pub record Falling (n jobs : ℕ) (from to loads first next heavy after : List ℕ) (load found : ℕ) (queue dist : List ℕ) : Type 0 where
   pub ways : Ways first next to
   pub same : (x y : ℕ) → Joins first next to x y ↔ Leads jobs from to x y
-  pub each : (k : ℕ) → 1 ≤ k → k ≤ mostJobs → AsHeavy loads after k (at heavy k)
+  pub each : (k : ℕ) → 1 ≤ k → k ≤ mostJobs → AsHeavy n loads after k (at heavy k)
   pub most : load ≤ mostJobs
-  pub searching : Searching (Joins first next to) loads load found queue dist
+  pub searching : Searching (Joins first next to) loads n load found queue dist
 
 -- before the greatest load no bench was searched
-pub falling-start : {s : Size} {from to loads first next heavy after queue dist : List ℕ} → Limits s → Arcs s from to → LoadsIn s loads → ListedBy (mostBenches + 1) (s .jobs) from first next → ListedBy (mostJobs + 1) (s .benches) loads heavy after → queue ≡ replicate (mostBenches + 1) 0 → dist ≡ replicate (mostBenches + 1) 0 → Falling (s .jobs) from to loads first next heavy after (s .jobs) 0 queue dist
+pub falling-start : {s : Size} {from to loads first next heavy after queue dist : List ℕ} → Limits s → Arcs s from to → LoadsIn s loads → ListedBy (mostBenches + 1) (s .jobs) from first next → ListedBy (mostJobs + 1) (s .benches) loads heavy after → queue ≡ replicate (mostBenches + 1) 0 → dist ≡ replicate (mostBenches + 1) 0 → Falling (s .benches) (s .jobs) from to loads first next heavy after (s .jobs) 0 queue dist
 falling-start limits arcs l listed benches q d =
     record {
       ways = listed-ways limits arcs listed;
@@ -228,19 +231,20 @@ falling-start limits arcs l listed benches q d =
       most = limits .jobs-most;
       searching = record {
         queued = none-queued q d;
+        stays = none-stays limits arcs listed d;
         shut = λ z y h j. absurd (omega (arith, array-at (mostBenches + 1) d z));
         high = λ y h. absurd (omega (arith, array-at (mostBenches + 1) d y));
         none = λ w t h _. omega (arith, l .most w (within-low 1 mostBenches w t));
       };
     }
 
-module _ {jobs : ℕ} {from to loads first next heavy after : List ℕ} {load found : ℕ} {queue dist : List ℕ} (f : Falling jobs from to loads first next heavy after load found queue dist) where
+module _ {n jobs : ℕ} {from to loads first next heavy after : List ℕ} {load found : ℕ} {queue dist : List ℕ} (f : Falling n jobs from to loads first next heavy after load found queue dist) where
   -- the benches of this load are listed
-  pub falling-heavy : 1 < load → AsHeavy loads after load (at heavy load)
+  pub falling-heavy : 1 < load → AsHeavy n loads after load (at heavy load)
   falling-heavy h = f .each load (omega arith) (f .most)
 
   -- one load less
-  pub falling-turn : {found' : ℕ} {queue' dist' : List ℕ} → Searching (Joins first next to) loads (load - 1) found' queue' dist' → Falling jobs from to loads first next heavy after (load - 1) found' queue' dist'
+  pub falling-turn : {found' : ℕ} {queue' dist' : List ℕ} → Searching (Joins first next to) loads n (load - 1) found' queue' dist' → Falling n jobs from to loads first next heavy after (load - 1) found' queue' dist'
   falling-turn g = record { ways = f .ways; same = f .same; each = f .each; most = omega (arith, f .most); searching = g }
 
   -- the first is known ..

@@ -1,5 +1,5 @@
 -- Breadth-first search: one bench found, the benches behind one found, and the search as a whole.
-use Prim.Native.Nat.{ℕ, zero, suc, _+_, _≤_, _<_}
+use Prim.Native.Nat.{ℕ, zero, suc, _+_, _-_, _≤_, _<_}
 use native.Mathlib.Omega.{arith}
 use native.Mathlib.Decide.{ℕ-discrete, decLt, decLe}
 use mathlib.Core.Path.{_≡_, refl, sym, ap, subst, _∙_}
@@ -14,10 +14,12 @@ use Rattle.rules.specs.Lists.{bit, within, total}
 use Rattle.rules.specs.Table.{mostBenches, mostJobs}
 use Rattle.rules.proofs.Basics.{Compared, same, other, compared, within-low, within-high}
 use Rattle.rules.proofs.Counting.{bit-le, total-most, total-but-one}
-use Rattle.search.specs.Arrays.{at}
-use Rattle.search.specs.Lists.{On, head, Joins, Ways}
-use Rattle.search.specs.Spread.{Queued, FoundOne, Widened, Spread}
-use Rattle.search.proofs.Listing.{array-at, array-long, on-some, on-next, Rises, on-above, on-most, on-split, left, left-less}
+use Rattle.table.specs.Sizes.{Limits}
+use Rattle.table.specs.declared.size.Size.{Size}
+use Rattle.search.specs.Arrays.{at, Arcs}
+use Rattle.search.specs.Lists.{On, head, Joins, Ways, ListedBy}
+use Rattle.search.specs.Spread.{Queued, FoundOne, Widened, Stays, Spread}
+use Rattle.search.proofs.Listing.{array-at, array-long, on-some, on-next, Rises, on-above, on-most, on-split, left, left-less, joins-leads}
 
 -- the count of found benches
 
@@ -44,6 +46,74 @@ counted-more n found y k dist e l u h zero-y one-k =
 pub queued-few : {found : ℕ} {queue dist : List ℕ} → Queued found queue dist → found ≤ mostBenches
 queued-few {dist = dist} q =
     rw (q .counted) (total-most mostBenches (λ y. bit (ltb 0 (at dist y))) (λ y. bit-le (ltb 0 (at dist y))))
+
+-- all benches found
+
+-- a total over 1 to m is that over 1 to n, if nothing is beyond n ..
+total-within : (m n : ℕ) (f : ℕ → ℕ) → n ≤ m → ((x : ℕ) → n < x → f x ≡ 0) → total m f ≡ total n f
+total-within zero n f l h = let e : n ≡ 0 = omega arith in rw e refl
+total-within (suc m) n f l h = go (total-within m n f)
+  where
+    go : (n ≤ m → ((x : ℕ) → n < x → f x ≡ 0) → total m f ≡ total n f) → total (suc m) f ≡ total n f
+    go ih = elim (decLe n m) [
+      | yes u ↦ omega (arith, ih u h, h (suc m) (omega arith))
+      | no u ↦ let e : n ≡ suc m = omega arith in rw e refl
+    ]
+
+-- .. and each of 1 to n counts 1, if n do
+total-full : (n : ℕ) (f : ℕ → ℕ) → ((x : ℕ) → f x ≤ 1) → n ≤ total n f → (y : ℕ) → 1 ≤ y → y ≤ n → f y ≡ 1
+total-full zero f h e y l u = absurd (omega arith)
+total-full (suc n) f h e y l u = go (total-full n f h) (compared y (suc n))
+  where
+    go : (n ≤ total n f → (y : ℕ) → 1 ≤ y → y ≤ n → f y ≡ 1) → {z : Bool} → Compared y (suc n) z → f y ≡ 1
+    go ih (same q) = omega (arith, total-most n f h, h (suc n), ap f q)
+    go ih (other d) = ih (omega (arith, h (suc n))) y l (omega arith)
+
+-- where n are found, and none beyond bench n, each of 1 to n has a number
+all-found : {n found : ℕ} {Joined : ℕ → ℕ → Type 0} {queue dist : List ℕ} → Queued found queue dist → Stays n Joined dist → n ≤ found → (y : ℕ) → 1 ≤ y → y ≤ n → 1 ≤ at dist y
+all-found {n} {found} {queue = queue} {dist} q s h y l u =
+    elim (ℕ-discrete (at dist y) 0) [ yes e ↦ absurd (omega (arith, blank y e, full y l u)) | no d ↦ omega arith ]
+  where
+    f : ℕ → ℕ
+    f z = bit (ltb 0 (at dist z))
+
+    blank : (z : ℕ) → at dist z ≡ 0 → f z ≡ 0
+    blank z e = ap bit (le-ltb 0 (at dist z) (omega arith))
+
+    beyond : (z : ℕ) → n < z → f z ≡ 0
+    beyond z m = elim (ℕ-discrete (at dist z) 0) [ yes e ↦ blank z e | no d ↦ absurd (omega (arith, s .numbered z (omega arith))) ]
+
+    full : (z : ℕ) → 1 ≤ z → z ≤ n → f z ≡ 1
+    full = total-full n f (λ z. bit-le (ltb 0 (at dist z))) (subst (λ (k : ℕ). n ≤ k) (q .counted ∙ total-within mostBenches n f (s .most) beyond) h)
+
+-- no bench has a number yet, and the arcs of a board lead to its benches
+pub none-stays : {s : Size} {from to first next dist : List ℕ} → Limits s → Arcs s from to → ListedBy (mostBenches + 1) (s .jobs) from first next → dist ≡ replicate (mostBenches + 1) 0 → Stays (s .benches) (Joins first next to) dist
+none-stays limits arcs listed d = record {
+  most = limits .benches-most;
+  numbered = λ y h. absurd (omega (arith, array-at (mostBenches + 1) d y));
+  joined = λ x y t j.
+      let (a, w, e, f) = joins-leads limits arcs listed x y .0 j in
+      let b = arcs .leads a w (omega (arith, within-low 1 mostBenches x t)) in
+      omega (arith, b .most);
+}
+
+-- benches that get a number stay among these, if they come by arcs from v or from one another
+stays-kept : {n v : ℕ} {Joined : ℕ → ℕ → Type 0} {dist dist' : List ℕ} → Stays n Joined dist → v ≤ n → ((y : ℕ) → at dist y ≡ 0 → 1 ≤ at dist' y → T (within 1 mostBenches y)) → ((y : ℕ) → at dist y ≡ 0 → at dist' y ≡ 1 → y ≡ v) → ((y k : ℕ) → at dist y ≡ 0 → at dist' y ≡ suc (suc k) → (z : ℕ) × (at dist z ≡ 0) × (at dist' z ≡ suc k) × Joined z y) → Stays n Joined dist'
+stays-kept {n} {v} {Joined} {dist} {dist'} s h bench only comes = record { most = s .most; numbered = numbered; joined = s .joined }
+  where
+    new : (y k : ℕ) → at dist y ≡ 0 → at dist' y ≡ suc k → y ≤ n
+    new y zero e f = omega (arith, only y e f)
+    new y (suc k) e f = let (z, b, c, j) = comes y k e f in s .joined z y (bench z b (omega arith)) j
+
+    numbered : (y : ℕ) → 1 ≤ at dist' y → y ≤ n
+    numbered y l = elim (ℕ-discrete (at dist y) 0) [
+      | yes e ↦ new y (at dist' y - 1) e (omega arith)
+      | no d ↦ s .numbered y (omega arith)
+    ]
+
+-- .. as those do that a search finds
+pub spread-stays : {n v found : ℕ} {Joined : ℕ → ℕ → Type 0} {dist : List ℕ} {found' : ℕ} {queue' dist' : List ℕ} → Stays n Joined dist → v ≤ n → Spread Joined v found dist found' queue' dist' → Stays n Joined dist'
+spread-stays s h p = stays-kept s h (p .bench) (p .only) (p .comes)
 
 -- one number written
 
@@ -435,10 +505,9 @@ module _ {Joined : ℕ → ℕ → Type 0} {v found : ℕ} {queue dist : List �
                 (omega (arith, r .0), λ e. omega (arith, r .1 e))
           ]
 
-  -- all in the queue are done
-  pub spread-end : end ≤ done → Spread Joined v found dist end queue₁ dist₁
-  spread-end h =
-      let g = s .grown in
+  -- all in the queue are done, or all benches are found
+  pub spread-end : {n : ℕ} → Stays n Joined dist → v ≤ n → ((x y : ℕ) → T (within 1 mostBenches x) → Joined x y → 1 ≤ y) → (end ≤ done) ⊎ (n ≤ end) → Spread Joined v found dist end queue₁ dist₁
+  spread-end {n} stays within-n leads exit =
       record {
         queued = g .queued;
         more = g .more;
@@ -453,8 +522,40 @@ module _ {Joined : ℕ → ℕ → Type 0} {v found : ℕ} {queue dist : List �
         listed = g .listed;
       }
     where
+      g : Grown found queue dist end queue₁ dist₁
+      g = s .grown
+
+      -- no number is more than one above that of a place not yet done
+      above : (i j : ℕ) → done ≤ i → i < end → found ≤ j → j < end → at dist₁ (at queue₁ j) ≤ suc (at dist₁ (at queue₁ i))
+      above i j l u a b = elim (decLt j done) [
+        | yes h ↦ omega (arith, s .order j i a (omega arith) u)
+        | no h ↦ omega (arith, s .near j (omega arith) b, s .order done i (s .begun) l u)
+      ]
+
+      -- .. so no bench found since the search began has one
+      late : (i y : ℕ) → done ≤ i → i < end → 1 ≤ at dist₁ y → at dist y ≡ 0 → at dist₁ y ≤ suc (at dist₁ (at queue₁ i))
+      late i y l u h e =
+          let q = g .listed y e h in
+          omega (arith, above i (q .0) l u (q .1) (q .2), ap (at dist₁) (q .3))
+
+      -- where all benches are found, so is what an arc leads to
+      every : n ≤ end → (x y : ℕ) → T (within 1 mostBenches x) → Joined x y → 1 ≤ at dist₁ y
+      every h x y t j =
+          all-found (g .queued) (stays-kept stays within-n (g .bench) (s .only) (s .comes)) h y (leads x y t j) (stays .joined x y t j)
+
       on : (z y : ℕ) → at dist z ≡ 0 → 1 ≤ at dist₁ z → Joined z y → (1 ≤ at dist₁ y) × (at dist y ≡ 0 → at dist₁ y ≤ suc (at dist₁ z))
       on z y e l j =
-          let p = s .grown .listed z e l in
-          let r = s .expanded (p .0) y (p .1) (omega (arith, p .2)) (subst (λ (z : ℕ). Joined z y) (sym (p .3)) j) in
-          (r .0, λ b. omega (arith, r .1 b, ap (at dist₁) (p .3)))
+          let p = g .listed z e l in
+          let same = ap (at dist₁) (p .3) in
+          elim (decLt (p .0) done) [
+            | yes h ↦
+                let r = s .expanded (p .0) y (p .1) h (subst (λ (z : ℕ). Joined z y) (sym (p .3)) j) in
+                (r .0, λ b. omega (arith, r .1 b))
+            | no h ↦
+                let m = every (⊎-elim (λ k. absurd (omega (arith, p .2))) (λ k. k) exit) z y (g .bench z e l) j in
+                (m, λ b. omega (arith, late (p .0) y (omega arith) (p .2) m b))
+          ]
+
+-- arcs on the lists lead to benches
+pub ways-leads : {first next to : List ℕ} → Ways first next to → (x y : ℕ) → T (within 1 mostBenches x) → Joins first next to x y → 1 ≤ y
+ways-leads {to = to} w x y t (a, o, e) = omega (arith, within-low 1 mostBenches (at to a) (w .leads x a t o))

@@ -35,6 +35,12 @@ pub record Widened (Brought : ℕ → Type 0) (k found : ℕ) (queue dist : List
   pub new : (i : ℕ) → found ≤ i → i < found' → (at dist (at queue' i) ≡ 0) × (1 ≤ at dist' (at queue' i))
   pub listed : (y : ℕ) → at dist y ≡ 0 → 1 ≤ at dist' y → (i : ℕ) × (found ≤ i) × (i < found') × (at queue' i ≡ y)
 
+-- all numbers are at benches 1 to n, and arcs lead from benches to these
+pub record Stays (n : ℕ) (Joined : ℕ → ℕ → Type 0) (dist : List ℕ) : Type 0 where
+  pub most : n ≤ mostBenches
+  pub numbered : (y : ℕ) → 1 ≤ at dist y → y ≤ n
+  pub joined : (x y : ℕ) → T (within 1 mostBenches x) → Joined x y → y ≤ n
+
 -- the benches that v reaches, other than through those that had a number before (in `dist`), got numbers: v itself 1, and each other one comes
 -- by an arc from one lower; no arc leads from them to a bench without a number, or to one of them more than one higher. They stand
 -- in the queue after the others

@@ -8,7 +8,7 @@ use Rattle.rules.specs.Lists.{within}
 use Rattle.rules.specs.Table.{mostBenches, mostJobs}
 use Rattle.search.specs.Arrays.{at, Reached}
 use Rattle.search.specs.Lists.{LeastFrom}
-use Rattle.search.specs.Spread.{Queued}
+use Rattle.search.specs.Spread.{Queued, Stays}
 use Rattle.search.specs.declared.start.Search.{Search}
 
 -- places `begin` to `end` of the queue hold benches, whose loads are those of jobs
@@ -21,8 +21,9 @@ pub record QueuedIn (queue : List ℕ) (begin end : ℕ) (loads : List ℕ) : Ty
 abbrev pub LowIn : List ℕ → ℕ → ℕ → List ℕ → ℕ → Type 0
 LowIn queue begin end loads load = (i : ℕ) × (begin ≤ i) × (i < end) × (at loads (at queue i) + 2 ≤ load)
 
--- the benches of this load, from x on: x is the least, and `after` has the next ones; no load is above the number of jobs
-pub record AsHeavy (loads after : List ℕ) (load x : ℕ) : Type 0 where
+-- the benches of this load, from x on, all of 1 to n: x is the least, and `after` has the next ones; no load is above the number of jobs
+pub record AsHeavy (n : ℕ) (loads after : List ℕ) (load x : ℕ) : Type 0 where
+  pub bench : (y : ℕ) → at loads y ≡ load → y ≤ n
   pub few : (y : ℕ) → T (within 1 mostBenches y) → at loads y ≤ mostJobs
   pub least : 1 ≤ load
   pub head : LeastFrom loads mostBenches 1 load x
@@ -46,13 +47,14 @@ module _ (Joined : ℕ → ℕ → Type 0) (loads : List ℕ) where
 
   -- the benches above this load were searched, and none of them starts an improving path: what is found is handed on by every arc, and has
   -- at least the load less one
-  pub record Searching (load found : ℕ) (queue dist : List ℕ) : Type 0 where
+  pub record Searching (n load found : ℕ) (queue dist : List ℕ) : Type 0 where
     pub queued : Queued found queue dist
+    pub stays : Stays n Joined dist
     pub shut : (z y : ℕ) → 1 ≤ at dist z → Joined z y → 1 ≤ at dist y
     pub high : (y : ℕ) → 1 ≤ at dist y → load ≤ at loads y + 1
     pub none : (w : ℕ) → T (within 1 mostBenches w) → load < at loads w → StartsLow w → ⊥
 
   -- the benches of this load were searched too: none starts one, or the first that does is known
-  pub record Searched (load : ℕ) (r : Search) (queue dist : List ℕ) : Type 0 where
-    pub none : r .start ≡ 0 → Searching (load - 1) (r .found) queue dist
+  pub record Searched (n load : ℕ) (r : Search) (queue dist : List ℕ) : Type 0 where
+    pub none : r .start ≡ 0 → Searching n (load - 1) (r .found) queue dist
     pub some : r .start ≢ 0 → FirstStart (r .start)

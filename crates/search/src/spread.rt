@@ -9,7 +9,7 @@ ghost use Rattle.rules.specs.Table.{mostBenches};
 ghost use Rattle.table.specs.Sizes.{Limits, BenchIn};
 ghost use Rattle.search.specs.Arrays.{at, Arcs};
 ghost use Rattle.search.specs.Lists.{Ways, Joins};
-ghost use Rattle.search.specs.Spread.{Queued, FoundOne, Widened, Spread, Distances};
+ghost use Rattle.search.specs.Spread.{Queued, FoundOne, Widened, Stays, Spread, Distances};
 use crate::lists;
 use crate::scratch;
 use table::size::Size;
@@ -59,24 +59,27 @@ fn expand(
     found
 }
 
-// Every bench that v reaches, other than through benches found before, is found; how many are found then.
+// Every bench that v reaches, other than through benches found before, is found; how many are found then. Where all benches are found, the
+// rest of the queue has nothing to add.
 pub fn spread(
     first: &[u16; Size::MOST_BENCHES + 1],
     next: &[u16; Size::MOST_JOBS + 1],
     to: &[u16; Size::MOST_JOBS + 1],
+    benches: usize,
     v: usize,
     found: usize,
     queue: &mut [u16; Size::MOST_BENCHES + 1],
     dist: &mut [u16; Size::MOST_BENCHES + 1],
 ) -> usize
     requires { ⌜ Ways (now first) (now next) (now to) ⌝ }
-    requires { ⌜ T (within 1 mostBenches v) ⌝ }
+    requires { ⌜ T (within 1 benches v) ⌝ }
     requires { ⌜ Queued found (now queue) (now dist) ⌝ }
+    requires { ⌜ Stays benches (Joins (now first) (now next) (now to)) (now dist) ⌝ }
     ensures { λ r. ⌜ Spread (Joins (now (first .entry)) (now (next .entry)) (now (to .entry))) v found (now (dist .entry)) r (now (queue .exit)) (now (dist .exit)) ⌝ }
 {
     let mut end = find(v, 1, found, queue, dist);
     let mut done = found;
-    while done < end {
+    while done < end && end < benches {
         let x = queue[done] as usize;
         end = expand(first, next, to, x, end, queue, dist);
         done += 1;
@@ -102,5 +105,5 @@ pub fn distances(
     let mut next = scratch::jobs();
     lists::list_by(s.jobs(), from, &mut first, &mut next);
     let mut queue = scratch::benches();
-    spread(&first, &next, to, v, 0, &mut queue, dist);
+    spread(&first, &next, to, s.benches(), v, 0, &mut queue, dist);
 }

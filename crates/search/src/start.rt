@@ -45,6 +45,7 @@ fn start_among(
     to: &[u16; Size::MOST_JOBS + 1],
     loads: &[u16; Size::MOST_BENCHES + 1],
     after: &[u16; Size::MOST_BENCHES + 1],
+    benches: usize,
     load: usize,
     x: usize,
     found: usize,
@@ -52,14 +53,14 @@ fn start_among(
     dist: &mut [u16; Size::MOST_BENCHES + 1],
 ) -> Search
     requires { ⌜ Ways (now first) (now next) (now to) ⌝ }
-    requires { ⌜ AsHeavy (now loads) (now after) load x ⌝ }
-    requires { ⌜ Searching (Joins (now first) (now next) (now to)) (now loads) load found (now queue) (now dist) ⌝ }
-    ensures { λ r. ⌜ Searched (Joins (now (first .entry)) (now (next .entry)) (now (to .entry))) (now (loads .entry)) load r (now (queue .exit)) (now (dist .exit)) ⌝ }
+    requires { ⌜ AsHeavy benches (now loads) (now after) load x ⌝ }
+    requires { ⌜ Searching (Joins (now first) (now next) (now to)) (now loads) benches load found (now queue) (now dist) ⌝ }
+    ensures { λ r. ⌜ Searched (Joins (now (first .entry)) (now (next .entry)) (now (to .entry))) (now (loads .entry)) benches load r (now (queue .exit)) (now (dist .exit)) ⌝ }
 {
     let mut found = found;
     let mut x = x;
     while x != 0 {
-        let end = spread::spread(first, next, to, x, found, queue, dist);
+        let end = spread::spread(first, next, to, benches, x, found, queue, dist);
         if low_among(queue, found, end, loads, load) {
             return Search {
                 start: x,
@@ -89,7 +90,8 @@ pub fn first_start(
     lists::list_by(s.jobs(), from, &mut first, &mut next);
     let mut heavy = scratch::jobs();
     let mut after = scratch::benches();
-    lists::list_by(s.benches(), loads, &mut heavy, &mut after);
+    let benches = s.benches();
+    lists::list_by(benches, loads, &mut heavy, &mut after);
     let mut queue = scratch::benches();
     let mut dist = scratch::benches();
     let mut found = 0;
@@ -102,6 +104,7 @@ pub fn first_start(
             to,
             loads,
             &after,
+            benches,
             load,
             x,
             found,

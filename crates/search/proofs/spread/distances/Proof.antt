@@ -2,10 +2,11 @@
 use Prim.Native.Nat.{_+_}
 use borrow.Author.Needs.{needs}
 use Rattle.rules.specs.Table.{mostBenches}
+use Rattle.rules.proofs.Basics.{within-both}
 use Rattle.search.specs.Lists.{ListedBy}
 use Rattle.search.proofs.Listing.{listable-arcs, listed-below, listed-ways}
-use Rattle.search.proofs.Routing.{bench-within, spread-distances}
-use Rattle.search.proofs.Widening.{none-queued}
+use Rattle.search.proofs.Routing.{spread-distances}
+use Rattle.search.proofs.Widening.{none-queued, none-stays}
 use Rattle.search.proofs.spread.distances.Statement.{statement}
 use Rattle.search.proofs.spread.distances.Tie as tie
 
@@ -36,19 +37,21 @@ benches-requires-2 c κs = search needs
 listed : (c : tie.After-list-by) → let a = c .before .before .before .before .before .before .before .args in ListedBy (mostBenches + 1) (a .s .jobs) (a .from .now) (c .list-by .last .1 .1 .0) (c .list-by .last .1 .1 .1 .0)
 listed c = listed-below (c .before .before .before .before .before .before .benches .ensures) (c .before .before .before .before .jobs2 .ensures) (c .list-by .ensures)
 
+benches-requires-3 : tie.Need-benches-requires-3
+benches-requires-3 c κs = search needs
+
 spread-requires : tie.Need-spread-requires
 spread-requires c κs =
-    let k = c .before .before .before .before .before .before .before in
-    let start = c .before .before .before .before .before .before .before .before .before .before .before .before .before .before in
+    let k = c .before .before .before .before .before .before .before .before in
+    let start = k .before .before .before .before .before .before .before in
     let a = start .args in
     let p = start .pre in
-    (listed-ways (p .0) (p .1 .0) (listed k), (bench-within (a .s) (a .v) (p .0) (p .1 .1 .0), none-queued (c .before .before .before .before .benches2 .ensures) (p .1 .1 .1)))
+    rw (c .before .before .benches3 .ensures) (listed-ways (p .0) (p .1 .0) (listed k), (within-both 1 (a .s .benches) (a .v) (p .1 .1 .0 .least) (p .1 .1 .0 .most), (none-queued (c .before .before .before .before .before .benches2 .ensures) (p .1 .1 .1), none-stays (p .0) (p .1 .0) (listed k) (p .1 .1 .1))))
 
 returns : tie.Need-returns
 returns c =
-    let k = c .before .before .before .before .before .before .before .before in
-    let start = c .before .before .before .before .before .before .before .before .before .before .before .before .before .before .before in
-    let p = start .pre in
+    let k = c .before .before .before .before .before .before .before .before .before in
+    let p = k .before .before .before .before .before .before .before .pre in
     spread-distances (p .0) (p .1 .0) (listed k) (p .1 .1 .0) (rw (p .1 .1 .1) at (c .spread .ensures))
 
 pub distances-spec : {M : Type 1} → statement M
@@ -62,5 +65,6 @@ distances-spec =
     slice-aggregate-list-by-2
     list-by-requires
     benches-requires-2
+    benches-requires-3
     spread-requires
     returns)

@@ -13,10 +13,10 @@ use Rattle.search.proofs.start.first_start.Statement.{statement}
 use Rattle.search.proofs.start.first_start.Tie as tie
 
 abbrev Inv-loop : tie.InvT-loop
-Inv-loop from to loads first next heavy after queue₀ dist₀ found₀ load₀ queue dist found load = Falling load₀ from to loads first next heavy after load found queue dist
+Inv-loop from to loads first next heavy after benches queue₀ dist₀ found₀ load₀ queue dist found load = Falling benches load₀ from to loads first next heavy after load found queue dist
 
 abbrev μ-loop : tie.MeasureT-loop
-μ-loop from to loads first next heavy after queue₀ dist₀ found₀ load₀ queue dist found load = load
+μ-loop from to loads first next heavy after benches queue₀ dist₀ found₀ load₀ queue dist found load = load
 
 benches-requires : tie.Need-benches-requires Inv-loop μ-loop
 benches-requires c κs = search needs
@@ -70,7 +70,7 @@ jobs-requires-4 c κs = search needs
 loop-holds : tie.Need-loop-holds Inv-loop μ-loop
 loop-holds c =
     let start = c .before .before .before .before .before .before .before .before .before .before .before .before .before .before .before .before .before .before .before .before .before in
-    rw (c .jobs4 .ensures) (falling-start (start .pre .0) (start .pre .1 .0) (start .pre .1 .1) (listed-below (c .before .before .before .before .before .before .before .before .before .before .before .before .before .before .before .before .before .before .before .before .benches .ensures) (c .before .before .before .before .before .before .before .before .before .before .before .before .before .before .before .before .before .before .jobs2 .ensures) (c .before .before .before .before .before .before .before .before .before .before .before .before .before .before .list-by .ensures)) (listed-below (c .before .before .before .before .before .before .before .before .before .before .before .jobs3 .ensures) (c .before .before .before .before .before .before .before .before .before .benches3 .ensures) (c .before .before .before .before .before .list-by2 .ensures)) (c .before .before .benches4 .ensures) (c .before .benches5 .ensures))
+    rw (c .jobs4 .ensures, c .before .before .before .before .before .before .before .before .before .benches3 .ensures) (falling-start (start .pre .0) (start .pre .1 .0) (start .pre .1 .1) (listed-below (c .before .before .before .before .before .before .before .before .before .before .before .before .before .before .before .before .before .before .before .before .benches .ensures) (c .before .before .before .before .before .before .before .before .before .before .before .before .before .before .before .before .before .before .jobs2 .ensures) (c .before .before .before .before .before .before .before .before .before .before .before .before .before .before .list-by .ensures)) (listed-below (c .before .before .before .before .before .before .before .before .before .before .before .jobs3 .ensures) (c .before .before .before .before .before .before .before .before .before .benches3 .ensures) (c .before .before .before .before .before .list-by2 .ensures)) (c .before .before .benches4 .ensures) (c .before .benches5 .ensures))
 
 -- a load is a place of the array, and the place fits a word
 small : (n : ℕ) → n ≤ mostJobs → Fits w64 (n * 2) × (n < 4001)

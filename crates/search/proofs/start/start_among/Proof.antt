@@ -7,7 +7,7 @@ use lib.Dec.{T}
 use lib.ListN.{getD}
 use Rattle.rules.specs.Lists.{within}
 use Rattle.rules.specs.Table.{mostBenches}
-use Rattle.rules.proofs.Basics.{within-high}
+use Rattle.rules.proofs.Basics.{within-low, within-high, within-both}
 use Rattle.search.specs.Lists.{LeastFrom, Joins}
 use Rattle.search.proofs.Listing.{least-some, left, left-less}
 use Rattle.search.proofs.Starting.{Among, among-start, among-first, among-turn, among-end, searched-first, spread-queued, least-most}
@@ -15,18 +15,20 @@ use Rattle.search.proofs.start.start_among.Statement.{statement}
 use Rattle.search.proofs.start.start_among.Tie as tie
 
 abbrev Inv-loop : tie.InvT-loop
-Inv-loop first next to loads after load x found queue₀ dist₀ found₀ x₀ queue dist found' x' = Among (Joins first next to) loads load x' found' queue dist
+Inv-loop first next to loads after benches load x found queue₀ dist₀ found₀ x₀ queue dist found' x' = Among (Joins first next to) loads benches load x' found' queue dist
 
 abbrev μ-loop : tie.MeasureT-loop
-μ-loop first next to loads after load x found queue₀ dist₀ found₀ x₀ queue dist found' x' = left mostBenches x'
+μ-loop first next to loads after benches load x found queue₀ dist₀ found₀ x₀ queue dist found' x' = left mostBenches x'
 
 loop-holds : tie.Need-loop-holds Inv-loop μ-loop
 loop-holds c = among-start (c .pre .1 .0) (c .pre .1 .1)
 
 spread-requires : tie.Need-spread-requires Inv-loop μ-loop
 spread-requires c κs =
+    let start = c .before .before .before .before in
     let l = c .before .before .before .loop in
-    (c .before .before .before .before .pre .0, (l .inv .next (c .before .before .loop-test .taken) .0, l .inv .searching .queued))
+    let (t, e) = l .inv .next (c .before .before .loop-test .taken) in
+    (start .pre .0, (within-both 1 (start .args .benches) (l .x) (within-low 1 mostBenches (l .x) t) (start .pre .1 .0 .bench (l .x) e), (l .inv .searching .queued, l .inv .searching .stays)))
 
 low-among-requires : tie.Need-low-among-requires Inv-loop μ-loop
 low-among-requires c κs =
