@@ -1,19 +1,22 @@
 -- The end bench by the rule's order and the first list to it, handed over, are the rule's path turned.
-use Prim.Native.Nat.{ℕ, suc, _-_, _≤_, _<_}
+use Prim.Native.Nat.{ℕ, suc, _+_, _-_, _≤_, _<_}
 use native.Mathlib.Omega.{arith}
-use mathlib.Core.Path.{_≡_, refl, sym, subst}
+use mathlib.Core.Path.{_≡_, refl, sym, ap, subst}
 use mathlib.Core.Bool.{true, false}
 use mathlib.Core.Logic.{_⊎_, inl, inr, _≢_, _↔_}
 use mathlib.Core.List.{List, [], _∷_}
 use mathlib.Core.Option.{Option, none, some}
+use lib.Dec.{T}
 use lib.ListN.{length, take, length-map}
 use lib.Seq.{length-take-le}
 use Rattle.rules.specs.Board.{Board, load, namesOf}
 use Rattle.rules.specs.Table.{mostJobs, decode}
-use Rattle.rules.specs.Paths.{BenchPath, stepBy, steps, pathBy, flip}
-use Rattle.rules.specs.Sharing.{arrivalChoice, closingChoice}
-use Rattle.rules.proofs.Basics.{in-member}
-use Rattle.rules.proofs.Paths.{step-is, step-bench}
+use Rattle.rules.specs.Paths.{BenchPath, stepBy, steps, pathBy, last, IsPath, improves, improvingFrom, improvingTo, flip}
+use Rattle.rules.specs.Sharing.{arrivalKey, closingKey, arrivalChoice, closingChoice}
+use Rattle.rules.proofs.Basics.{in-member, in-empty}
+use Rattle.rules.proofs.Paths.{step-is, step-bench, improvingFrom-only, improvingTo-only, improves-loads, improves-start}
+use Rattle.rules.proofs.Choice.{least-empty}
+use Rattle.rules.proofs.Walks.{path-reach, reach-bench}
 use Rattle.rules.proofs.Distances.{To, Away, Greedy, greedy-walk, storable-one-other}
 use Rattle.rules.proofs.Found.{Lower, ArrivalEnd, Higher, ClosingStart, arrival-not-found, closing-not-found}
 use Rattle.rules.proofs.Search.{numbered-away, numbered-to, away-to, arrival-greedy, closing-greedy}
@@ -23,7 +26,7 @@ use Rattle.table.proofs.Sizes.{job-in, board-bench}
 use Rattle.store.specs.View.{Kept, Holds, Loaded}
 use Rattle.search.specs.Arrays.{at}
 use Rattle.search.specs.Spread.{Distances}
-use Rattle.search.specs.Ends.{Candidate, Best, Chosen}
+use Rattle.search.specs.Ends.{Candidate, SomeBetter, Best, Chosen}
 use Rattle.search.specs.Route.{Follows, Routed}
 use Rattle.paths.specs.Arcs.{ArcsOf}
 use Rattle.paths.specs.Turns.{stepsBy, Handable, handedBy, Along, lastOf, startOf, Turned}
@@ -129,7 +132,26 @@ module _ {t : List ℕ} {s : Size} {from to loads : List ℕ} (kept : Kept t s) 
             (turn-round mostJobs (at loads z) (at loads w) (few (b .is .bench)) (few (c .bench)) (b .first w c));
       }
 
-  -- an arrival at x: no end bench, no path ..
+  -- an improving path joins two benches, and the load of the last is less by two or more
+  path-ends : (q : BenchPath) → IsPath (decode t) q → T (improves (decode t) q) → BenchIn s (q .start) × BenchIn s (last q) × (at loads (last q) + 2 ≤ at loads (q .start))
+  path-ends q h i =
+      let v = kept .storable .valid in
+      let f = improves-start (decode t) v q h i in
+      let a = board-bench (q .start) (kept .size) f in
+      let z = board-bench (last q) (kept .size) (reach-bench (decode t) v (q .start) (last q) f (path-reach (decode t) q h)) in
+      (a, z, omega (arith, improves-loads (decode t) q i, own a, own z))
+
+  -- an arrival at x: no bench with a lower load, no path ..
+  pub from-unneeded : (SomeBetter false s loads x → ⊥) → Turned t t s (arrivalChoice (decode t) x) (lastOf x (arrivalChoice (decode t) x)) (record { bench = x; jobs = 0 })
+  unfolding arrivalChoice
+  from-unneeded n =
+      let all = improvingFrom (decode t) x in
+      turned-none kept x (lastOf x) (arrivalChoice (decode t) x)
+      (least-empty (arrivalKey (decode t)) all
+      (in-empty all (λ q i. let h = improvingFrom-only (decode t) x q i in let e = path-ends q (h .0) (h .2) in n (last q, e .1, omega (arith, e .2, ap (at loads) (h .1))))))
+      refl
+
+  -- .. no end bench, no path ..
   pub from-none : {away : List ℕ} → Distances s from to x away → Chosen false s loads away x 0 → Turned t t s (arrivalChoice (decode t) x) (lastOf x (arrivalChoice (decode t) x)) (record { bench = x; jobs = 0 })
   from-none {away} d c =
       turned-none kept x (lastOf x) (arrivalChoice (decode t) x)
@@ -150,7 +172,17 @@ module _ {t : List ℕ} {s : Size} {from to loads : List ℕ} (kept : Kept t s) 
       (arrival-greedy (decode t) v (storable-one-other (decode t) (kept .storable)) x y (at away) (at near) r w (away-from kept arcs bench d) (arrival-end away y (c .some e)) go far greedy)
       (sym (walk .1))
 
-  -- a closing at x: no first bench, no path ..
+  -- a closing at x: no bench with a higher load, no path ..
+  pub to-unneeded : (SomeBetter true s loads x → ⊥) → Turned t t s (closingChoice (decode t) x) (startOf x (closingChoice (decode t) x)) (record { bench = x; jobs = 0 })
+  unfolding closingChoice
+  to-unneeded n =
+      let all = improvingTo (decode t) x in
+      turned-none kept x (startOf x) (closingChoice (decode t) x)
+      (least-empty (closingKey (decode t)) all
+      (in-empty all (λ q i. let h = improvingTo-only (decode t) x q i in let e = path-ends q (h .0) (h .3) in n (q .start, e .0, omega (arith, e .2, few (e .0), ap (at loads) (h .2))))))
+      refl
+
+  -- .. no first bench, no path ..
   pub to-none : {near : List ℕ} → Distances s to from x near → Chosen true s loads near x 0 → Turned t t s (closingChoice (decode t) x) (startOf x (closingChoice (decode t) x)) (record { bench = x; jobs = 0 })
   to-none {near} d c =
       turned-none kept x (startOf x) (closingChoice (decode t) x)

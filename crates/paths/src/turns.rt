@@ -81,6 +81,9 @@ pub fn turn_from(
     requires { ⌜ BenchIn s x ⌝ }
     ensures { λ r. ⌜ Turned (now (t .entry)) (now (t .exit)) s (arrivalChoice (decode (now (t .entry))) x) (lastOf x (arrivalChoice (decode (now (t .entry))) x)) r ⌝ }
 {
+    if !ends::any_better(false, s, loads, x) {
+        return Turn { bench: x, jobs: 0 };
+    }
     let mut away = scratch::benches();
     spread::distances(s, from, to, x, &mut away);
     let y = ends::choose(false, s, loads, &away, x);
@@ -108,6 +111,9 @@ pub fn turn_to(
     requires { ⌜ BenchIn s x ⌝ }
     ensures { λ r. ⌜ Turned (now (t .entry)) (now (t .exit)) s (closingChoice (decode (now (t .entry))) x) (startOf x (closingChoice (decode (now (t .entry))) x)) r ⌝ }
 {
+    if !ends::any_better(true, s, loads, x) {
+        return Turn { bench: x, jobs: 0 };
+    }
     let mut near = scratch::benches();
     spread::distances(s, to, from, x, &mut near);
     let z = ends::choose(true, s, loads, &near, x);

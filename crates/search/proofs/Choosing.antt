@@ -13,7 +13,7 @@ use Rattle.rules.specs.Table.{mostJobs}
 use Rattle.table.specs.Sizes.{Limits, BenchIn}
 use Rattle.table.specs.declared.size.Size.{Size}
 use Rattle.search.specs.Arrays.{at, LoadsIn}
-use Rattle.search.specs.Ends.{Tells, weightOf, Candidate, Before, Chosen}
+use Rattle.search.specs.Ends.{Tells, weightOf, Candidate, Before, SomeBetter, Chosen}
 
 -- loads
 
@@ -81,7 +81,29 @@ module _ (greatest : Bool) (loads dist : List ℕ) where
       (λ t. inl (omega (arith, ltb-true own other t)))
       (λ t. ⊎-elim (λ i. omega (arith, ltb-false own other t)) (λ i. d (omega arith)))
 
--- the loop over benches
+-- the loop for any better bench
+
+module _ (greatest : Bool) (loads : List ℕ) (limit y : ℕ) where
+  -- no bench below y has a weight that is less than the limit by two or more
+  pub record NoneBetter : Type 0 where
+    pub least : 1 ≤ y
+    pub none : (z : ℕ) → z < y → 1 ≤ z → weightOf greatest (at loads z) + 2 ≤ limit → ⊥
+
+module _ {greatest : Bool} {loads : List ℕ} {limit : ℕ} where
+  -- no bench seen ..
+  pub better-start : NoneBetter greatest loads limit 1
+  better-start = record { least = omega arith; none = λ z h l b. omega arith }
+
+  module _ {y : ℕ} (f : NoneBetter greatest loads limit y) where
+    -- .. nor is y one ..
+    pub better-more : (weightOf greatest (at loads y) + 2 ≤ limit → ⊥) → NoneBetter greatest loads limit (y + 1)
+    better-more n = record { least = omega (arith, f .least); none = below-more (λ z. 1 ≤ z → weightOf greatest (at loads z) + 2 ≤ limit → ⊥) y (f .none) (λ l. n) }
+
+    -- .. and after the last bench there is none
+    pub better-end : {s : Size} (x : ℕ) → limit ≡ weightOf greatest (at loads x) → s .benches < y → SomeBetter greatest s loads x → ⊥
+    better-end x e h (z, b, w) = f .none z (omega (arith, b .most)) (b .least) (omega arith)
+
+-- the loop for the first candidate
 
 module _ (greatest : Bool) (s : Size) (loads dist : List ℕ) (x y : ℕ) where
   -- the first of the candidates below y

@@ -25,6 +25,10 @@ module _ (greatest : Bool) (s : Size) (loads dist : List ℕ) where
     pub reached : 1 ≤ at dist y
     pub better : weightOf greatest (at loads y) + 2 ≤ weightOf greatest (at loads x)
 
+-- some bench, found or not, has a load that is better than that of x by two or more
+abbrev pub SomeBetter : Bool → Size → List ℕ → ℕ → Type 0
+SomeBetter greatest s loads x = (y : ℕ) × BenchIn s y × (weightOf greatest (at loads y) + 2 ≤ weightOf greatest (at loads x))
+
 -- y has a better load than z, or the same and is nearer
 abbrev pub Before : Bool → List ℕ → List ℕ → ℕ → ℕ → Type 0
 Before greatest loads dist y z =

@@ -5,7 +5,7 @@ ghost use mathlib.Core.Path.{_≡_};
 ghost use Rattle.rules.specs.Table.{mostJobs};
 ghost use Rattle.table.specs.Sizes.{Limits, BenchIn};
 ghost use Rattle.search.specs.Arrays.{LoadsIn};
-ghost use Rattle.search.specs.Ends.{Tells, weightOf, Candidate, Before, Chosen};
+ghost use Rattle.search.specs.Ends.{Tells, weightOf, Candidate, Before, SomeBetter, Chosen};
 use table::size::Size;
 
 // How good a load is, the less the better: the lowest load for an arrival's path, the greatest for a closing's.
@@ -63,6 +63,26 @@ fn before(
     } else {
         own < other
     }
+}
+
+// Whether any bench has a load that is better than that of x by two or more. If none has, no path between them improves, and no search is
+// needed.
+pub fn any_better(greatest: bool, s: Size, loads: &[u16; Size::MOST_BENCHES + 1], x: usize) -> bool
+    requires { ⌜ Limits s ⌝ }
+    requires { ⌜ LoadsIn s (now loads) ⌝ }
+    requires { ⌜ BenchIn s x ⌝ }
+    ensures { λ r. ⌜ Tells (SomeBetter greatest s (now (loads .entry)) x) r ⌝ }
+{
+    let benches = s.benches();
+    let limit = weight(greatest, loads[x]);
+    let mut y = 1;
+    while y <= benches {
+        if weight(greatest, loads[y]) + 2 <= limit {
+            return true;
+        }
+        y += 1;
+    }
+    false
 }
 
 // The bench where the improving path between x and it comes first, by load, distance and number; 0 where there is none.
