@@ -1,5 +1,3 @@
--- Refusals of a table's form, and of what each call asks.
-pub mod Formal
+-- Refusals of what each change asks, and demand 3.
 pub mod Writing
-pub mod Asking
 pub mod Demands

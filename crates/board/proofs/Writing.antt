@@ -7,29 +7,30 @@ use mathlib.Core.List.{List, [], _∷_}
 use lib.Dec.{T, eqb}
 use lib.ListN.{length}
 use borrow.Author.Tests.{eqb-false}
-use Rattle.rules.specs.Lists.{within}
-use Rattle.rules.specs.Board.{Board, stands, namesFit}
-use Rattle.rules.specs.Table.{sizesFit, blankTable, decode}
-use Rattle.rules.specs.Answers.{arrived, closed, levelled, stopped}
-use Rattle.rules.specs.Calls.{arrival, closing, levelling, outcome, blanking, arrivalOutcome, closingOutcome, levellingOutcome}
-use Rattle.rules.proofs.Basics.{true→T, T→true, false→not, not-false, not→false, pair-fits}
-use Rattle.rules.proofs.Outcomes.{MayArrive, arrival-accepted, closing-accepted, levelling-accepted}
-use Rattle.rules.proofs.Refused.{arrival-number-refused, arrival-bench-refused, arrival-standing-refused, closing-number-refused, closing-standing-refused, arrival-exact, closing-exact}
-use Rattle.table.specs.declared.size.Size.{Size}
-use Rattle.table.specs.Sizes.{JobIn, SoundTable}
-use Rattle.table.proofs.Sizes.{job-in}
+use Rattle.basics.specs.Lists.{within}
+use Rattle.layout.specs.Board.{Board, stands, namesFit}
+use Rattle.layout.specs.Table.{sizesFit, blankTable, decode}
+use Rattle.calls.specs.Answers.{arrived, closed, levelled, stopped}
+use Rattle.calls.specs.Calls.{arrival, closing, levelling, outcome, blanking, arrivalOutcome, closingOutcome, levellingOutcome}
+use Rattle.basics.proofs.Basics.{true→T, T→true, false→not, not-false, not→false}
+use Rattle.layout.proofs.Named.{pair-fits}
+use Rattle.calls.proofs.Outcomes.{MayArrive, arrival-accepted, closing-accepted, levelling-accepted}
+use Rattle.calls.proofs.Refused.{arrival-number-refused, arrival-bench-refused, arrival-standing-refused, closing-number-refused, closing-standing-refused, arrival-exact, closing-exact}
+use Rattle.size.specs.declared.Size.{Size}
+use Rattle.size.specs.Sizes.{JobIn, SoundTable}
+use Rattle.size.proofs.Sizes.{job-in, job-of-board, bench-of-board}
 use Rattle.store.specs.View.{Kept}
 use Rattle.store.proofs.Boards.{sound-kept}
 use Rattle.paths.specs.declared.turns.Turn.{Turn}
 use Rattle.sharing.specs.declared.changes.Arrival.{Arrival}
-use Rattle.sharing.specs.declared.levels.Levelling.{Levelling}
+use Rattle.levels.specs.declared.Levelling.{Levelling}
 use Rattle.sharing.specs.Changes.{ArrivalOf, ClosingOf}
-use Rattle.sharing.specs.Levels.{LevellingOf}
-use Rattle.board.specs.Answered.{answerOf, Leaves}
-use Rattle.board.specs.declared.answers.Answer.{Answer}
-use Rattle.board.specs.declared.answers.Answer.the-variants.{Refused, Blanked, Arrived, Closed, Levelled, Stopped}
-use Rattle.board.specs.declared.answers.Refusal.the-variants.{Sizes, JobNumber, BenchNumber, AlreadyStanding, NotStanding}
-use Rattle.board.proofs.Formal.{refused-leaves}
+use Rattle.levels.specs.Levels.{LevellingOf}
+use Rattle.answers.specs.Answered.{answerOf, Leaves}
+use Rattle.answers.specs.declared.Answer.{Answer}
+use Rattle.answers.specs.declared.Answer.the-variants.{Refused, Blanked, Arrived, Closed, Levelled, Stopped}
+use Rattle.answers.specs.declared.Refusal.the-variants.{Sizes, JobNumber, BenchNumber, AlreadyStanding, NotStanding}
+use Rattle.answers.proofs.Formal.{refused-leaves}
 
 -- what a blanking answers, by whether the sizes fit
 abbrev blankAnswer : Bool → Answer
@@ -74,30 +75,23 @@ pub passed : {h w : Bool} → h ≡ w → not h ≡ false → T w
 passed {h} {w} e n = not-false w (ap not (sym e) ∙ n)
 
 module _ {t : List ℕ} {s : Size} (z : SoundTable t s) where
-  -- the table's numbers of jobs and benches are the board's
-  job-of-board : (j : ℕ) {h : Bool} → h ≡ within 1 (s .jobs) j → h ≡ within 1 (length ((decode t) .named)) j
-  job-of-board j e = rw (z .size .board-jobs) e
-
-  pub bench-of-board : (x : ℕ) {h : Bool} → h ≡ within 1 (s .benches) x → h ≡ within 1 ((decode t) .benches) x
-  bench-of-board x e = rw (z .size .board-benches) e
-
   -- 3
   pub arrival-number : (j x y : ℕ) {h : Bool} → h ≡ within 1 (s .jobs) j → not h ≡ true → Leaves (outcome (arrival j x y) t) (Refused JobNumber) t []
   arrival-number j x y e n =
-      refused-leaves JobNumber (arrival j x y) t (arrival-number-refused t (z .sound) j x y (failed (job-of-board j e) n))
+      refused-leaves JobNumber (arrival j x y) t (arrival-number-refused t (z .sound) j x y (failed (job-of-board z j e) n))
 
   pub closing-number : (j : ℕ) {h : Bool} → h ≡ within 1 (s .jobs) j → not h ≡ true → Leaves (outcome (closing j) t) (Refused JobNumber) t []
   closing-number j e n =
-      refused-leaves JobNumber (closing j) t (closing-number-refused t (z .sound) j (failed (job-of-board j e) n))
+      refused-leaves JobNumber (closing j) t (closing-number-refused t (z .sound) j (failed (job-of-board z j e) n))
 
   -- bench x is not one of 1 to B
   pub bench-wrong : (x : ℕ) {h : Bool} → h ≡ within 1 (s .benches) x → not h ≡ true → within 1 ((decode t) .benches) x ≡ false
-  bench-wrong x e n = failed (bench-of-board x e) n
+  bench-wrong x e n = failed (bench-of-board z x e) n
 
   -- 4
   pub arrival-bench : (j x y : ℕ) {h : Bool} → h ≡ within 1 (s .jobs) j → not h ≡ false → (within 1 ((decode t) .benches) x ≡ false) ⊎ (within 1 ((decode t) .benches) y ≡ false) ⊎ (x ≡ y) → Leaves (outcome (arrival j x y) t) (Refused BenchNumber) t []
   arrival-bench j x y e n w =
-      refused-leaves BenchNumber (arrival j x y) t (arrival-bench-refused t (z .sound) j x y (T→true (within 1 (length ((decode t) .named)) j) (passed (job-of-board j e) n)) w)
+      refused-leaves BenchNumber (arrival j x y) t (arrival-bench-refused t (z .sound) j x y (T→true (within 1 (length ((decode t) .named)) j) (passed (job-of-board z j e) n)) w)
 
   -- a job of 1 to J can be read
   pub readable : (j : ℕ) {h : Bool} → h ≡ within 1 (s .jobs) j → not h ≡ false → Kept t s × JobIn s j
@@ -107,8 +101,8 @@ module _ {t : List ℕ} {s : Size} (z : SoundTable t s) where
   pub arrival-numbered : (j x y : ℕ) {h f g : Bool} → h ≡ within 1 (s .jobs) j → not h ≡ false → f ≡ within 1 (s .benches) x → not f ≡ false → g ≡ within 1 (s .benches) y → not g ≡ false → eqb x y ≡ false → Numbered (decode t) j x y
   arrival-numbered j x y e n ex nx ey ny d =
       record {
-        number = passed (job-of-board j e) n;
-        fit = (pair-fits ((decode t) .benches) x y) .1 (passed (bench-of-board x ex) nx, passed (bench-of-board y ey) ny, eqb-false x y d);
+        number = passed (job-of-board z j e) n;
+        fit = (pair-fits ((decode t) .benches) x y) .1 (passed (bench-of-board z x ex) nx, passed (bench-of-board z y ey) ny, eqb-false x y d);
       }
 
   -- 5
@@ -119,7 +113,7 @@ module _ {t : List ℕ} {s : Size} (z : SoundTable t s) where
   -- 6
   pub closing-standing : (j : ℕ) {h g : Bool} → h ≡ within 1 (s .jobs) j → not h ≡ false → g ≡ stands (decode t) j → not g ≡ true → Leaves (outcome (closing j) t) (Refused NotStanding) t []
   closing-standing j e n d w =
-      refused-leaves NotStanding (closing j) t (closing-standing-refused t (z .sound) j (T→true (within 1 (length ((decode t) .named)) j) (passed (job-of-board j e) n)) (failed d w))
+      refused-leaves NotStanding (closing j) t (closing-standing-refused t (z .sound) j (T→true (within 1 (length ((decode t) .named)) j) (passed (job-of-board z j e) n)) (failed d w))
 
   -- an accepted arrival
   pub arrival-left : {u : List ℕ} (j x y : ℕ) {r : Arrival} → MayArrive (decode t) j x y → ArrivalOf t u j x y r → Leaves (outcome (arrival j x y) t) (Arrived (r .holder) (r .rose) (r .moved)) u []

@@ -1,16 +1,14 @@
 // The calls that write a table: blanking, arrival, closing, levelling.
 ghost use mathlib.Core.List.{[]};
-ghost use Rattle.rules.specs.Calls.{blanking, outcome, arrival, closing, levelling};
-ghost use Rattle.table.specs.Sizes.{SoundTable};
-ghost use Rattle.board.specs.Answered.{Leaves};
-use crate::answers::Answer;
-use crate::answers::Refusal;
+ghost use Rattle.calls.specs.Calls.{blanking, outcome, arrival, closing, levelling};
+ghost use Rattle.size.specs.Sizes.{SoundTable};
+ghost use Rattle.answers.specs.Answered.{Leaves};
+use answers::Answer;
+use answers::Refusal;
 use form::Form;
 use sharing::changes;
-use sharing::levels;
 use store::jobs;
-use table::header;
-use table::size::Size;
+use size::Size;
 
 // Blanking: a table for so many benches and jobs, without jobs. Old bytes are not looked at.
 pub fn blank(t: &mut [u8], benches: usize, jobs: usize) -> Answer

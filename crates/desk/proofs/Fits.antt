@@ -6,22 +6,23 @@ use mathlib.Core.Bool.{Bool, true, false, cond, not, _&&_}
 use mathlib.Core.List.{List, [], _∷_}
 use lib.Dec.{T, eqb}
 use lib.ListN.{length, drop}
-use Rattle.rules.specs.Lists.{bit, member, rising, all, empty, Each}
-use Rattle.rules.specs.Board.{Board, holderOf, namesOf, stands, load, heaviest}
-use Rattle.rules.specs.Table.{mostBenches, mostJobs, sound, decode}
+use Rattle.basics.specs.Lists.{bit, member, rising, all, empty, Each}
+use Rattle.layout.specs.Board.{Board, holderOf, namesOf, stands, load, heaviest}
+use Rattle.layout.specs.Table.{mostBenches, mostJobs, sound, decode}
 use Rattle.rules.specs.Sharing.{Levelled, arrive, close, relevel, level, tightSet, inside}
-use Rattle.rules.specs.Answers.{Answer, Outcome, isRefused, inNumbers, refused, blanked, arrived, closed, loadIs, heaviestIs, tightSetIs, isSound, levelYes, levelNo, levelled, stopped}
-use Rattle.rules.specs.Calls.{Call, arrival, closing, levelling, loadOf, heaviestLoad, tightSetOf, formCheck, levelCheck, accepted, outcome, arrivalOutcome, closingOutcome, levellingOutcome, tightSetOutcome}
+use Rattle.calls.specs.Answers.{Answer, Outcome, isRefused, inNumbers, refused, blanked, arrived, closed, loadIs, heaviestIs, tightSetIs, isSound, levelYes, levelNo, levelled, stopped}
+use Rattle.calls.specs.Calls.{Call, arrival, closing, levelling, loadOf, heaviestLoad, tightSetOf, formCheck, levelCheck, accepted, outcome, arrivalOutcome, closingOutcome, levellingOutcome, tightSetOutcome}
 use Rattle.rules.specs.Demand2.{handed}
-use Rattle.rules.proofs.Basics.{true→T, false→not, not-false, within-high, is-empty, length-keep, length-rising, length-shares}
-use Rattle.rules.proofs.Counting.{bit-le, count-most, total-most, greatest-most}
-use Rattle.rules.proofs.Sound.{sound-storable}
+use Rattle.basics.proofs.Basics.{true→T, false→not, not-false, within-high, is-empty, length-keep, length-rising}
+use Rattle.layout.proofs.Named.{length-shares}
+use Rattle.basics.proofs.Counting.{bit-le, count-most, total-most, greatest-most}
+use Rattle.layout.proofs.Sound.{sound-storable}
 use Rattle.rules.proofs.Paths.{holder-bench, holder-none}
 use Rattle.rules.proofs.TightSet.{tight-rising}
-use Rattle.rules.proofs.Refusals.{accepted-by}
-use Rattle.rules.proofs.Outcomes.{arrival-accepted, levelling-accepted}
-use Rattle.rules.proofs.Results.{arrival-result, closing-result}
-use Rattle.rules.proofs.Questions.{heaviest-answered, tight-says}
+use Rattle.calls.proofs.Refusals.{accepted-by}
+use Rattle.calls.proofs.Outcomes.{arrival-accepted, levelling-accepted}
+use Rattle.calls.proofs.Results.{arrival-result, closing-result}
+use Rattle.calls.proofs.Questions.{heaviest-answered, tight-says}
 
 -- a call that is not refused was lent a sound table
 accepted-sound : (c : Call) (t : List ℕ) → isRefused ((outcome c t) .answer) ≡ false → T (sound t)

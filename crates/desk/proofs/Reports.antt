@@ -5,12 +5,12 @@ use mathlib.Core.List.{List, [], _∷_}
 use lib.ListN.{getD, drop}
 use mir.Syntax.{w32}
 use mir.Val.{Fits}
-use Rattle.rules.specs.Lists.{nth}
-use Rattle.rules.specs.Answers.{Outcome, inNumbers}
-use Rattle.rules.proofs.Basics.{each-nth}
-use Rattle.board.specs.Answered.{answerOf, returned, valuesOf, Leaves}
-use Rattle.board.specs.declared.answers.Answer.{Answer}
-use Rattle.board.specs.declared.answers.Values.{Values}
+use Rattle.basics.specs.Lists.{nth}
+use Rattle.calls.specs.Answers.{Outcome, inNumbers}
+use Rattle.basics.proofs.Basics.{each-nth}
+use Rattle.answers.specs.Answered.{answerOf, returned, valuesOf, Leaves}
+use Rattle.answers.specs.declared.Answer.{Answer}
+use Rattle.answers.specs.declared.Values.{Values}
 use Rattle.desk.specs.Desk.{inPlace, results, Reported}
 use Rattle.desk.proofs.Fits.{Fitting}
 

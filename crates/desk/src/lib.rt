@@ -1,10 +1,9 @@
 // The calls for C programs, over numbers and the table's bytes; a slice is passed as a pointer and its length in bytes. Each returns the
 // refusal's number, or 0. Results go through lent numbers, which a refused call leaves alone.
 ghost use mathlib.Core.List.{[], _∷_};
-ghost use Rattle.rules.specs.Calls.{outcome, blanking, arrival, closing, levelling, loadOf, heaviestLoad, tightSetOf, formCheck, levelCheck};
+ghost use Rattle.calls.specs.Calls.{outcome, blanking, arrival, closing, levelling, loadOf, heaviestLoad, tightSetOf, formCheck, levelCheck};
 ghost use Rattle.desk.specs.Desk.{Reported};
 use board::changes;
-use board::questions;
 
 // Writes a table without jobs; 1 where the length is not that of so many benches and jobs.
 #[no_mangle]

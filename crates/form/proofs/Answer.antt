@@ -2,19 +2,19 @@
 use Prim.Native.Nat.{ℕ}
 use mathlib.Core.Path.{_≡_, refl, sym, ap, _∙_}
 use mathlib.Core.Bool.{Bool, true, false, cond, _&&_}
-use Rattle.rules.specs.Answers.{sizes, unsound, isSound, refused}
-use Rattle.rules.specs.Calls.{outcome, formCheck}
-use Rattle.rules.proofs.Questions.{form-check}
+use Rattle.calls.specs.Answers.{sizes, unsound, isSound, refused}
+use Rattle.calls.specs.Calls.{outcome, formCheck}
+use Rattle.calls.proofs.Questions.{form-check}
 use lib.Dec.{T}
 use mathlib.Core.List.{List}
-use Rattle.rules.specs.Table.{formed, fits, sound}
-use Rattle.rules.proofs.Basics.{true→T, T→true}
-use Rattle.rules.proofs.Sound.{sound-storable}
-use Rattle.table.specs.Bytes.{laid}
-use Rattle.table.specs.Sizes.{fitIf, sizeIn}
-use Rattle.table.specs.declared.size.Size.{Size}
-use Rattle.table.specs.declared.size.Sizing.the-variants.{Fit, Misfit}
-use Rattle.table.proofs.Sizes.{size-of, fit-size}
+use Rattle.layout.specs.Table.{formed, fits, sound}
+use Rattle.basics.proofs.Basics.{true→T, T→true}
+use Rattle.layout.proofs.Sound.{sound-storable}
+use Rattle.words.specs.Bytes.{laid}
+use Rattle.size.specs.Sizes.{fitIf, sizeIn}
+use Rattle.size.specs.declared.Size.{Size}
+use Rattle.size.specs.declared.Sizing.the-variants.{Fit, Misfit}
+use Rattle.size.proofs.Sizes.{size-of, fit-size}
 use Rattle.form.specs.View.{answerOf, formIf, formIn, Checked, Answered}
 use Rattle.form.specs.declared.Form.{Form}
 use Rattle.form.specs.declared.Form.the-variants.{Sizes}

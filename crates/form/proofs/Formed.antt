@@ -8,12 +8,13 @@ use mathlib.Core.List.{List, [], _∷_, _++_, map, flatMap}
 use lib.Dec.{T, eqb}
 use lib.ListN.{length, length-append, length-map}
 use borrow.Author.Tests.{eq-eqb}
-use Rattle.rules.specs.Lists.{bit, count, different, rising, total, all, In, nth, numbered}
-use Rattle.rules.specs.Table.{Entry, vacant, filled, holderIn, Layout, follow, chains, standingIn, entryFits, placed, formed}
-use Rattle.rules.proofs.Basics.{true→T, never→false, both, left, right, tests-same, Compared, same, other, compared, T-eqb, eqb-T, within-low, within-high, in-nth, in-numbered, in-flatMap, rising-low, bench-listed, Member, is-in, not-in, membered, rising-different, fit-bench}
-use Rattle.rules.proofs.Counting.{bit-same, bit-other, bit-le, count-none, count-some, count-append, different-count, total-first, total-most, total-same, total-tight, total-count}
-use Rattle.rules.proofs.Sound.{filled-within, filled-in, filled-each, Formed, formed-is, formed-back, entry-tests, not-held, Ends, standingFrom, standing-first, formed-own, own-few}
-use Rattle.rules.proofs.ChainEnds.{after, ends-different}
+use Rattle.basics.specs.Lists.{bit, count, different, rising, total, all, In, nth, numbered}
+use Rattle.layout.specs.Table.{Entry, vacant, filled, holderIn, Layout, follow, chains, standingIn, entryFits, placed, formed}
+use Rattle.basics.proofs.Basics.{true→T, never→false, both, left, right, tests-same, Compared, same, other, compared, T-eqb, eqb-T, within-low, within-high, in-nth, in-numbered, in-flatMap, rising-low, bench-listed, Member, is-in, not-in, membered, rising-different}
+use Rattle.layout.proofs.Named.{fit-bench}
+use Rattle.basics.proofs.Counting.{bit-same, bit-other, bit-le, count-none, count-some, count-append, different-count, total-first, total-most, total-same, total-tight, total-count}
+use Rattle.layout.proofs.Sound.{filled-within, filled-in, filled-each, Formed, formed-is, formed-back, entry-tests, not-held, Ends, standingFrom, standing-first, formed-own, own-few}
+use Rattle.layout.proofs.ChainEnds.{after, ends-different}
 use Rattle.form.specs.Check.{kindIf, kindOf, byKind, onlyIf, counted, walked, allWalked}
 use Rattle.form.specs.declared.Seen.{Seen}
 use Rattle.form.specs.declared.Seen.the-variants.{Jobs, Broken}

@@ -10,13 +10,14 @@ use lib.Dec.{T, eqb}
 use lib.ListN.{length, getD, drop, drop-of-length-le, List·getD-eq-default}
 use lib.Seq.{drop-cons}
 use borrow.Author.Tests.{ne-eqb}
-use Rattle.rules.specs.Lists.{Each, nth}
-use Rattle.rules.specs.Table.{Entry, vacant, filled, holderIn, entryFits, entryWords}
-use Rattle.rules.proofs.Basics.{T→true, never→false, within-low, within-high, within-both, pair-fits}
-use Rattle.rules.proofs.Sound.{vacant-words, zero-words, entry-tests}
-use Rattle.table.specs.Records.{entryOf}
+use Rattle.basics.specs.Lists.{Each, nth}
+use Rattle.layout.specs.Table.{Entry, vacant, filled, holderIn, entryFits, entryWords}
+use Rattle.basics.proofs.Basics.{T→true, never→false, within-low, within-high, within-both}
+use Rattle.layout.proofs.Named.{pair-fits}
+use Rattle.layout.proofs.Sound.{vacant-words, zero-words, entry-tests}
+use Rattle.records.specs.Records.{entryOf}
 use Rattle.form.specs.Check.{kindIf, kindOf, byKind, onlyIf, counted, walked, allWalked}
-use Rattle.table.specs.declared.records.Record.{Record}
+use Rattle.records.specs.declared.Record.{Record}
 use Rattle.form.specs.declared.Kind.the-variants.{Vacant, Fitting, Unfit}
 use Rattle.form.specs.declared.Seen.the-variants.{Jobs, Broken}
 

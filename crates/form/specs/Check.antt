@@ -3,8 +3,8 @@ use Prim.Native.Nat.{ℕ, zero, suc}
 use mathlib.Core.Bool.{Bool, true, false}
 use mathlib.Core.List.{List, [], _∷_}
 use lib.Dec.{eqb}
-use Rattle.rules.specs.Lists.{nth}
-use Rattle.rules.specs.Table.{Entry, vacant, filled, holderIn, entryFits}
+use Rattle.basics.specs.Lists.{nth}
+use Rattle.layout.specs.Table.{Entry, vacant, filled, holderIn, entryFits}
 use Rattle.form.specs.declared.Kind.{Kind}
 use Rattle.form.specs.declared.Kind.the-variants.{Vacant, Fitting, Unfit}
 use Rattle.form.specs.declared.Seen.{Seen}

@@ -3,12 +3,12 @@ use mathlib.Core.Path.{_≡_}
 use mathlib.Core.Bool.{Bool, true, false}
 use mathlib.Core.List.{List}
 use Prim.Native.Nat.{ℕ}
-use Rattle.rules.specs.Table.{fits, sound}
-use Rattle.rules.specs.Answers.{Answer, sizes, unsound, isSound, refused}
-use Rattle.rules.specs.Calls.{outcome, formCheck}
-use Rattle.table.specs.Sizes.{sizeIn, SoundTable}
-use Rattle.table.specs.declared.size.Sizing.{Sizing}
-use Rattle.table.specs.declared.size.Sizing.the-variants.{Fit, Misfit}
+use Rattle.layout.specs.Table.{fits, sound}
+use Rattle.calls.specs.Answers.{Answer, sizes, unsound, isSound, refused}
+use Rattle.calls.specs.Calls.{outcome, formCheck}
+use Rattle.size.specs.Sizes.{sizeIn, SoundTable}
+use Rattle.size.specs.declared.Sizing.{Sizing}
+use Rattle.size.specs.declared.Sizing.the-variants.{Fit, Misfit}
 use Rattle.form.specs.declared.Form.{Form}
 use Rattle.form.specs.declared.Form.the-variants.{Sizes, Unsound, Sound}
 

@@ -1,18 +1,16 @@
 // The form check: refusal 1, refusal 2, or sound, for any bytes. One pass over the records, one walk along the chains.
 ghost use mathlib.Core.Path.{_≡_};
-ghost use Rattle.rules.specs.Lists.{nth};
-ghost use Rattle.rules.specs.Table.{formed};
-ghost use Rattle.table.specs.Bytes.{laid};
-ghost use Rattle.table.specs.Sizes.{SizeOf, BenchIn};
-ghost use Rattle.table.specs.Records.{entryOf};
+ghost use Rattle.basics.specs.Lists.{nth};
+ghost use Rattle.layout.specs.Table.{formed};
+ghost use Rattle.words.specs.Bytes.{laid};
+ghost use Rattle.size.specs.Sizes.{SizeOf, BenchIn};
+ghost use Rattle.records.specs.Records.{entryOf};
 ghost use Rattle.form.specs.Check.{kindOf, counted, walked, allWalked};
 ghost use Rattle.form.specs.View.{Answered};
-use table::header;
-use table::heads;
-use table::records;
-use table::records::Record;
-use table::size::Size;
-use table::size::Sizing;
+use header::heads;
+use records::Record;
+use size::Size;
+use size::Sizing;
 
 // What the form check answers.
 pub enum Form {

@@ -9,19 +9,20 @@ use lib.Dec.{T}
 use lib.ListN.{length, set, length-set, List·getD-eq-default}
 use lib.Seq.{getD-set-same, getD-set-other}
 use borrow.Author.Tests.{eq-eqb, ne-eqb}
-use Rattle.rules.specs.Lists.{within, In, nth}
-use Rattle.rules.specs.Board.{Board, holderOf, namesOf, stands, load, namesFit}
-use Rattle.rules.specs.Table.{mostBenches, mostJobs, decode}
+use Rattle.basics.specs.Lists.{within, In, nth}
+use Rattle.layout.specs.Board.{Board, holderOf, namesOf, stands, load, namesFit}
+use Rattle.layout.specs.Table.{mostBenches, mostJobs, decode}
 use Rattle.rules.specs.Paths.{Step, stepBy, steps, endOf, Walk}
-use Rattle.rules.proofs.Basics.{T→true, within-low, within-high, within-both, is-empty, some-in, each-nth, two-elements, in-numbered, numbered-nth, length-values, length-shares, pair-fits}
-use Rattle.rules.proofs.Counting.{count-none, count-most}
+use Rattle.basics.proofs.Basics.{T→true, within-low, within-high, within-both, is-empty, some-in, each-nth, two-elements, in-numbered, numbered-nth, length-values}
+use Rattle.layout.proofs.Named.{length-shares, pair-fits}
+use Rattle.basics.proofs.Counting.{count-none, count-most}
 use Rattle.rules.proofs.Distances.{storable-one-other}
 use Rattle.rules.proofs.Paths.{named-stands, named-bench, shares-nth, held-named, holder-bench, step-is, is-step}
 use Rattle.rules.proofs.Search.{NumberedAway, NumberedTo}
 use Rattle.rules.proofs.Walks.{Reach, reach-here, reach-first}
-use Rattle.table.specs.Sizes.{BenchIn}
-use Rattle.table.specs.declared.size.Size.{Size}
-use Rattle.table.proofs.Sizes.{board-bench}
+use Rattle.size.specs.Sizes.{BenchIn}
+use Rattle.size.specs.declared.Size.{Size}
+use Rattle.size.proofs.Sizes.{board-bench}
 use Rattle.store.specs.View.{Kept, Loaded, Place, NameOf}
 use Rattle.store.proofs.Boards.{names-job, holder-most, stands-held, names-length}
 use Rattle.store.proofs.Counts.{holders-long}

@@ -9,28 +9,28 @@ use mathlib.Core.Option.{Option, none, some}
 use lib.Dec.{T}
 use lib.ListN.{length, take, length-map}
 use lib.Seq.{length-take-le}
-use Rattle.rules.specs.Board.{Board, load, namesOf}
-use Rattle.rules.specs.Table.{mostJobs, decode}
+use Rattle.layout.specs.Board.{Board, load, namesOf}
+use Rattle.layout.specs.Table.{mostJobs, decode}
 use Rattle.rules.specs.Paths.{BenchPath, stepBy, steps, pathBy, last, IsPath, improves, improvingFrom, improvingTo, flip}
 use Rattle.rules.specs.Sharing.{arrivalKey, closingKey, arrivalChoice, closingChoice}
-use Rattle.rules.proofs.Basics.{in-member, in-empty}
+use Rattle.basics.proofs.Basics.{in-member, in-empty}
 use Rattle.rules.proofs.Paths.{step-is, step-bench, improvingFrom-only, improvingTo-only, improves-loads, improves-start}
 use Rattle.rules.proofs.Choice.{least-empty}
 use Rattle.rules.proofs.Walks.{path-reach, reach-bench}
 use Rattle.rules.proofs.Distances.{To, Away, Greedy, greedy-walk, storable-one-other}
 use Rattle.rules.proofs.Found.{Lower, ArrivalEnd, Higher, ClosingStart, arrival-not-found, closing-not-found}
 use Rattle.rules.proofs.Search.{numbered-away, numbered-to, away-to, arrival-greedy, closing-greedy}
-use Rattle.table.specs.Sizes.{BenchIn}
-use Rattle.table.specs.declared.size.Size.{Size}
-use Rattle.table.proofs.Sizes.{job-in, board-bench}
+use Rattle.size.specs.Sizes.{BenchIn}
+use Rattle.size.specs.declared.Size.{Size}
+use Rattle.size.proofs.Sizes.{job-in, board-bench}
 use Rattle.store.specs.View.{Kept, Holds, Loaded}
 use Rattle.search.specs.Arrays.{at}
 use Rattle.search.specs.Spread.{Distances}
-use Rattle.search.specs.Ends.{Candidate, SomeBetter, Best, Chosen}
-use Rattle.search.specs.Route.{Follows, Routed}
+use Rattle.routes.specs.Ends.{Candidate, SomeBetter, Best, Chosen}
+use Rattle.routes.specs.Route.{Follows, Routed}
 use Rattle.paths.specs.Arcs.{ArcsOf}
 use Rattle.paths.specs.Turns.{stepsBy, Handable, handedBy, Along, lastOf, startOf, Turned}
-use Rattle.search.proofs.Choosing.{load-most}
+use Rattle.routes.proofs.Choosing.{load-most}
 use Rattle.paths.proofs.AsArcs.{loads-in, on-board, load-at, arc-step, step-arc, distances-away, distances-to}
 
 -- numbers taken from m come in the other order

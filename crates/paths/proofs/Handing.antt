@@ -7,15 +7,15 @@ use mathlib.Core.List.{List, [], _∷_, _++_}
 use lib.Dec.{T}
 use lib.ListN.{length, take}
 use lib.Seq.{length-take-le, take-suc, getD-take}
-use Rattle.rules.specs.Lists.{member, change}
-use Rattle.rules.specs.Board.{Board, namesOf, heldBy}
-use Rattle.rules.specs.Table.{mostBenches, mostJobs, decode}
+use Rattle.basics.specs.Lists.{member, change}
+use Rattle.layout.specs.Board.{Board, namesOf, heldBy}
+use Rattle.layout.specs.Table.{mostBenches, mostJobs, decode}
 use Rattle.rules.specs.Paths.{handOver}
-use Rattle.rules.proofs.Basics.{each-in, in-getD, member-in}
+use Rattle.basics.proofs.Basics.{each-in, in-getD, member-in}
 use Rattle.rules.proofs.Paths.{named-bench}
-use Rattle.table.specs.Sizes.{JobIn}
-use Rattle.table.specs.declared.size.Size.{Size}
-use Rattle.table.proofs.Sizes.{board-bench}
+use Rattle.size.specs.Sizes.{JobIn}
+use Rattle.size.specs.declared.Size.{Size}
+use Rattle.size.proofs.Sizes.{board-bench}
 use Rattle.store.specs.View.{Kept, Holds}
 use Rattle.search.specs.Arrays.{at}
 use Rattle.paths.specs.Turns.{stepsBy, Handable, handedBy}

@@ -5,10 +5,10 @@ use mathlib.Core.Bool.{cond}
 use mathlib.Core.List.{List, [], _∷_}
 use lib.Dec.{T, eqb}
 use lib.ListN.{length}
-use Rattle.rules.specs.Lists.{within}
-use Rattle.rules.specs.Board.{Board, namesOf, holderOf}
-use Rattle.rules.specs.Table.{mostJobs}
-use Rattle.table.specs.declared.size.Size.{Size}
+use Rattle.basics.specs.Lists.{within}
+use Rattle.layout.specs.Board.{Board, namesOf, holderOf}
+use Rattle.layout.specs.Table.{mostJobs}
+use Rattle.size.specs.declared.Size.{Size}
 use Rattle.search.specs.Arrays.{at}
 
 -- the first-named bench other than h, 0 where there is none

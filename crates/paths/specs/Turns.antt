@@ -5,15 +5,15 @@ use mathlib.Core.List.{List, map}
 use mathlib.Core.Option.{Option, none, some}
 use lib.Dec.{T}
 use lib.ListN.{length}
-use Rattle.rules.specs.Lists.{member, Each}
-use Rattle.rules.specs.Board.{Board, namesOf, heldBy}
-use Rattle.rules.specs.Table.{decode}
+use Rattle.basics.specs.Lists.{member, Each}
+use Rattle.layout.specs.Board.{Board, namesOf, heldBy}
+use Rattle.layout.specs.Table.{decode}
 use Rattle.rules.specs.Paths.{Step, BenchPath, stepBy, last, handOver, flip}
-use Rattle.table.specs.Sizes.{JobIn}
-use Rattle.table.specs.declared.size.Size.{Size}
+use Rattle.size.specs.Sizes.{JobIn}
+use Rattle.size.specs.declared.Size.{Size}
 use Rattle.store.specs.View.{Holds}
 use Rattle.search.specs.Arrays.{at}
-use Rattle.search.specs.Route.{Follows}
+use Rattle.routes.specs.Route.{Follows}
 use Rattle.paths.specs.declared.turns.Turn.{Turn}
 
 -- jobs as steps, each to the bench at its number in `to`

@@ -2,13 +2,13 @@
 ghost use mathlib.Core.Path.{_≡_};
 ghost use Prim.Native.Nat.{_+_};
 ghost use lib.ListN.{length};
-ghost use Rattle.rules.specs.Board.{holderOf};
-ghost use Rattle.rules.specs.Table.{mostJobs, decode};
-ghost use Rattle.table.specs.Sizes.{JobIn};
+ghost use Rattle.layout.specs.Board.{holderOf};
+ghost use Rattle.layout.specs.Table.{mostJobs, decode};
+ghost use Rattle.size.specs.Sizes.{JobIn};
 ghost use Rattle.store.specs.View.{Kept};
 ghost use Rattle.paths.specs.Arcs.{OtherOf, ArcsOf};
 use store::jobs;
-use table::size::Size;
+use size::Size;
 
 // The other bench that job j names; 0 where it does not stand.
 fn other(t: &[u8], s: Size, j: usize, holder: usize) -> usize

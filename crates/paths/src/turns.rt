@@ -1,21 +1,21 @@
-// The path that the rule names is found and turned. A change of holders leaves the chains as they were: see store::chains::settle.
+// The path that the rule names is found and turned. A change of holders leaves the chains as they were: see chains::settle.
 ghost use Prim.Native.Nat.{_+_, _≤_};
 ghost use mathlib.Core.Path.{_≡_};
 ghost use lib.ListN.{length, take};
 ghost use Rattle.rules.specs.Sharing.{arrivalChoice, closingChoice};
-ghost use Rattle.rules.specs.Table.{mostBenches, decode};
-ghost use Rattle.table.specs.Sizes.{BenchIn};
+ghost use Rattle.layout.specs.Table.{mostBenches, decode};
+ghost use Rattle.size.specs.Sizes.{BenchIn};
 ghost use Rattle.store.specs.View.{Kept, Holds, Loaded};
 ghost use Rattle.search.specs.Arrays.{at};
-ghost use Rattle.search.specs.Route.{Falls};
+ghost use Rattle.routes.specs.Route.{Falls};
 ghost use Rattle.paths.specs.Arcs.{ArcsOf};
 ghost use Rattle.paths.specs.Turns.{Handable, handedBy, Along, lastOf, startOf, Turned};
-use search::ends;
-use search::route;
+use routes::ends;
+use routes::route;
 use search::scratch;
 use search::spread;
 use store::jobs;
-use table::size::Size;
+use size::Size;
 
 // What turning a path did: the bench whose load changed beside the one that was asked for, or this one, and the jobs handed over.
 pub struct Turn {

@@ -8,15 +8,16 @@ use mathlib.Core.Bool.{Bool, true, false}
 use mathlib.Core.List.{List, [], _∷_}
 use lib.Dec.{T}
 use lib.ListN.{length, getD}
-use Rattle.rules.specs.Lists.{bit, within, member, different, total, greatest, all, Each, In}
-use Rattle.rules.specs.Board.{Board, Valid, load, excess, Shares, namesFit}
+use Rattle.basics.specs.Lists.{bit, within, member, different, total, greatest, all, Each, In}
+use Rattle.layout.specs.Board.{Board, Valid, load, excess, Shares, namesFit}
 use Rattle.rules.specs.Paths.{Step, stepBy, steps}
 use Rattle.rules.specs.Sharing.{inside, density}
-use Rattle.rules.proofs.Basics.{true→T, Compared, same, other, compared, T-eqb, within-low, within-high, within-both, all-in, in-each, member-in, Member, is-in, not-in, membered, length-shares, fit-bench}
-use Rattle.rules.proofs.Counting.{bit-same, bit-other, total-add, total-times, total-same, total-le, total-but-one, size, size-le, size-once, greatest-above}
+use Rattle.basics.proofs.Basics.{true→T, Compared, same, other, compared, T-eqb, within-low, within-high, within-both, all-in, in-each, member-in, Member, is-in, not-in, membered}
+use Rattle.layout.proofs.Named.{length-shares, fit-bench}
+use Rattle.basics.proofs.Counting.{bit-same, bit-other, total-add, total-times, total-same, total-le, total-but-one, size, size-le, size-once, greatest-above}
 use Rattle.rules.proofs.Paths.{is-step}
 use Rattle.rules.proofs.Sets.{density-least, inside-skips, inside-counts}
-use Rattle.rules.proofs.JobBook.{excess-none}
+use Rattle.layout.proofs.Loads.{excess-none}
 
 -- the load of a bench of the set, 0 for other benches
 abbrev loadIn : List ℕ → List ℕ → ℕ → ℕ

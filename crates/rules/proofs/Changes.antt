@@ -9,13 +9,14 @@ use mathlib.Core.Option.{Option, none, some}
 use lib.Dec.{T, eqb}
 use borrow.Author.Tests.{lt-ltb, le-ltb}
 use lib.ListN.{length}
-use Rattle.rules.specs.Lists.{within, different, keep, In, empty, nth, change}
-use Rattle.rules.specs.Board.{load, Board, Valid, namesOf, holderOf, stands, put, namesFit}
+use Rattle.basics.specs.Lists.{within, different, keep, In, empty, nth, change}
+use Rattle.layout.specs.Board.{load, Board, Valid, namesOf, holderOf, stands, put, namesFit}
 use Rattle.rules.specs.Paths.{BenchPath, last, jobs, IsPath, flip}
 use Rattle.rules.specs.Sharing.{Change, getter, arrivalChoice, closingChoice, afterArrival, afterClosing, arrive, close}
 use Rattle.rules.specs.Demand2.{OneMore, handed}
-use Rattle.rules.proofs.Basics.{both, left, right, differ, within-low, within-high, within-both, not-empty, is-empty, nth-change-same, nth-change-other, Member, is-in, not-in, membered, keep-different, others-in, length-shares, fit-bench}
-use Rattle.rules.proofs.Counting.{total-tested}
+use Rattle.basics.proofs.Basics.{both, left, right, differ, within-low, within-high, within-both, not-empty, is-empty, nth-change-same, nth-change-other, Member, is-in, not-in, membered, keep-different, others-in}
+use Rattle.layout.proofs.Named.{length-shares, fit-bench}
+use Rattle.basics.proofs.Counting.{total-tested}
 use Rattle.rules.proofs.Paths.{stands-within, named-may, holder-bench, holder-none, improvingFrom-only, improvingTo-only}
 use Rattle.rules.proofs.Choice.{arrival-choice, closing-choice}
 use Rattle.rules.proofs.Sets.{getter-in}

@@ -1,5 +1,5 @@
 -- The choice of a path: the dictionary order, the least by key, and the three orders of 01 in their own words.
-use Prim.Native.Nat.{ℕ, _≤_, _<_}
+use Prim.Native.Nat.{ℕ, _<_}
 use native.Mathlib.Omega.{arith}
 use native.Mathlib.Decide.{decLt}
 use mathlib.Core.Path.{_≡_, refl, sym, ap, ap₂, subst, _∙_}
@@ -9,13 +9,13 @@ use mathlib.Core.List.{List, [], _∷_}
 use mathlib.Core.Option.{Option, none, some}
 use lib.Dec.{T, eqb, ltb, ltb→lt, lt→ltb}
 use lib.ListN.{length}
-use Rattle.rules.specs.Lists.{within, dictionary, In, empty, better, least}
-use Rattle.rules.specs.Board.{Board, holderOf, load, heaviest}
+use Rattle.basics.specs.Lists.{within, dictionary, In, empty, better, least}
+use Rattle.layout.specs.Board.{Board, holderOf, load}
 use Rattle.rules.specs.Paths.{Step, steps, BenchPath, endOf, last, jobs, Walk, IsPath, improves, improvingFrom, improving, improvingTo}
 use Rattle.rules.specs.Sharing.{below, arrivalKey, closingKey, levellingKey, arrivalChoice, closingChoice, levellingChoice, level}
-use Rattle.rules.proofs.Basics.{true→T, both, left, right, either, or-left, or-right, T-eqb, eqb-T, within-low, within-high}
-use Rattle.rules.proofs.Counting.{greatest-above}
+use Rattle.basics.proofs.Basics.{true→T, both, left, right, either, or-left, or-right, T-eqb, eqb-T}
 use Rattle.rules.proofs.Paths.{step-is, jobsOf, improvingFrom-only, improving-only, improvingTo-only}
+use Rattle.layout.proofs.Loads.{load-heaviest}
 
 -- the dictionary order
 
@@ -167,11 +167,6 @@ pub levellingKey-one : (b : Board) (p q : BenchPath) → IsPath b p → IsPath b
 levellingKey-one b p q m n e = path-fixed b p q m n (cc) (cc)
 
 -- the orders in words
-
--- no bench is above the heaviest
-pub load-heaviest : (b : Board) (x : ℕ) → T (within 1 (b .benches) x) → load (b .holders) x ≤ heaviest b
-unfolding heaviest
-load-heaviest b x t = greatest-above (b .benches) (load (b .holders)) x (within-low 1 (b .benches) x t) (within-high 1 (b .benches) x t)
 
 -- the first numbers decide, and if they are equal the rests
 decided : {A E B : Type 0} (x y : ℕ) (k l : List ℕ) → ((x < y) ↔ A) → ((x ≡ y) ↔ E) → (T (dictionary k l) ↔ B) → T (dictionary (x ∷ k) (y ∷ l)) ↔ (A ⊎ (E × B))

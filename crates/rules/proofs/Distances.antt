@@ -7,11 +7,11 @@ use mathlib.Core.Logic.{inl, inr, _≢_}
 use mathlib.Core.List.{List, [], _∷_}
 use lib.Dec.{T, leb}
 use lib.ListN.{length}
-use Rattle.rules.specs.Lists.{within, different, dictionary, Each, In}
-use Rattle.rules.specs.Board.{Board, Valid, namesOf, holderOf}
+use Rattle.basics.specs.Lists.{within, different, dictionary, Each, In}
+use Rattle.layout.specs.Board.{Board, Valid, namesOf, holderOf}
 use Rattle.rules.specs.Paths.{Step, steps, endOf, Walk}
-use Rattle.rules.specs.Table.{paired, Storable}
-use Rattle.rules.proofs.Basics.{T-eqb, T-leb, leb-T, each-in, in-each, each-nth}
+use Rattle.layout.specs.Table.{paired, Storable}
+use Rattle.basics.proofs.Basics.{T-eqb, T-leb, leb-T, each-in, in-each, each-nth}
 use Rattle.rules.proofs.Paths.{shares-nth, held-named, step-is, benchesOf, jobsOf}
 use Rattle.rules.proofs.Choice.{dictionary-lower, dictionary-same}
 use Rattle.rules.proofs.Walks.{fewest-once}

@@ -8,11 +8,12 @@ use mathlib.Core.Bool.{not}
 use mathlib.Core.List.{List, [], _∷_}
 use lib.Dec.{T, eqb}
 use lib.ListN.{length}
-use Rattle.rules.specs.Lists.{bit, within, member, different, In, nth, change}
-use Rattle.rules.specs.Board.{Board, Valid, namesOf, holderOf, stands, put, load, mayHold, Shares, namesFit}
+use Rattle.basics.specs.Lists.{bit, within, member, different, In, nth, change}
+use Rattle.layout.specs.Board.{Board, Valid, namesOf, holderOf, stands, put, load, mayHold, Shares, namesFit}
 use Rattle.rules.specs.Paths.{Step, steps, BenchPath, endOf, last, jobs, Walk, IsPath, handOver, flip}
-use Rattle.rules.proofs.Basics.{true→T, both, within-low, within-high, nth-change-same, nth-change-other, length-change, change-same, each-change, map-in, not-member, different-head, different-tail, length-shares}
-use Rattle.rules.proofs.Counting.{count-change}
+use Rattle.basics.proofs.Basics.{true→T, both, within-low, within-high, nth-change-same, nth-change-other, length-change, change-same, each-change, map-in, not-member, different-head, different-tail}
+use Rattle.layout.proofs.Named.{length-shares}
+use Rattle.basics.proofs.Counting.{count-change}
 use Rattle.rules.proofs.Paths.{stands-within, named-stands, named-may, step-is, benchesOf, jobsOf}
 
 -- writing a job's names and its bench anew leaves a sharing ..

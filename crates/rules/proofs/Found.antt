@@ -8,11 +8,11 @@ use mathlib.Core.List.{List, _∷_}
 use mathlib.Core.Option.{none, some}
 use lib.Dec.{T}
 use lib.ListN.{length}
-use Rattle.rules.specs.Lists.{within, different, dictionary, In}
-use Rattle.rules.specs.Board.{Board, Valid, load}
+use Rattle.basics.specs.Lists.{within, different, dictionary, In}
+use Rattle.layout.specs.Board.{Board, Valid, load}
 use Rattle.rules.specs.Paths.{Step, steps, BenchPath, pathBy, endOf, last, jobs, Walk, IsPath, improves, improvingFrom, improvingTo, improving}
 use Rattle.rules.specs.Sharing.{arrivalKey, closingKey, arrivalChoice, closingChoice, levellingChoice, level}
-use Rattle.rules.proofs.Basics.{T→true, in-empty}
+use Rattle.basics.proofs.Basics.{T→true, in-empty}
 use Rattle.rules.proofs.Paths.{benchesOf, jobsOf, improvingFrom-only, improvingFrom-every, improves-loads, loads-improve, improves-start, improving-only, improving-every, improvingTo-only, improvingTo-every, level-exact}
 use Rattle.rules.proofs.Choice.{least-empty, ArrivalFirst, ClosingFirst, LevellingFirst, First, arrival-choice, closing-choice, levelling-choice}
 use Rattle.rules.proofs.Walks.{Reach, reach-more, reach-all, fewest-once, path-reach, reach-bench, level-reach}

@@ -8,13 +8,14 @@ use mathlib.Core.Bool.{Bool, not, _||_}
 use mathlib.Core.List.{List, []}
 use lib.Dec.{T, eqb, ltb, ltb→lt, lt→ltb}
 use lib.ListN.{length}
-use Rattle.rules.specs.Lists.{bit, within, In, empty, nth, change}
-use Rattle.rules.specs.Board.{Board, Valid, namesOf, holderOf, stands, put, load, excess, mayHold, Shares, namesFit, heldBy}
+use Rattle.basics.specs.Lists.{bit, within, In, empty, nth, change}
+use Rattle.layout.specs.Board.{Board, Valid, namesOf, holderOf, stands, put, load, excess, mayHold, Shares, namesFit, heldBy}
 use Rattle.rules.specs.Paths.{Step, steps}
 use Rattle.rules.specs.Sharing.{arrivalChoice, closingChoice, getter, arrive, close, level}
 use Rattle.rules.specs.Demand2.{OneMore}
-use Rattle.rules.proofs.Basics.{either, or-left, or-right, Compared, same, other, compared, T-eqb, eqb-T, within-low, within-high, within-both, is-empty, nth-change-same, length-change, length-shares, fit-bench}
-use Rattle.rules.proofs.Counting.{bit-other}
+use Rattle.basics.proofs.Basics.{either, or-left, or-right, Compared, same, other, compared, T-eqb, eqb-T, within-low, within-high, within-both, is-empty, nth-change-same, length-change}
+use Rattle.layout.proofs.Named.{length-shares, fit-bench}
+use Rattle.basics.proofs.Counting.{bit-other}
 use Rattle.rules.proofs.Paths.{stands-within, named-may, shares-nth, holder-bench, step-is}
 use Rattle.rules.proofs.Sets.{getter-in}
 use Rattle.rules.proofs.Walks.{Reach, reach-here, reach-more, reach-all, reach-bench, level-reach}

@@ -3,23 +3,22 @@ use Prim.Native.Nat.{ℕ, zero, suc, _+_, _-_, _≤_, _<_}
 use native.Mathlib.Omega.{arith}
 use native.Mathlib.Decide.{decLt}
 use mathlib.Core.Path.{_≡_, refl, sym, ap, _∙_}
-use mathlib.Core.Logic.{_↔_, _≢_}
-use mathlib.Core.Bool.{Bool, true, false, cond, not}
+use mathlib.Core.Logic.{_≢_}
+use mathlib.Core.Bool.{Bool, cond}
 use mathlib.Core.Option.{Option, none, some}
-use lib.Dec.{T, not-T, eqb}
+use lib.Dec.{T, eqb}
 use lib.ListN.{length}
 use borrow.Author.Tests.{ne-eqb}
-use Rattle.rules.specs.Lists.{bit, within, total}
-use Rattle.rules.specs.Board.{Board, Valid, load}
-use Rattle.rules.specs.Table.{Storable}
+use Rattle.basics.specs.Lists.{bit, within, total}
+use Rattle.layout.specs.Board.{Board, Valid, load}
+use Rattle.layout.specs.Table.{Storable}
 use Rattle.rules.specs.Paths.{BenchPath, last, IsPath, improves, flip}
 use Rattle.rules.specs.Sharing.{levellingChoice, level, Levelled, relevel}
 use Rattle.rules.specs.Demand2.{Turns, rest, turn, LevellingReport}
-use Rattle.rules.specs.Answers.{levelled, stopped}
-use Rattle.rules.specs.Calls.{levellingOutcome}
-use Rattle.rules.proofs.Basics.{true→T, Compared, same, other, compared, eqb-refl, within-low, within-high, length-shares}
-use Rattle.rules.proofs.Counting.{bit-same, bit-other, total-but-one, total-count-le}
-use Rattle.rules.proofs.Paths.{improves-loads, improves-start, level-exact, unlevel-improves}
+use Rattle.basics.proofs.Basics.{Compared, same, other, compared, eqb-refl, within-low, within-high}
+use Rattle.layout.proofs.Named.{length-shares}
+use Rattle.basics.proofs.Counting.{bit-same, bit-other, total-but-one, total-count-le}
+use Rattle.rules.proofs.Paths.{improves-loads, improves-start, level-exact}
 use Rattle.rules.proofs.Choice.{choice-improves, choice-level, level-choice}
 use Rattle.rules.proofs.Walks.{path-reach, reach-bench}
 use Rattle.rules.proofs.Flip.{flip-loads, flip-valid}
@@ -75,31 +74,6 @@ turns-relevel n zero b c (turn m _ _ p e s) l d = absurd (omega arith)
 turns-relevel n (suc a) b c (turn m _ _ p e s) l d =
     let h = turns-relevel m a (flip b p) c s (omega arith) (λ k. d (omega arith)) in
     ap (turned a b) e ∙ ap (λ (r : Levelled). record { paths = suc (r .paths); board = r .board }) h
-
--- what an answer says of the test and the count behind it
-pub says-level : (n m : ℕ) (z : Bool) → (cond z (levelled n) (stopped n) ≡ levelled m) ↔ (T z × (n ≡ m))
-says-level n m true = (λ e. (tt, cc), λ d. ap levelled (d .1))
-says-level n m false = (λ e. absurd (true→T false cc), λ d. absurd (d .0))
-
-pub says-stopped : (n m : ℕ) (z : Bool) → (cond z (levelled n) (stopped n) ≡ stopped m) ↔ (T (not z) × (n ≡ m))
-says-stopped n m true = (λ e. absurd (true→T false cc), λ d. absurd (d .0))
-says-stopped n m false = (λ e. (tt, cc), λ d. ap stopped (d .1))
-
--- "It reports the paths turned, and "level" if no improving path is left, else "stopped"."
-pub levelling-says-level : (r : Levelled) → Valid (r .board) → ((levellingOutcome r) .answer ≡ levelled (r .paths)) ↔ ((p : BenchPath) → IsPath (r .board) p → T (improves (r .board) p) → ⊥)
-unfolding levellingOutcome
-levelling-says-level r v =
-    let s = says-level (r .paths) (r .paths) (level (r .board)) in
-    let l = level-exact (r .board) v in
-    (λ e. l .0 (s .0 e .0), λ f. s .1 (l .1 f, refl))
-
--- .. and "stopped" exactly if one is
-pub levelling-says-stopped : (r : Levelled) → Valid (r .board) → ((levellingOutcome r) .answer ≡ stopped (r .paths)) ↔ ((p : BenchPath) × IsPath (r .board) p × T (improves (r .board) p))
-unfolding levellingOutcome
-levelling-says-stopped r v =
-    let s = says-stopped (r .paths) (r .paths) (level (r .board)) in
-    let l = level-exact (r .board) v in
-    (λ e. unlevel-improves (r .board) (s .0 e .0), λ q. s .1 (not-T (level (r .board)) (λ t. l .0 t (q .0) (q .1) (q .2)), refl))
 
 -- on a level board nothing moves
 pub level-rests : (allowance : ℕ) (b : Board) → T (level b) → relevel allowance b ≡ record { paths = 0; board = b }

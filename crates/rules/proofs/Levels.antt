@@ -7,17 +7,17 @@ use mathlib.Core.Bool.{Bool, not}
 use mathlib.Core.List.{List, [], _∷_}
 use lib.Dec.{T, leb, eqb}
 use lib.ListN.{length}
-use Rattle.rules.specs.Lists.{bit, within, greatest, keep, Each, empty}
-use Rattle.rules.specs.Board.{Board, Valid, standing, load, heaviest, excess, Shares, heldBy, namesFit}
+use Rattle.basics.specs.Lists.{bit, within, greatest, keep, Each, empty}
+use Rattle.layout.specs.Board.{Board, Valid, standing, load, heaviest, excess, Shares, heldBy, namesFit}
 use Rattle.rules.specs.Paths.{BenchPath, last, IsPath, improves, flip}
 use Rattle.rules.specs.Sharing.{level, tightSet, inside, density}
 use Rattle.rules.specs.Demand2.{LeastOverhang, Demand2}
-use Rattle.rules.proofs.Basics.{Compared, same, other, compared, T-leb, leb-T, within-low, within-high, within-both, member-in, fit-bench}
-use Rattle.rules.proofs.Counting.{bit-same, bit-other, total-but-one, greatest-above, greatest-most, greatest-reached}
+use Rattle.basics.proofs.Basics.{Compared, same, other, compared, T-leb, leb-T, within-low, within-high, within-both, member-in}
+use Rattle.layout.proofs.Named.{fit-bench}
+use Rattle.basics.proofs.Counting.{bit-same, bit-other, total-but-one, greatest-above, greatest-most, greatest-reached}
 use Rattle.rules.proofs.Paths.{improves-loads, improves-start, level-exact}
-use Rattle.rules.proofs.Choice.{load-heaviest}
+use Rattle.layout.proofs.Loads.{load-heaviest, excess-none, excess-load}
 use Rattle.rules.proofs.Sets.{density-between}
-use Rattle.rules.proofs.JobBook.{excess-none, excess-load}
 use Rattle.rules.proofs.Walks.{level-reach}
 use Rattle.rules.proofs.Certificate.{Proves, attained, proved-least, certificate}
 use Rattle.rules.proofs.TightSet.{brought-proves}

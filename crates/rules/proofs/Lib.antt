@@ -1,23 +1,8 @@
 -- What is proved of the rules.
-pub mod Basics
-pub mod Counting
-pub mod Boards
-pub mod Refusals
-pub mod Words
-pub mod Sound
-pub mod ChainEnds
-pub mod Layouts
-pub mod Encode
-pub mod Blanking
 pub mod Paths
 pub mod Choice
 pub mod Sets
-pub mod ChainOrder
-pub mod Tally
 pub mod Changes
-pub mod JobBook
-pub mod Counter
-pub mod Questions
 pub mod Walks
 pub mod TightSet
 pub mod Flip
@@ -31,10 +16,3 @@ pub mod Distances
 pub mod Found
 pub mod Search
 pub mod SearchInstance
-pub mod Outcomes
-pub mod Refused
-pub mod Results
-pub mod Demand3
-pub mod TallyRun
-pub mod CounterRun
-pub mod Instance

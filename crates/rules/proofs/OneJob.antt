@@ -8,12 +8,13 @@ use mathlib.Core.Bool.{Bool}
 use mathlib.Core.List.{List, []}
 use mathlib.Core.Option.{Option, none, some}
 use lib.Dec.{T, eqb}
-use Rattle.rules.specs.Lists.{bit, within, In, change}
-use Rattle.rules.specs.Board.{Board, Valid, namesOf, put, load, excess, mayHold, Shares, heldBy}
+use Rattle.basics.specs.Lists.{bit, within, In, change}
+use Rattle.layout.specs.Board.{Board, Valid, namesOf, put, load, excess, mayHold, Shares, heldBy}
 use Rattle.rules.specs.Paths.{Step, steps, BenchPath, last, IsPath, improvingFrom, improvingTo}
 use Rattle.rules.specs.Sharing.{Change, level, arrivalChoice, closingChoice, afterArrival, afterClosing}
-use Rattle.rules.proofs.Basics.{Compared, same, other, compared, nth-change-other, change-back, length-shares}
-use Rattle.rules.proofs.Counting.{bit-same, bit-other, bit-le}
+use Rattle.basics.proofs.Basics.{Compared, same, other, compared, nth-change-other, change-back}
+use Rattle.layout.proofs.Named.{length-shares}
+use Rattle.basics.proofs.Counting.{bit-same, bit-other, bit-le}
 use Rattle.rules.proofs.Paths.{step-is, is-step, improvingFrom-only, improvingFrom-every, improves-loads, loads-improve, improvingTo-only, improvingTo-every}
 use Rattle.rules.proofs.Choice.{ArrivalFirst, ClosingFirst, First, arrival-choice, arrival-none, closing-choice, closing-none}
 use Rattle.rules.proofs.Walks.{Reach, reach-path}

@@ -8,11 +8,11 @@ use mathlib.Core.List.{List, [], _∷_, _++_}
 use mathlib.Core.Option.{some}
 use lib.Dec.{T}
 use lib.ListN.{length, length-append, length-map}
-use Rattle.rules.specs.Lists.{within, In}
-use Rattle.rules.specs.Board.{Board, Valid, holderOf}
+use Rattle.basics.specs.Lists.{within, In}
+use Rattle.layout.specs.Board.{Board, Valid, holderOf}
 use Rattle.rules.specs.Paths.{Step, stepBy, steps, pathBy, endOf, Walk}
 use Rattle.rules.specs.Sharing.{arrivalChoice, closingChoice}
-use Rattle.rules.proofs.Counting.{different-count, few}
+use Rattle.basics.proofs.Counting.{different-count, few}
 use Rattle.rules.proofs.Paths.{named-stands, holder-bench, step-is, step-bench, benchesOf, walk-benches}
 use Rattle.rules.proofs.Walks.{walk-join, end-join, fewest-once}
 use Rattle.rules.proofs.Distances.{To, Away, Stays, Nearer, Next, Smallest, Greedy, OneOther, greedy-walk, smallest-first, greedy-smallest}

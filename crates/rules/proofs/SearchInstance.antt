@@ -8,11 +8,11 @@ use mathlib.Core.List.{List, [], _∷_}
 use mathlib.Core.Option.{some}
 use lib.Dec.{T}
 use lib.ListN.{getD}
-use Rattle.rules.specs.Lists.{within, In}
-use Rattle.rules.specs.Board.{Board, Valid, load}
+use Rattle.basics.specs.Lists.{within, In}
+use Rattle.layout.specs.Board.{Board, Valid, load}
 use Rattle.rules.specs.Paths.{Step, stepBy, steps, pathBy}
 use Rattle.rules.specs.Sharing.{arrivalChoice}
-use Rattle.rules.proofs.Basics.{within-high}
+use Rattle.basics.proofs.Basics.{within-high}
 use Rattle.rules.proofs.Paths.{step-bench}
 use Rattle.rules.proofs.Distances.{Greedy, pairs-one-other}
 use Rattle.rules.proofs.Found.{ArrivalEnd}

@@ -8,11 +8,11 @@ use mathlib.Core.Bool.{Bool, not}
 use mathlib.Core.List.{List, [], _∷_, _++_}
 use lib.Dec.{T}
 use lib.ListN.{length}
-use Rattle.rules.specs.Lists.{within, member, different, In}
-use Rattle.rules.specs.Board.{Board, Valid, load}
+use Rattle.basics.specs.Lists.{within, member, different, In}
+use Rattle.layout.specs.Board.{Board, Valid, load}
 use Rattle.rules.specs.Paths.{Step, steps, BenchPath, pathBy, endOf, last, Walk, IsPath}
 use Rattle.rules.specs.Sharing.{level}
-use Rattle.rules.proofs.Basics.{T→true, both, not-member, Member, is-in, not-in, membered, different-tail}
+use Rattle.basics.proofs.Basics.{T→true, both, not-member, Member, is-in, not-in, membered, different-tail}
 use Rattle.rules.proofs.Paths.{step-bench, benchesOf, improves-loads, loads-improve, level-exact}
 
 module _ (out : ℕ → List Step) where

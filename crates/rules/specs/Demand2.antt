@@ -7,8 +7,8 @@ use mathlib.Core.List.{List, []}
 use mathlib.Core.Option.{some}
 use lib.Dec.{eqb}
 use lib.ListN.{length}
-use Rattle.rules.specs.Lists.{bit, total, change}
-use Rattle.rules.specs.Board.{Board, holderOf, standing, load, heaviest, excess, Shares, heldBy}
+use Rattle.basics.specs.Lists.{bit, total, change}
+use Rattle.layout.specs.Board.{Board, holderOf, standing, load, heaviest, excess, Shares, heldBy}
 use Rattle.rules.specs.Paths.{BenchPath, flip}
 use Rattle.rules.specs.Sharing.{levellingChoice, tightSet, inside, density}
 

@@ -1,1 +1,1 @@
-// The rules of the job board: definitions in specs/, what is proved of them in proofs/. No code.
+// The rules of the sharing: definitions in specs/, what is proved of them in proofs/. No code.

@@ -1,6 +1,3 @@
--- Lists, searches, ends, routes: the laws behind each.
+-- Lists by key, breadth-first search.
 pub mod Listing
 pub mod Widening
-pub mod Choosing
-pub mod Routing
-pub mod Starting

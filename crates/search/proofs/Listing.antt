@@ -8,11 +8,11 @@ use mathlib.Core.List.{List}
 use lib.Dec.{T}
 use lib.ListN.{length, getD, set, replicate, length-set, length-replicate, List·getD-eq-default}
 use lib.Seq.{getD-set-same, getD-set-other}
-use Rattle.rules.specs.Lists.{within}
-use Rattle.rules.specs.Table.{mostBenches, mostJobs}
-use Rattle.rules.proofs.Basics.{within-low, within-high, within-both, each-replicate, each-getD}
-use Rattle.table.specs.Sizes.{Limits}
-use Rattle.table.specs.declared.size.Size.{Size}
+use Rattle.basics.specs.Lists.{within}
+use Rattle.layout.specs.Table.{mostBenches, mostJobs}
+use Rattle.basics.proofs.Basics.{within-low, within-high, within-both, each-replicate, each-getD}
+use Rattle.size.specs.Sizes.{Limits}
+use Rattle.size.specs.declared.Size.{Size}
 use Rattle.search.specs.Arrays.{at, Leads, Arcs, LoadsIn}
 use Rattle.search.specs.Lists.{LeastFrom, Listable, ListedBy, On, head, tail, Joins, Ways}
 

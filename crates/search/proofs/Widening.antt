@@ -10,15 +10,15 @@ use lib.Dec.{T, ltb}
 use lib.ListN.{length, set, replicate, length-set}
 use lib.Seq.{getD-set-same, getD-set-other}
 use borrow.Author.Tests.{lt-ltb, le-ltb, eq-eqb, ne-eqb}
-use Rattle.rules.specs.Lists.{bit, within, total}
-use Rattle.rules.specs.Table.{mostBenches, mostJobs}
-use Rattle.rules.proofs.Basics.{Compared, same, other, compared, within-low, within-high}
-use Rattle.rules.proofs.Counting.{bit-le, total-most, total-but-one}
-use Rattle.table.specs.Sizes.{Limits}
-use Rattle.table.specs.declared.size.Size.{Size}
-use Rattle.search.specs.Arrays.{at, Arcs}
+use Rattle.basics.specs.Lists.{bit, within, total}
+use Rattle.layout.specs.Table.{mostBenches, mostJobs}
+use Rattle.basics.proofs.Basics.{Compared, same, other, compared, within-low, within-high, within-both}
+use Rattle.basics.proofs.Counting.{bit-le, total-most, total-but-one}
+use Rattle.size.specs.Sizes.{Limits, BenchIn}
+use Rattle.size.specs.declared.Size.{Size}
+use Rattle.search.specs.Arrays.{at, Arcs, Leads, Reached, here, step}
 use Rattle.search.specs.Lists.{On, head, Joins, Ways, ListedBy}
-use Rattle.search.specs.Spread.{Queued, FoundOne, Widened, Stays, Spread}
+use Rattle.search.specs.Spread.{Queued, FoundOne, Widened, Stays, Spread, Distances}
 use Rattle.search.proofs.Listing.{array-at, array-long, on-some, on-next, Rises, on-above, on-most, on-split, left, left-less, joins-leads}
 
 -- the count of found benches
@@ -559,3 +559,45 @@ module _ {Joined : ℕ → ℕ → Type 0} {v found : ℕ} {queue dist : List �
 -- arcs on the lists lead to benches
 pub ways-leads : {first next to : List ℕ} → Ways first next to → (x y : ℕ) → T (within 1 mostBenches x) → Joins first next to x y → 1 ≤ y
 ways-leads {to = to} w x y t (a, o, e) = omega (arith, within-low 1 mostBenches (at to a) (w .leads x a t o))
+
+-- distances
+
+-- a bench of a size within the limits
+pub bench-within : (s : Size) (x : ℕ) → Limits s → BenchIn s x → T (within 1 mostBenches x)
+bench-within s x l b = within-both 1 mostBenches x (b .least) (omega arith)
+
+-- a search that starts with no bench numbered gives the distances
+blank-distances : {s : Size} {from to first next : List ℕ} → Limits s → Arcs s from to → ListedBy (mostBenches + 1) (s .jobs) from first next → {v : ℕ} → BenchIn s v → {found : ℕ} {queue dist₀ dist : List ℕ} → ((y : ℕ) → at dist₀ y ≡ 0) → Spread (Joins first next to) v 0 dist₀ found queue dist → Distances s from to v dist
+blank-distances {s} {from} {to} l r e {v} b {dist = dist} blank p =
+    record {
+      bench = λ y h. bench y (at dist y) refl h;
+      most = λ y. omega (arith, p .queued .most y, queued-few (p .queued));
+      here = p .first (blank v);
+      only = λ y. p .only y (blank y);
+      comes = comes;
+      on = λ z y h j. let q = p .on z y (blank z) h ((joins-leads l r e z y) .1 j) in (q .0, q .1 (blank y));
+    }
+  where
+    comes : (y n : ℕ) → at dist y ≡ suc (suc n) → (z : ℕ) × (at dist z ≡ suc n) × Leads (s .jobs) from to z y
+    comes y n d =
+        let q = p .comes y n (blank y) d in
+        (q .0, q .2, (joins-leads l r e (q .0) y) .0 (q .3))
+
+    -- a bench with a number is v, or an arc leads to it
+    bench : (y n : ℕ) → at dist y ≡ n → 1 ≤ at dist y → BenchIn s y
+    bench y zero d h = absurd (omega arith)
+    bench y (suc zero) d h = subst (BenchIn s) (sym (p .only y (blank y) d)) b
+    bench y (suc (suc n)) d h =
+        let q = comes y n d in
+        let z = within-low 1 mostBenches (q .0) (p .bench (q .0) (blank (q .0)) (omega (arith, q .1))) in
+        let a = q .2 in
+        subst (BenchIn s) (a .3) (r .leads (a .0) (a .1) (omega (arith, a .2)))
+
+-- a search that starts with nothing found gives the distances
+pub spread-distances : {s : Size} {from to first next : List ℕ} → Limits s → Arcs s from to → ListedBy (mostBenches + 1) (s .jobs) from first next → {v : ℕ} → BenchIn s v → {found : ℕ} {queue dist : List ℕ} → Spread (Joins first next to) v 0 (replicate (mostBenches + 1) 0) found queue dist → Distances s from to v dist
+spread-distances l r e b p = blank-distances l r e b (array-at (mostBenches + 1) refl) p
+
+-- what is reached by one relation's steps is reached by another's, if that has the same steps
+pub reached-same : {A B : ℕ → ℕ → Type 0} → ((x y : ℕ) → A x y → B x y) → (x y : ℕ) → Reached A x y → Reached B x y
+reached-same f x _ (here _) = here x
+reached-same f x y (step _ z _ j r) = step x z y (f x z j) (reached-same f z y r)

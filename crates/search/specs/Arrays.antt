@@ -2,13 +2,19 @@
 -- not count.
 use Prim.Native.Nat.{ℕ, _+_, _≤_, _<_}
 use mathlib.Core.Path.{_≡_}
+use mathlib.Core.Bool.{Bool, true, false}
 use mathlib.Core.List.{List}
 use lib.Dec.{T}
 use lib.ListN.{length, getD}
-use Rattle.rules.specs.Lists.{within}
-use Rattle.rules.specs.Table.{mostBenches, mostJobs}
-use Rattle.table.specs.Sizes.{BenchIn}
-use Rattle.table.specs.declared.size.Size.{Size}
+use Rattle.basics.specs.Lists.{within}
+use Rattle.layout.specs.Table.{mostBenches, mostJobs}
+use Rattle.size.specs.Sizes.{BenchIn}
+use Rattle.size.specs.declared.Size.{Size}
+
+-- what a test tells
+abbrev pub Tells : Type 0 → Bool → Type 0
+Tells P true = P
+Tells P false = P → ⊥
 
 -- the number at place i, 0 beyond the array
 abbrev pub at : List ℕ → ℕ → ℕ

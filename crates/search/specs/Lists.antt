@@ -5,8 +5,8 @@ use mathlib.Core.Logic.{_⊎_, _≢_}
 use mathlib.Core.List.{List}
 use lib.Dec.{T}
 use lib.ListN.{length}
-use Rattle.rules.specs.Lists.{within}
-use Rattle.rules.specs.Table.{mostBenches, mostJobs}
+use Rattle.basics.specs.Lists.{within}
+use Rattle.layout.specs.Table.{mostBenches, mostJobs}
 use Rattle.search.specs.Arrays.{at}
 
 -- r is the least number of i to n whose key is k, 0 where there is none

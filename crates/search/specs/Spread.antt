@@ -5,10 +5,10 @@ use mathlib.Core.Bool.{cond}
 use mathlib.Core.List.{List}
 use lib.Dec.{T, eqb, ltb}
 use lib.ListN.{length, set}
-use Rattle.rules.specs.Lists.{bit, within, total}
-use Rattle.rules.specs.Table.{mostBenches}
-use Rattle.table.specs.Sizes.{BenchIn}
-use Rattle.table.specs.declared.size.Size.{Size}
+use Rattle.basics.specs.Lists.{bit, within, total}
+use Rattle.layout.specs.Table.{mostBenches}
+use Rattle.size.specs.Sizes.{BenchIn}
+use Rattle.size.specs.declared.Size.{Size}
 use Rattle.search.specs.Arrays.{at, Leads}
 
 -- `found` benches have a number in `dist`; no number is more than they are

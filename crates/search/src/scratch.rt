@@ -2,8 +2,8 @@
 ghost use mathlib.Core.Path.{_≡_};
 ghost use Prim.Native.Nat.{_+_};
 ghost use lib.ListN.{replicate};
-ghost use Rattle.rules.specs.Table.{mostBenches, mostJobs};
-use table::size::Size;
+ghost use Rattle.layout.specs.Table.{mostBenches, mostJobs};
+use size::Size;
 
 pub fn benches() -> [u16; Size::MOST_BENCHES + 1]
     ensures { λ r. ⌜ r ≡ replicate (mostBenches + 1) 0 ⌝ }

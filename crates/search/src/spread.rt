@@ -4,15 +4,15 @@ ghost use Prim.Native.Nat.{suc, _≤_, _+_};
 ghost use mathlib.Core.Path.{_≡_};
 ghost use lib.Dec.{T};
 ghost use lib.ListN.{replicate};
-ghost use Rattle.rules.specs.Lists.{within};
-ghost use Rattle.rules.specs.Table.{mostBenches};
-ghost use Rattle.table.specs.Sizes.{Limits, BenchIn};
+ghost use Rattle.basics.specs.Lists.{within};
+ghost use Rattle.layout.specs.Table.{mostBenches};
+ghost use Rattle.size.specs.Sizes.{Limits, BenchIn};
 ghost use Rattle.search.specs.Arrays.{at, Arcs};
 ghost use Rattle.search.specs.Lists.{Ways, Joins};
 ghost use Rattle.search.specs.Spread.{Queued, FoundOne, Widened, Stays, Spread, Distances};
 use crate::lists;
 use crate::scratch;
-use table::size::Size;
+use size::Size;
 
 // Bench y with number k at the end of the queue, unless it was found before; how many are found then.
 fn find(

@@ -9,22 +9,24 @@ use mathlib.Core.Option.{Option, none, some}
 use lib.Dec.{T, eqb}
 use lib.ListN.{length, length-map}
 use borrow.Author.Tests.{lt-ltb, le-ltb}
-use Rattle.rules.specs.Lists.{bit, count, keep, In}
-use Rattle.rules.specs.Board.{Board, Valid, holderOf, stands, put, load, namesFit}
+use Rattle.basics.specs.Lists.{bit, count, keep, In}
+use Rattle.layout.specs.Board.{Board, Valid, holderOf, stands, put, load, namesFit}
 use Rattle.rules.specs.Paths.{Step, BenchPath, jobs, IsPath}
 use Rattle.rules.specs.Sharing.{Change, getter, arrivalChoice, closingChoice, afterArrival, afterClosing, arrive, close}
-use Rattle.rules.specs.Table.{decode, encode}
-use Rattle.rules.proofs.Basics.{Member, is-in, not-in, membered, in-member, nth-change-same, fit-bench}
-use Rattle.rules.proofs.Counting.{count-none, count-some, different-count, keep-counts}
+use Rattle.layout.specs.Table.{decode, encode}
+use Rattle.basics.proofs.Basics.{Member, is-in, not-in, membered, in-member, nth-change-same}
+use Rattle.layout.proofs.Named.{fit-bench}
+use Rattle.basics.proofs.Counting.{count-none, count-some, different-count, keep-counts}
 use Rattle.rules.proofs.Paths.{holder-bench, improvingFrom-only}
 use Rattle.rules.proofs.Choice.{arrival-choice}
 use Rattle.rules.proofs.Sets.{getter-in}
 use Rattle.rules.proofs.Flip.{path-jobs, flip-moves, flip-keeps}
-use Rattle.rules.proofs.Outcomes.{MayArrive}
-use Rattle.table.specs.Sizes.{BenchIn, JobIn, SoundTable}
-use Rattle.table.specs.declared.size.Size.{Size}
-use Rattle.table.proofs.Sizes.{board-job, board-bench}
-use Rattle.store.specs.View.{Kept, Holds, HolderOf, Fillable, Settled}
+use Rattle.calls.proofs.Outcomes.{MayArrive}
+use Rattle.size.specs.Sizes.{BenchIn, JobIn, SoundTable}
+use Rattle.size.specs.declared.Size.{Size}
+use Rattle.size.proofs.Sizes.{board-job, board-bench}
+use Rattle.store.specs.View.{Kept, Holds, HolderOf, Fillable}
+use Rattle.chains.specs.Chains.{Settled}
 use Rattle.store.proofs.Boards.{sound-kept, stands-job}
 use Rattle.store.proofs.Counts.{holders-long}
 use Rattle.paths.specs.declared.turns.Turn.{Turn}

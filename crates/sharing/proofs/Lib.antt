@@ -1,4 +1,3 @@
--- Loads by the chains, arrival and closing, levelling.
+-- Loads by the chains, arrival and closing.
 pub mod ByChains
 pub mod Changing
-pub mod Turning

@@ -3,9 +3,9 @@ use Prim.Native.Nat.{ℕ}
 use mathlib.Core.Path.{_≡_}
 use mathlib.Core.List.{List, [], _∷_}
 use lib.ListN.{length}
-use Rattle.rules.specs.Board.{holderOf}
+use Rattle.layout.specs.Board.{holderOf}
 use Rattle.rules.specs.Sharing.{Change, arrive, close}
-use Rattle.rules.specs.Table.{decode, encode}
+use Rattle.layout.specs.Table.{decode, encode}
 use Rattle.paths.specs.declared.turns.Turn.{Turn}
 use Rattle.sharing.specs.declared.changes.Arrival.{Arrival}
 

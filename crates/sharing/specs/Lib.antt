@@ -1,3 +1,2 @@
--- What arrival, closing and levelling leave.
+-- What arrival and closing leave.
 pub mod Changes
-pub mod Levels

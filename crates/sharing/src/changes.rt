@@ -2,11 +2,11 @@
 ghost use mathlib.Core.Path.{_≡_};
 ghost use mathlib.Core.List.{[], _∷_};
 ghost use lib.Dec.{T};
-ghost use Rattle.rules.specs.Board.{stands};
+ghost use Rattle.layout.specs.Board.{stands};
 ghost use Rattle.rules.specs.Sharing.{getter, arrivalChoice, closingChoice};
-ghost use Rattle.rules.specs.Table.{decode};
-ghost use Rattle.rules.proofs.Outcomes.{MayArrive};
-ghost use Rattle.table.specs.Sizes.{BenchIn, SoundTable};
+ghost use Rattle.layout.specs.Table.{decode};
+ghost use Rattle.calls.proofs.Outcomes.{MayArrive};
+ghost use Rattle.size.specs.Sizes.{BenchIn, SoundTable};
 ghost use Rattle.store.specs.View.{Kept};
 ghost use Rattle.paths.specs.Turns.{lastOf, startOf, Turned};
 ghost use Rattle.sharing.specs.Changes.{ArrivalOf, ClosingOf};
@@ -15,10 +15,9 @@ use paths::arcs;
 use paths::turns;
 use paths::turns::Turn;
 use search::scratch;
-use store::chains;
 use store::jobs;
 use store::loads;
-use table::size::Size;
+use size::Size;
 
 // What an arrival reports: the bench that holds the new job in the end, the bench whose load rose, and the other jobs that changed holder.
 pub struct Arrival {

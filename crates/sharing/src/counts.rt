@@ -1,10 +1,9 @@
 // Loads by the chains: of one bench, and the heaviest.
 ghost use mathlib.Core.Path.{_≡_};
-ghost use Rattle.rules.specs.Board.{load, heaviest};
-ghost use Rattle.rules.specs.Table.{decode};
-ghost use Rattle.table.specs.Sizes.{BenchIn, SoundTable};
-use store::chains;
-use table::size::Size;
+ghost use Rattle.layout.specs.Board.{load, heaviest};
+ghost use Rattle.layout.specs.Table.{decode};
+ghost use Rattle.size.specs.Sizes.{BenchIn, SoundTable};
+use size::Size;
 
 // The load of bench x: the number of jobs on its chain.
 pub fn load(t: &[u8], s: Size, x: usize) -> usize

@@ -1,5 +1,4 @@
-// The sharing: loads, arrival, closing, levelling. It rests on the board that `store` sees and on the paths that `paths` turns, and
+// The sharing: loads, arrival, closing. It rests on the board that `store` sees and on the paths that `paths` turns, and
 // names no word of the table.
 pub mod changes;
 pub mod counts;
-pub mod levels;

@@ -1,5 +1,3 @@
--- Records as jobs, chains as lists of jobs, chains made anew, loads.
+-- Records as jobs, loads.
 pub mod Boards
-pub mod ChainView
-pub mod Settle
 pub mod Counts

@@ -1,3 +1,2 @@
--- What the functions promise: `View` for the crate above, `Chains` for making the chains anew.
+-- What the functions promise.
 pub mod View
-pub mod Chains

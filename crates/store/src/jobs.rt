@@ -3,14 +3,13 @@ ghost use mathlib.Core.Path.{_≡_};
 ghost use mathlib.Core.List.{[]};
 ghost use lib.Dec.{T};
 ghost use lib.ListN.{length};
-ghost use Rattle.rules.specs.Lists.{member, change};
-ghost use Rattle.rules.specs.Board.{namesOf, stands, put, heldBy};
-ghost use Rattle.rules.specs.Table.{decode};
-ghost use Rattle.table.specs.Sizes.{JobIn};
+ghost use Rattle.basics.specs.Lists.{member, change};
+ghost use Rattle.layout.specs.Board.{namesOf, stands, put, heldBy};
+ghost use Rattle.layout.specs.Table.{decode};
+ghost use Rattle.size.specs.Sizes.{JobIn};
 ghost use Rattle.store.specs.View.{Kept, Place, NameOf, HolderOf, Holds, Fillable};
-use table::records;
-use table::records::Record;
-use table::size::Size;
+use records::Record;
+use size::Size;
 
 // Whether job j stands.
 pub fn stands(t: &[u8], s: Size, j: usize) -> bool

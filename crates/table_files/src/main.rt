@@ -1,11 +1,11 @@
 // Prints, for each table file that its arguments name, what the form check answers (sound, 1 or 2), and the heaviest load or the
 // same refusal. The files and the expected answers were made by another implementation of document 01. A file's name tells what damage was
 // tried; where that changed nothing, the table is sound.
-ghost use Rattle.table.specs.Sizes.{SoundTable};
+ghost use Rattle.size.specs.Sizes.{SoundTable};
 use form::Form;
 use libc::STDOUT_FILENO;
 use store::loads;
-use table::size::Size;
+use size::Size;
 
 fn heaviest(loads: &[u16; Size::MOST_BENCHES + 1]) -> u16 {
     let mut most = 0;

@@ -7,28 +7,29 @@ use mathlib.Core.Bool.{Bool, true, false, cond, not, false≢true}
 use mathlib.Core.List.{List, [], _∷_, _++_, append-nil}
 use lib.Dec.{T, eqb}
 use lib.ListN.{length, getD, drop, replicate, length-append}
-use Rattle.rules.specs.Lists.{bit, within, count, member, rising, total, keep, In}
-use Rattle.rules.specs.Board.{Board, Valid, load, Shares}
+use Rattle.basics.specs.Lists.{bit, within, count, member, rising, total, keep, In}
+use Rattle.layout.specs.Board.{Board, Valid, load, Shares}
 use Rattle.rules.specs.Paths.{Step, stepBy, steps}
 use Rattle.rules.specs.Sharing.{tightSet, inside}
-use Rattle.rules.specs.Table.{mostBenches, mostJobs, decode, bytesOf}
-use Rattle.rules.proofs.Basics.{false→not, never→false, Compared, same, other, compared, T-eqb, within-low, within-both, in-each, keep-in, member-in, Member, is-in, not-in, membered, member-marked, length-shares, length-keep, length-rising}
-use Rattle.rules.proofs.Counting.{bit-other, total-same, total-count, keep-counts}
+use Rattle.layout.specs.Table.{mostBenches, mostJobs, decode, bytesOf}
+use Rattle.basics.proofs.Basics.{false→not, never→false, Compared, same, other, compared, T-eqb, within-low, within-both, in-each, keep-in, member-in, Member, is-in, not-in, membered, member-marked, length-keep, length-rising}
+use Rattle.layout.proofs.Named.{length-shares}
+use Rattle.basics.proofs.Counting.{bit-other, total-same, total-count, keep-counts}
 use Rattle.rules.proofs.Paths.{is-step}
 use Rattle.rules.proofs.Sets.{inside-skips, inside-counts}
-use Rattle.rules.proofs.Sound.{two-more, two-more-high}
+use Rattle.layout.proofs.Sound.{two-more, two-more-high}
 use Rattle.rules.proofs.TightSet.{tight-marked, tight-bench, tight-reached}
 use Rattle.rules.proofs.Walks.{Reach, reach-more, reach-all}
-use Rattle.table.specs.Bytes.{setWord}
-use Rattle.table.specs.Sizes.{Limits, BenchIn}
-use Rattle.table.specs.declared.size.Size.{Size}
-use Rattle.table.proofs.Bytes.{length-setWord}
-use Rattle.table.proofs.Sizes.{board-bench}
+use Rattle.words.specs.Bytes.{setWord}
+use Rattle.size.specs.Sizes.{Limits, BenchIn}
+use Rattle.size.specs.declared.Size.{Size}
+use Rattle.words.proofs.Bytes.{length-setWord}
+use Rattle.size.proofs.Sizes.{board-bench}
 use Rattle.store.specs.View.{Kept, Loaded}
 use Rattle.search.specs.Arrays.{at, Leads, LoadsIn}
 use Rattle.search.specs.Lists.{ListedBy, Joins}
 use Rattle.search.proofs.Listing.{array-at, joins-leads}
-use Rattle.search.proofs.Starting.{reached-same}
+use Rattle.search.proofs.Widening.{reached-same}
 use Rattle.paths.specs.Arcs.{ArcsOf}
 use Rattle.paths.proofs.AsArcs.{on-board, load-at, arcs-forth, step-arc, arcs-reach}
 use Rattle.tight.specs.Marks.{mark, Brings, marked, Measured, TightSet}

@@ -9,12 +9,12 @@ use mathlib.Core.List.{List}
 use lib.Dec.{T, T-not}
 use lib.ListN.{length, set, length-set}
 use lib.Seq.{getD-set-same, getD-set-other}
-use Rattle.rules.specs.Lists.{bit, within, total}
-use Rattle.rules.specs.Table.{mostBenches, mostJobs}
-use Rattle.rules.proofs.Basics.{true→T, T→true, false→not, within-low, within-high, Compared, same, other, compared}
-use Rattle.rules.proofs.Counting.{total-le, total-but-one}
-use Rattle.table.specs.Sizes.{BenchIn}
-use Rattle.table.specs.declared.size.Size.{Size}
+use Rattle.basics.specs.Lists.{bit, within, total}
+use Rattle.layout.specs.Table.{mostBenches, mostJobs}
+use Rattle.basics.proofs.Basics.{true→T, T→true, false→not, within-low, within-high, Compared, same, other, compared}
+use Rattle.basics.proofs.Counting.{total-le, total-but-one}
+use Rattle.size.specs.Sizes.{BenchIn}
+use Rattle.size.specs.declared.Size.{Size}
 use Rattle.search.specs.Arrays.{at, Reached, here, step}
 use Rattle.search.specs.Lists.{On, head, tail, Joins, Ways}
 use Rattle.search.proofs.Listing.{on-some, on-next, on-most, left, left-less}

@@ -1,16 +1,16 @@
 -- Marks, and what benches bring in.
-use Prim.Native.Nat.{ℕ, _+_, _≤_}
+use Prim.Native.Nat.{ℕ, _+_}
 use mathlib.Core.Path.{_≡_}
 use mathlib.Core.Logic.{_⊎_}
 use mathlib.Core.Bool.{Bool, false, cond, not}
 use mathlib.Core.List.{List}
 use lib.Dec.{T}
 use lib.ListN.{length, getD}
-use Rattle.rules.specs.Lists.{within, rising, keep, total}
-use Rattle.rules.specs.Board.{Board}
+use Rattle.basics.specs.Lists.{within, rising, keep, total}
+use Rattle.layout.specs.Board.{Board}
 use Rattle.rules.specs.Sharing.{tightSet, inside}
-use Rattle.rules.specs.Table.{mostBenches}
-use Rattle.table.specs.declared.size.Size.{Size}
+use Rattle.layout.specs.Table.{mostBenches}
+use Rattle.size.specs.declared.Size.{Size}
 use Rattle.search.specs.Arrays.{at, Reached}
 use Rattle.search.specs.Lists.{On}
 use Rattle.tight.specs.declared.set.Extent.{Extent}

@@ -4,8 +4,8 @@ ghost use mathlib.Core.Bool.{false};
 ghost use mathlib.Core.List.{_++_};
 ghost use Prim.Native.Nat.{_≤_, _+_, _*_};
 ghost use lib.ListN.{length, drop, replicate};
-ghost use Rattle.rules.specs.Table.{mostBenches, decode, bytesOf};
-ghost use Rattle.table.specs.Sizes.{Limits};
+ghost use Rattle.layout.specs.Table.{mostBenches, decode, bytesOf};
+ghost use Rattle.size.specs.Sizes.{Limits};
 ghost use Rattle.store.specs.View.{Kept};
 ghost use Rattle.search.specs.Arrays.{LoadsIn};
 ghost use Rattle.tight.specs.Marks.{marked, Measured, TightSet};
@@ -14,8 +14,7 @@ use paths::arcs;
 use search::lists;
 use search::scratch;
 use store::loads;
-use table::lent;
-use table::size::Size;
+use size::Size;
 
 // How many benches are in a set, and how many jobs they hold.
 pub struct Extent {
@@ -87,7 +86,7 @@ pub fn write(s: Size, marks: &[bool; Size::MOST_BENCHES + 1], list: &mut [u8])
     let mut x = 1;
     while x <= benches {
         if marks[x] {
-            lent::write_word(list, count, x);
+            words::write(list, count, x);
             count += 1;
         }
         x += 1;

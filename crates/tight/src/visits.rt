@@ -3,13 +3,13 @@
 ghost use mathlib.Core.Path.{_≡_};
 ghost use Prim.Native.Nat.{_≤_};
 ghost use lib.Dec.{T};
-ghost use Rattle.rules.specs.Lists.{within};
-ghost use Rattle.rules.specs.Table.{mostBenches};
-ghost use Rattle.table.specs.Sizes.{Limits, BenchIn};
+ghost use Rattle.basics.specs.Lists.{within};
+ghost use Rattle.layout.specs.Table.{mostBenches};
+ghost use Rattle.size.specs.Sizes.{Limits, BenchIn};
 ghost use Rattle.search.specs.Arrays.{at, LoadsIn};
 ghost use Rattle.search.specs.Lists.{Ways, Joins};
 ghost use Rattle.tight.specs.Marks.{Marks, OnChain, FromList, Brings};
-use table::size::Size;
+use size::Size;
 
 // Bench x and what it brings in are marked.
 fn visit(

@@ -1,6 +1,6 @@
 -- The bench that fell and the moved jobs.
-use Rattle.rules.specs.Calls.{closing}
-use Rattle.board.specs.Answered.{valuesOf}
+use Rattle.calls.specs.Calls.{closing}
+use Rattle.answers.specs.Answered.{valuesOf}
 use Rattle.desk.proofs.Fits.{Fitting, values-fit}
 use Rattle.desk.proofs.Reports.{done, got, got-fits, fitting, reported-values}
 use borrow.Author.Needs.{needs}

@@ -1,6 +1,6 @@
 -- The turned paths, which are within the allowance, and whether the board is level.
-use Rattle.rules.specs.Calls.{levelling}
-use Rattle.board.specs.Answered.{valuesOf}
+use Rattle.calls.specs.Calls.{levelling}
+use Rattle.answers.specs.Answered.{valuesOf}
 use Rattle.desk.proofs.Fits.{Fitting, values-fit}
 use Rattle.desk.proofs.Reports.{done, got, got-fits, fitting, reported-values}
 use borrow.Author.Needs.{needs}

@@ -1,6 +1,6 @@
 -- The benches in the set and the inside jobs.
-use Rattle.rules.specs.Calls.{tightSetOf}
-use Rattle.board.specs.Answered.{valuesOf}
+use Rattle.calls.specs.Calls.{tightSetOf}
+use Rattle.answers.specs.Answered.{valuesOf}
 use Rattle.desk.proofs.Fits.{Fitting, values-fit}
 use Rattle.desk.proofs.Reports.{done, got, got-fits, fitting, reported-values}
 use borrow.Author.Needs.{needs}

@@ -2,7 +2,7 @@
 use borrow.Author.Needs.{needs}
 use mathlib.Core.Path.{sym, _∙_}
 use mathlib.Core.Bool.{true, false}
-use Rattle.table.proofs.Sizes.{fit-size}
+use Rattle.size.proofs.Sizes.{fit-size}
 use Rattle.form.proofs.Answer.{misfit-answered, fit-answered}
 use Rattle.form.proofs.check.Statement.{statement}
 use Rattle.form.proofs.check.Tie as tie

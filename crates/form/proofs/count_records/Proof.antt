@@ -6,10 +6,10 @@ use mathlib.Core.Path.{_≡_, refl, sym, _∙_}
 use mathlib.Core.Logic.{⊎-elim}
 use lib.ListN.{drop}
 use borrow.Author.Needs.{needs}
-use Rattle.table.specs.Bytes.{laid}
-use Rattle.table.specs.Records.{entryOf}
+use Rattle.words.specs.Bytes.{laid}
+use Rattle.records.specs.Records.{entryOf}
 use Rattle.form.specs.Check.{byKind, counted}
-use Rattle.table.proofs.Sizes.{entries-long}
+use Rattle.size.proofs.Sizes.{entries-long}
 use Rattle.form.proofs.Passes.{count-step, count-end}
 use Rattle.form.proofs.count_records.Statement.{statement}
 use Rattle.form.proofs.count_records.Tie as tie

@@ -1,9 +1,9 @@
 -- Words 2 and 3, the records and the chains in turn: each of the four returns is one law of what the passes find.
 use mathlib.Core.Path.{_≡_, sym, _∙_}
 use borrow.Author.Needs.{needs}
-use Rattle.table.specs.Bytes.{laid}
+use Rattle.words.specs.Bytes.{laid}
 use Rattle.form.specs.Check.{counted}
-use Rattle.table.proofs.Sizes.{heads-long, entries-long}
+use Rattle.size.proofs.Sizes.{heads-long, entries-long}
 use Rattle.form.proofs.Formed.{Whole, spare-formed, broken-formed, count-formed, walked-formed}
 use Rattle.form.proofs.is_formed.Statement.{statement}
 use Rattle.form.proofs.is_formed.Tie as tie

@@ -7,11 +7,11 @@ use mathlib.Core.Logic.{⊎-elim}
 use lib.Dec.{eqb}
 use borrow.Author.Needs.{needs}
 use borrow.Author.Tests.{eq-eqb, ne-eqb, ltb-true, ltb-false}
-use Rattle.rules.specs.Lists.{nth}
-use Rattle.table.specs.Bytes.{laid}
-use Rattle.table.specs.Records.{entryOf}
+use Rattle.basics.specs.Lists.{nth}
+use Rattle.words.specs.Bytes.{laid}
+use Rattle.records.specs.Records.{entryOf}
 use Rattle.form.specs.Check.{onlyIf, walked}
-use Rattle.table.proofs.Sizes.{entries-long}
+use Rattle.size.proofs.Sizes.{entries-long}
 use Rattle.form.proofs.Passes.{walk-end, walk-full, walk-step, walk-above}
 use Rattle.form.proofs.walk.Statement.{statement}
 use Rattle.form.proofs.walk.Tie as tie

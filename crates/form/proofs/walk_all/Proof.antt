@@ -5,10 +5,10 @@ use native.Mathlib.Omega.{arith}
 use mathlib.Core.Path.{_≡_, refl, sym, _∙_}
 use lib.ListN.{drop}
 use borrow.Author.Needs.{needs}
-use Rattle.table.specs.Bytes.{laid}
+use Rattle.words.specs.Bytes.{laid}
 use Rattle.form.specs.Check.{allWalked}
 use Rattle.form.specs.declared.Seen.the-variants.{Jobs}
-use Rattle.table.proofs.Sizes.{heads-long}
+use Rattle.size.proofs.Sizes.{heads-long}
 use Rattle.form.proofs.Passes.{all-step, all-broken, all-end}
 use Rattle.form.proofs.walk_all.Statement.{statement}
 use Rattle.form.proofs.walk_all.Tie as tie

@@ -1,8 +1,8 @@
 -- The form check's answer is refusal 1, refusal 2, or that the table is sound and can be levelled.
 use mathlib.Core.Bool.{true, false}
-use Rattle.rules.specs.Calls.{levelling}
-use Rattle.table.specs.Sizes.{SoundTable}
-use Rattle.board.proofs.Formal.{sizes-refused, unsound-refused}
+use Rattle.calls.specs.Calls.{levelling}
+use Rattle.size.specs.Sizes.{SoundTable}
+use Rattle.answers.proofs.Formal.{sizes-refused, unsound-refused}
 use Rattle.board.proofs.Writing.{levelling-left}
 use borrow.Author.Needs.{needs}
 use Rattle.board.proofs.changes.levelling.Statement.{statement}

@@ -3,7 +3,7 @@
 use Prim.Native.Nat.{_-_}
 use native.Mathlib.Omega.{arith}
 use borrow.Author.Needs.{needs}
-use Rattle.rules.specs.Table.{decode}
+use Rattle.layout.specs.Table.{decode}
 use Rattle.paths.proofs.AsArcs.{Filling, filling-start, filling-turn, filling-end}
 use Rattle.paths.proofs.arcs.fill.Statement.{statement}
 use Rattle.paths.proofs.arcs.fill.Tie as tie

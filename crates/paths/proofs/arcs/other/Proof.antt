@@ -3,8 +3,8 @@ use Prim.Native.Nat.{ℕ, _+_, _-_, _≤_}
 use native.Mathlib.Omega.{arith}
 use mathlib.Core.Path.{sym, _∙_}
 use borrow.Author.Needs.{needs}
-use Rattle.rules.specs.Board.{namesOf}
-use Rattle.rules.specs.Table.{decode}
+use Rattle.layout.specs.Board.{namesOf}
+use Rattle.layout.specs.Table.{decode}
 use Rattle.store.specs.View.{Place}
 use Rattle.paths.specs.Arcs.{OtherOf}
 use Rattle.paths.proofs.AsArcs.{free-of, held-place, held-of}

@@ -5,7 +5,7 @@ use native.Mathlib.Omega.{arith}
 use mathlib.Core.Path.{sym, _∙_}
 use lib.ListN.{length}
 use borrow.Author.Needs.{needs}
-use Rattle.rules.specs.Table.{decode}
+use Rattle.layout.specs.Table.{decode}
 use Rattle.search.specs.Arrays.{at}
 use Rattle.paths.proofs.Handing.{Handing, Next, handing-start, handing-next, handing-turn, handing-end}
 use Rattle.paths.proofs.turns.hand_over.Statement.{statement}

@@ -1,7 +1,7 @@
 -- The route by the distances is handed over.
 use lib.ListN.{take}
 use borrow.Author.Needs.{needs}
-use Rattle.rules.specs.Table.{decode}
+use Rattle.layout.specs.Table.{decode}
 use Rattle.search.proofs.Listing.{array-long}
 use Rattle.paths.proofs.AsArcs.{arcs-forth}
 use Rattle.paths.proofs.Chosen.{follows-handable, routed-along}

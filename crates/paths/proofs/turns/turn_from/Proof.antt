@@ -2,7 +2,7 @@
 -- handed over.
 use borrow.Author.Needs.{needs}
 use borrow.Author.Tests.{not-true}
-use Rattle.search.proofs.Routing.{distances-fall}
+use Rattle.routes.proofs.Routing.{distances-fall}
 use Rattle.paths.proofs.AsArcs.{loads-in, arcs-forth, arcs-back}
 use Rattle.paths.proofs.Chosen.{from-unneeded, from-none, from-some, end-reached}
 use Rattle.paths.proofs.turns.turn_from.Statement.{statement}

@@ -1,7 +1,7 @@
 -- Nothing where no bench is better; else the search to x, the first bench by the closing's order, and the route from it handed over.
 use borrow.Author.Needs.{needs}
 use borrow.Author.Tests.{not-true}
-use Rattle.search.proofs.Routing.{distances-fall}
+use Rattle.routes.proofs.Routing.{distances-fall}
 use Rattle.paths.proofs.AsArcs.{loads-in, arcs-back}
 use Rattle.paths.proofs.Chosen.{to-unneeded, to-none, to-some}
 use Rattle.paths.proofs.turns.turn_to.Statement.{statement}

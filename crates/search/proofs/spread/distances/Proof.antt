@@ -1,12 +1,11 @@
 -- The arcs are listed, and one search along the lists finds all that v reaches.
 use Prim.Native.Nat.{_+_}
 use borrow.Author.Needs.{needs}
-use Rattle.rules.specs.Table.{mostBenches}
-use Rattle.rules.proofs.Basics.{within-both}
+use Rattle.layout.specs.Table.{mostBenches}
+use Rattle.basics.proofs.Basics.{within-both}
 use Rattle.search.specs.Lists.{ListedBy}
 use Rattle.search.proofs.Listing.{listable-arcs, listed-below, listed-ways}
-use Rattle.search.proofs.Routing.{spread-distances}
-use Rattle.search.proofs.Widening.{none-queued, none-stays}
+use Rattle.search.proofs.Widening.{spread-distances, none-queued, none-stays}
 use Rattle.search.proofs.spread.distances.Statement.{statement}
 use Rattle.search.proofs.spread.distances.Tie as tie
 

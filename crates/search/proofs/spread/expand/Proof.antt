@@ -3,8 +3,8 @@
 use Prim.Native.Nat.{_+_, _≤_, _<_}
 use native.Mathlib.Omega.{arith}
 use native.Mathlib.Numerals.{add-one}
-use Rattle.rules.specs.Table.{mostBenches, mostJobs}
-use Rattle.rules.proofs.Basics.{within-high}
+use Rattle.layout.specs.Table.{mostBenches, mostJobs}
+use Rattle.basics.proofs.Basics.{within-high}
 use Rattle.search.specs.Arrays.{at}
 use Rattle.search.proofs.Listing.{left}
 use Rattle.search.proofs.Widening.{queued-few, Expanding, expand-start, expand-arc, expand-after, expand-less, expand-leads, expand-turn, expand-end}

@@ -6,9 +6,9 @@ use mathlib.Core.Logic.{_⊎_, inl, inr}
 use mathlib.Core.List.{List}
 use lib.Dec.{T}
 use borrow.Author.Tests.{ltb-false}
-use Rattle.rules.specs.Lists.{within}
-use Rattle.rules.specs.Table.{mostBenches}
-use Rattle.rules.proofs.Basics.{within-low, within-high, within-both}
+use Rattle.basics.specs.Lists.{within}
+use Rattle.layout.specs.Table.{mostBenches}
+use Rattle.basics.proofs.Basics.{within-low, within-high, within-both}
 use Rattle.search.specs.Arrays.{at}
 use Rattle.search.specs.Lists.{Joins}
 use Rattle.search.specs.Spread.{Queued, FoundOne, Spread}

@@ -6,7 +6,7 @@ use mathlib.Core.List.{[], _∷_}
 use mathlib.Core.Logic.{⊎-elim, inl, inr}
 use borrow.Author.Needs.{needs}
 use Rattle.rules.specs.Sharing.{arrive}
-use Rattle.rules.specs.Table.{decode}
+use Rattle.layout.specs.Table.{decode}
 use Rattle.store.proofs.Boards.{sound-kept}
 use Rattle.sharing.proofs.Changing.{arriving-job, arriving-bench, getting-bench, arriving-fills, Handed, arrival-handed, arrival-settled}
 use Rattle.sharing.proofs.changes.arrive.Statement.{statement}

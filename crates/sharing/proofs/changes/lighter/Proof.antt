@@ -1,6 +1,6 @@
 -- The two loads are compared as the rule does.
 use borrow.Author.Needs.{needs}
-use Rattle.rules.specs.Table.{decode}
+use Rattle.layout.specs.Table.{decode}
 use Rattle.sharing.proofs.Changing.{lighter-first, lighter-second}
 use Rattle.sharing.proofs.changes.lighter.Statement.{statement}
 use Rattle.sharing.proofs.changes.lighter.Tie as tie

@@ -4,8 +4,8 @@ use native.Mathlib.Omega.{arith}
 use mathlib.Core.Path.{sym, _∙_}
 use mathlib.Core.Logic.{⊎-elim, inl, inr}
 use borrow.Author.Needs.{needs}
-use Rattle.rules.specs.Board.{load}
-use Rattle.rules.specs.Table.{decode}
+use Rattle.layout.specs.Board.{load}
+use Rattle.layout.specs.Table.{decode}
 use Rattle.sharing.proofs.ByChains.{Highest, highest-start, highest-turn, highest-end}
 use Rattle.sharing.proofs.counts.heaviest.Statement.{statement}
 use Rattle.sharing.proofs.counts.heaviest.Tie as tie

@@ -2,8 +2,8 @@
 use native.Mathlib.Omega.{arith}
 use lib.ListN.{length}
 use borrow.Author.Needs.{needs}
-use Rattle.store.specs.View.{chainFrom}
-use Rattle.store.proofs.ChainView.{rest-here, rest-less}
+use Rattle.chains.specs.Chains.{chainFrom}
+use Rattle.chains.proofs.ChainView.{rest-here, rest-less}
 use Rattle.sharing.proofs.ByChains.{Met, met-start, met-turn, met-few, met-end}
 use Rattle.sharing.proofs.counts.load.Statement.{statement}
 use Rattle.sharing.proofs.counts.load.Tie as tie

@@ -3,8 +3,8 @@ use borrow.Author.Needs.{needs}
 use mathlib.Core.Path.{_≡_, sym}
 use mathlib.Core.Bool.{cond}
 use lib.ListN.{length}
-use Rattle.rules.specs.Board.{namesOf}
-use Rattle.rules.specs.Table.{decode}
+use Rattle.layout.specs.Board.{namesOf}
+use Rattle.layout.specs.Table.{decode}
 use Rattle.store.proofs.Boards.{names-length}
 use Rattle.store.proofs.jobs.name_count.Statement.{statement}
 use Rattle.store.proofs.jobs.name_count.Tie as tie

@@ -1,9 +1,9 @@
 -- The holder word that is written is the place of x among the record's benches.
 use borrow.Author.Needs.{needs}
-use Rattle.rules.specs.Board.{namesOf}
-use Rattle.rules.specs.Table.{decode}
-use Rattle.rules.proofs.Basics.{member-in}
-use Rattle.table.specs.Sizes.{JobIn}
+use Rattle.layout.specs.Board.{namesOf}
+use Rattle.layout.specs.Table.{decode}
+use Rattle.basics.proofs.Basics.{member-in}
+use Rattle.size.specs.Sizes.{JobIn}
 use mathlib.Core.Logic.{inl, inr, ⊎-elim}
 use Rattle.store.proofs.Boards.{names-job, Chosen, chosen-small, hand-word}
 use Rattle.store.proofs.jobs.set_holder.Statement.{statement}

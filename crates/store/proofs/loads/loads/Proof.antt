@@ -5,7 +5,7 @@ use native.Mathlib.Omega.{arith}
 use mathlib.Core.Path.{_≡_, sym, _∙_}
 use lib.ListN.{length}
 use borrow.Author.Needs.{needs}
-use Rattle.rules.specs.Table.{mostBenches, decode}
+use Rattle.layout.specs.Table.{mostBenches, decode}
 use Rattle.store.proofs.Counts.{Counted, count-start, count-turn, count-end, count-few, holders-long}
 use Rattle.store.proofs.loads.loads.Statement.{statement}
 use Rattle.store.proofs.loads.loads.Tie as tie

@@ -5,8 +5,8 @@ use native.Mathlib.Omega.{arith}
 use mathlib.Core.Path.{_≡_}
 use mathlib.Core.Logic.{⊎-elim}
 use borrow.Author.Needs.{needs}
-use Rattle.rules.specs.Lists.{bit}
-use Rattle.rules.specs.Table.{mostJobs}
+use Rattle.basics.specs.Lists.{bit}
+use Rattle.layout.specs.Table.{mostJobs}
 use Rattle.search.specs.Arrays.{at}
 use Rattle.tight.specs.Marks.{mark}
 use Rattle.tight.proofs.AsSet.{kept-few, Measuring, markedLoad, measure-start, measure-turn, measure-room, measure-end}

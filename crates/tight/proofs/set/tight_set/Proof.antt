@@ -2,7 +2,7 @@
 use Prim.Native.Nat.{_+_}
 use mathlib.Core.Bool.{false}
 use borrow.Author.Needs.{needs}
-use Rattle.rules.specs.Table.{mostBenches}
+use Rattle.layout.specs.Table.{mostBenches}
 use Rattle.search.specs.Arrays.{Arcs, LoadsIn}
 use Rattle.search.specs.Lists.{ListedBy}
 use Rattle.search.proofs.Listing.{array-long, listable-arcs, listed-below, listed-ways}

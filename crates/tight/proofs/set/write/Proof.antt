@@ -7,8 +7,8 @@ use mathlib.Core.Logic.{⊎-elim}
 use mathlib.Core.Bool.{true, cond}
 use lib.ListN.{length}
 use borrow.Author.Needs.{needs}
-use Rattle.rules.specs.Lists.{bit}
-use Rattle.table.specs.Bytes.{setWord}
+use Rattle.basics.specs.Lists.{bit}
+use Rattle.words.specs.Bytes.{setWord}
 use Rattle.tight.specs.Marks.{mark}
 use Rattle.tight.proofs.AsSet.{kept-few, Writing, write-start, write-room, write-turn, write-end}
 use Rattle.tight.proofs.set.write.Statement.{statement}
@@ -35,8 +35,8 @@ room c e =
     let b = c .before .before .before .before in
     write-room (b .args .s) (c .before .loop .inv .1) e (omega arith) (b .pre .1)
 
-write-word-requires : tie.Need-write-word-requires Inv-loop μ-loop
-write-word-requires c κs =
+write-requires : tie.Need-write-requires Inv-loop μ-loop
+write-requires c κs =
     (room (c .before .before .before) (c .before .if1 .taken), omega (arith, c .before .before .before .before .before .before .before .pre .0 .benches-most))
 
 add-count : tie.Need-add-count Inv-loop μ-loop
@@ -73,7 +73,7 @@ write-spec =
     benches-requires
     loop-holds
     element-copy-out-if1
-    write-word-requires
+    write-requires
     add-count
     add-x
     loop-less

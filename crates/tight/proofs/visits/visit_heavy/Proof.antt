@@ -4,8 +4,8 @@ use Prim.Native.Nat.{_+_, _-_}
 use native.Mathlib.Omega.{arith}
 use mathlib.Core.Logic.{⊎-elim}
 use borrow.Author.Needs.{needs}
-use Rattle.rules.specs.Table.{mostBenches}
-use Rattle.rules.proofs.Basics.{within-both}
+use Rattle.layout.specs.Table.{mostBenches}
+use Rattle.basics.proofs.Basics.{within-both}
 use Rattle.search.specs.Lists.{Joins}
 use Rattle.tight.proofs.Visiting.{Heavy, heavy-start, heavy-visit, heavy-pass, heavy-end}
 use Rattle.tight.proofs.visits.visit_heavy.Statement.{statement}

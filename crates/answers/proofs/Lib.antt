@@ -1,0 +1,2 @@
+-- Refusals of a table's form.
+pub mod Formal

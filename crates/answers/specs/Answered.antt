@@ -1,0 +1,60 @@
+-- Each case of the answers as document 01's refusal or answer; its number and values are `Rattle.calls.specs.Answers.inNumbers`.
+use mathlib.Core.Path.{_≡_}
+use mathlib.Core.List.{List, [], _∷_}
+use Prim.Native.Nat.{ℕ}
+use lib.ListN.{getD, take}
+use Rattle.calls.specs.Answers as paper
+use Rattle.calls.specs.Calls.{Call, outcome}
+use Rattle.answers.specs.declared.Refusal.{Refusal}
+use Rattle.answers.specs.declared.Refusal.the-variants as code
+use Rattle.answers.specs.declared.Answer.{Answer}
+use Rattle.answers.specs.declared.Values.{Values}
+use Rattle.answers.specs.declared.Answer.the-variants as told
+
+-- the refusal
+abbrev pub refusalOf : Refusal → paper.Refusal
+refusalOf code.Sizes = paper.sizes
+refusalOf code.Unsound = paper.unsound
+refusalOf code.JobNumber = paper.jobNumber
+refusalOf code.BenchNumber = paper.benchNumber
+refusalOf code.AlreadyStanding = paper.alreadyStanding
+refusalOf code.NotStanding = paper.notStanding
+refusalOf code.Height = paper.height
+refusalOf code.ListTooShort = paper.listTooShort
+refusalOf code.CountFull = paper.countFull
+refusalOf code.Unreadable = paper.unreadable
+
+-- the answer
+abbrev pub answerOf : Answer → paper.Answer
+answerOf (told.Refused r) = paper.refused (refusalOf r)
+answerOf told.Blanked = paper.blanked
+answerOf (told.Arrived holder rose moved) = paper.arrived holder rose moved
+answerOf (told.Closed fell moved) = paper.closed fell moved
+answerOf (told.Load n) = paper.loadIs n
+answerOf (told.Heaviest n) = paper.heaviestIs n
+answerOf (told.TightSet benches inside) = paper.tightSetIs benches inside
+answerOf told.Sound = paper.isSound
+answerOf told.Level = paper.levelYes
+answerOf told.NotLevel = paper.levelNo
+answerOf (told.Levelled paths) = paper.levelled paths
+answerOf (told.Stopped paths) = paper.stopped paths
+
+-- what is returned: the refusal's number, 0 for an accepted call
+abbrev pub returned : paper.Answer → ℕ
+returned a = getD (paper.inNumbers a) 0 0
+
+-- an answer's values as a list
+abbrev pub valuesOf : Values → List ℕ
+valuesOf v = take (v .count) (v .first ∷ v .second ∷ v .third ∷ [])
+
+-- the call answered r and left these bytes of the table and of the lent list ([] for none), as the outcome o says
+pub record Leaves (o : paper.Outcome) (r : Answer) (table list : List ℕ) : Type 0 where
+  pub answer : answerOf r ≡ o .answer
+  pub bytes : table ≡ o .table
+  pub listed : list ≡ o .list
+
+-- a call that meets its contract, as demand 3 sees it: what was lent, answered and left
+pub record Does (c : Call) (t : List ℕ) (o : paper.Outcome) : Type 0 where
+  pub result : Answer
+  pub told : o .answer ≡ answerOf result
+  pub leaves : Leaves (outcome c t) result (o .table) (o .list)

@@ -1,0 +1,144 @@
+// What the calls answer.
+ghost use mathlib.Core.Path.{_≡_};
+ghost use lib.ListN.{drop};
+ghost use Rattle.basics.specs.Lists.{nth};
+ghost use Rattle.calls.specs.Answers.{refusalNumber, inNumbers};
+ghost use Rattle.answers.specs.Answered.{refusalOf, answerOf, returned, valuesOf};
+
+// Why a call is refused, in the order of document 01's table.
+pub enum Refusal {
+    Sizes,
+    Unsound,
+    JobNumber,
+    BenchNumber,
+    AlreadyStanding,
+    NotStanding,
+    Height,
+    ListTooShort,
+    CountFull,
+    Unreadable,
+}
+
+impl Refusal {
+    // The number that is returned for it.
+    pub fn number(self) -> u32
+        ensures { λ r. ⌜ r ≡ refusalNumber (refusalOf self) ⌝ }
+    {
+        match self {
+            Refusal::Sizes => 1,
+            Refusal::Unsound => 2,
+            Refusal::JobNumber => 3,
+            Refusal::BenchNumber => 4,
+            Refusal::AlreadyStanding => 5,
+            Refusal::NotStanding => 6,
+            Refusal::Height => 7,
+            Refusal::ListTooShort => 8,
+            Refusal::CountFull => 9,
+            Refusal::Unreadable => 10,
+        }
+    }
+}
+
+// A call's answer.
+pub enum Answer {
+    Refused(Refusal),
+    Blanked,
+    // The bench that holds the new job in the end, the bench whose load rose, the other jobs that changed holder.
+    Arrived(usize, usize, usize),
+    // The bench whose load fell, the jobs that changed holder.
+    Closed(usize, usize),
+    Load(usize),
+    Heaviest(usize),
+    // Benches in the set, jobs inside.
+    TightSet(usize, usize),
+    Sound,
+    Level,
+    NotLevel,
+    // Paths turned, and no improving path is left.
+    Levelled(u32),
+    // Paths turned, and one is left.
+    Stopped(u32),
+}
+
+// The values of an answer: the first `count` of them count.
+pub struct Values {
+    pub count: usize,
+    pub first: usize,
+    pub second: usize,
+    pub third: usize,
+}
+
+impl Values {
+    fn new(count: usize, first: usize, second: usize, third: usize) -> Values
+        ensures { λ r. ⌜ r ≡ record { count = count; first = first; second = second; third = third } ⌝ }
+    {
+        Values {
+            count,
+            first,
+            second,
+            third,
+        }
+    }
+
+    // Value k, counted from 1; `lent` where there is none.
+    pub fn get(self, k: usize, lent: usize) -> usize
+        ensures { λ r. ⌜ r ≡ nth (valuesOf self) k lent ⌝ }
+    {
+        let count = self.count;
+        if count < k {
+            return lent;
+        }
+        if k == 1 {
+            return self.first;
+        }
+        if k == 2 {
+            return self.second;
+        }
+        if k == 3 {
+            return self.third;
+        }
+        lent
+    }
+}
+
+impl Answer {
+    // The refusal's number, 0 for an accepted call.
+    pub fn number(self) -> u32
+        ensures { λ r. ⌜ r ≡ returned (answerOf self) ⌝ }
+    {
+        match self {
+            Answer::Refused(r) => r.number(),
+            Answer::Blanked => 0,
+            Answer::Arrived(_, _, _) => 0,
+            Answer::Closed(_, _) => 0,
+            Answer::Load(_) => 0,
+            Answer::Heaviest(_) => 0,
+            Answer::TightSet(_, _) => 0,
+            Answer::Sound => 0,
+            Answer::Level => 0,
+            Answer::NotLevel => 0,
+            Answer::Levelled(_) => 0,
+            Answer::Stopped(_) => 0,
+        }
+    }
+
+    // Its values, in document 01's order; yes and level are 1, no and stopped 0.
+    pub fn values(self) -> Values
+        ensures { λ r. ⌜ valuesOf r ≡ drop 1 (inNumbers (answerOf self)) ⌝ }
+    {
+        match self {
+            Answer::Refused(_) => Values::new(0, 0, 0, 0),
+            Answer::Blanked => Values::new(0, 0, 0, 0),
+            Answer::Arrived(holder, rose, moved) => Values::new(3, holder, rose, moved),
+            Answer::Closed(fell, moved) => Values::new(2, fell, moved, 0),
+            Answer::Load(n) => Values::new(1, n, 0, 0),
+            Answer::Heaviest(n) => Values::new(1, n, 0, 0),
+            Answer::TightSet(benches, inside) => Values::new(2, benches, inside, 0),
+            Answer::Sound => Values::new(0, 0, 0, 0),
+            Answer::Level => Values::new(1, 1, 0, 0),
+            Answer::NotLevel => Values::new(1, 0, 0, 0),
+            Answer::Levelled(paths) => Values::new(2, paths as usize, 1, 0),
+            Answer::Stopped(paths) => Values::new(2, paths as usize, 0, 0),
+        }
+    }
+}

@@ -1,0 +1,3 @@
+-- Tests and elements of lists; counts and totals.
+pub mod Basics
+pub mod Counting

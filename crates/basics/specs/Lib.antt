@@ -1,0 +1,2 @@
+-- Lists and numbers, as the definitions use them.
+pub mod Lists

@@ -1,0 +1,1 @@
+// Lists and numbers: what the definitions are written with. No code.

@@ -1,0 +1,2 @@
+-- Each board is as document 01 says.
+pub mod Boards

@@ -1,0 +1,2 @@
+-- Document 01's boards.
+pub mod Boards

@@ -1,0 +1,1 @@
+// The boards of document 01 that are marked there. No code.

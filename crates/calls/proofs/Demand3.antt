@@ -1,0 +1,194 @@
+-- Demand 3: one claim over every list of calls.
+use Prim.Native.Nat.{ℕ, zero, suc, _≤_}
+use mathlib.Core.Path.{_≡_, refl, sym, ap, subst, _∙_}
+use mathlib.Core.Logic.{_⊎_, inl, inr}
+use mathlib.Core.Bool.{Bool, true, not, false≢true}
+use mathlib.Core.List.{List, [], _∷_}
+use lib.Dec.{T}
+use lib.ListN.{length, getD, replicate}
+use Rattle.layout.specs.Board.{Board, Valid, holderOf, stands, Shares, excess}
+use Rattle.basics.specs.Lists.{empty}
+use Rattle.layout.specs.Table.{sizesFit, lengthFor, sound, decode}
+use Rattle.rules.specs.Sharing.{arrive, close, level, Levelled, relevel}
+use Rattle.calls.specs.Answers.{Answer, Outcome, isRefused}
+use Rattle.calls.specs.Calls.{Call, arrival, closing, levelling, loadOf, heaviestLoad, tightSetOf, formCheck, levelCheck, blanking, outcome, arrivalOutcome, closingOutcome, levellingOutcome}
+use Rattle.rules.specs.Demand2.{Demand2}
+use Rattle.calls.specs.JobBook.{Book, entered, tableAfter, OneLoad, Runs, AsDefined, Start, fromBlank, fromLevel, Claim, Demand3}
+use Rattle.basics.proofs.Basics.{true→T}
+use Rattle.rules.proofs.Paths.{jobless-level}
+use Rattle.layout.proofs.Sound.{sized, sound-storable}
+use Rattle.calls.proofs.Blanking.{emptyBoard, storable-empty, blank-sound, blank-decodes}
+use Rattle.calls.proofs.Refusals.{isQuestion}
+use Rattle.calls.proofs.JobBook.{refused-enters, question-enters}
+use Rattle.rules.proofs.Levels.{level-least, level-demand2}
+use Rattle.rules.proofs.KeepsLevel.{arrival-keeps-level, closing-keeps-level}
+use Rattle.rules.proofs.Levelling.{level-rests}
+use Rattle.calls.proofs.Outcomes.{Written, Arrives, Closes, Relevelled, Left, by-call}
+
+-- what a call leaves of a sound level table: such a table again, its jobs as the book has them, one load changed as the answer says
+record Carried (c : Call) (t : List ℕ) (o : Outcome) : Type 0 where
+  form : T (sound (o .table))
+  flat : T (level (decode (o .table)))
+  benches : (decode (o .table)) .benches ≡ (decode t) .benches
+  book : (decode (o .table)) .named ≡ entered c (isRefused (o .answer)) ((decode t) .named)
+  oneLoad : OneLoad c (o .answer) (decode t) (decode (o .table))
+
+-- it is enough to know the answer and the board that is written
+carried-as : (c : Call) (t : List ℕ) (o : Outcome) (a : Answer) (d : Board) → o .answer ≡ a → Written (o .table) d → T (level d) → d .benches ≡ (decode t) .benches → d .named ≡ entered c (isRefused a) ((decode t) .named) → OneLoad c a (decode t) d → Carried c t o
+carried-as c t o a d e w l b n one =
+    record {
+      form = w .sound;
+      flat = subst (λ (d : Board). T (level d)) (sym (w .board)) l;
+      benches = ap (λ (d : Board). d .benches) (w .board) ∙ b;
+      book = ap (λ (d : Board). d .named) (w .board) ∙ n ∙ ap (λ (a : Answer). entered c (isRefused a) ((decode t) .named)) (sym e);
+      oneLoad = subst (λ (a : Answer). OneLoad c a (decode t) (decode (o .table))) (sym e) (subst (OneLoad c a (decode t)) (sym (w .board)) one);
+    }
+
+-- a refused call and a question change no load, and nothing in the book
+idle-load : (c : Call) (a : Answer) (b d : Board) → (isRefused a ≡ true) ⊎ T (isQuestion c) → OneLoad c a b d
+idle-load (arrival j x y) a b d (inl r) = λ n. absurd (false≢true (sym n ∙ r))
+idle-load (arrival j x y) a b d (inr q) = absurd q
+idle-load (closing j) a b d (inl r) = λ n. absurd (false≢true (sym n ∙ r))
+idle-load (closing j) a b d (inr q) = absurd q
+idle-load (levelling allowance) a b d i = tt
+idle-load (loadOf x) a b d i = tt
+idle-load heaviestLoad a b d i = tt
+idle-load (tightSetOf h list) a b d i = tt
+idle-load formCheck a b d i = tt
+idle-load levelCheck a b d i = tt
+
+idle-enters : (c : Call) (a : Answer) (k : Book) → (isRefused a ≡ true) ⊎ T (isQuestion c) → entered c (isRefused a) k ≡ k
+idle-enters c a k (inl r) = ap (λ (z : Bool). entered c z k) r ∙ refused-enters c k
+idle-enters c a k (inr q) = question-enters c (isRefused a) k q
+
+module _ (t : List ℕ) (s : T (sound t)) (l : T (level (decode t))) where
+  v : Valid (decode t)
+  v = (sound-storable t s) .valid
+
+  carried-arrival : (j x y : ℕ) → Arrives t j x y (arrive (decode t) j (x ∷ y ∷ [])) → Carried (arrival j x y) t (outcome (arrival j x y) t)
+  unfolding arrivalOutcome
+  carried-arrival j x y a =
+      let c = arrive (decode t) j (x ∷ y ∷ []) in
+      let m = a .may in
+      carried-as (arrival j x y) t (outcome (arrival j x y) t) ((arrivalOutcome j c) .answer) (c .board) (ap (λ o. o .answer) (a .is)) (a .writes)
+      (arrival-keeps-level (decode t) v l j (x ∷ y ∷ []) (m .number) (m .free) tt (m .fit))
+      (a .does .benches) (a .does .named) (λ n. (holderOf (c .board) j, c .bench, length (c .moved), refl, a .rose))
+
+  carried-closing : (j : ℕ) → Closes t j (close (decode t) j) → Carried (closing j) t (outcome (closing j) t)
+  unfolding closingOutcome
+  carried-closing j a =
+      let c = close (decode t) j in
+      carried-as (closing j) t (outcome (closing j) t) ((closingOutcome c) .answer) (c .board) (ap (λ o. o .answer) (a .is)) (a .writes)
+      (closing-keeps-level (decode t) v l j (a .stood)) (a .does .benches) (a .does .named) (λ n. (c .bench, length (c .moved), refl, a .fell))
+
+  -- a levelling finds nothing to turn
+  carried-levelling : (allowance : ℕ) → Relevelled t allowance (relevel allowance (decode t)) → Carried (levelling allowance) t (outcome (levelling allowance) t)
+  carried-levelling allowance a =
+      let r = relevel allowance (decode t) in
+      let e = ap (λ (q : Levelled). q .board) (level-rests allowance (decode t) l) in
+      carried-as (levelling allowance) t (outcome (levelling allowance) t) ((levellingOutcome r) .answer) (r .board) (ap (λ o. o .answer) (a .is)) (a .writes)
+      (subst (λ (d : Board). T (level d)) (sym e) l) (a .does .report .benches) (a .does .report .jobs) tt
+
+  carried-left : (c : Call) → Left t c (outcome c t) → Carried c t (outcome c t)
+  carried-left c a =
+      let o = outcome c t in
+      let w : Written (o .table) (decode t) = subst (λ (u : List ℕ). Written u (decode t)) (sym (a .table)) (record { sound = s; board = refl }) in
+      carried-as c t o (o .answer) (decode t) refl w l refl (sym (idle-enters c (o .answer) ((decode t) .named) (a .idle))) (idle-load c (o .answer) (decode t) (decode t) (a .idle))
+
+  carried : (c : Call) → Carried c t (outcome c t)
+  carried = by-call t s (λ c. Carried c t (outcome c t)) carried-arrival carried-closing carried-levelling carried-left
+
+-- what a whole list of calls leaves: the claim, and a sound level table again
+record Ended (t : List ℕ) (k : Book) (cs : List Call) (os : List Outcome) : Type 0 where
+  claim : Claim t k cs os
+  form : T (sound (tableAfter t os))
+  flat : T (level (decode (tableAfter t os)))
+
+-- from any sound level table, by one call after another
+ended : (t : List ℕ) (k : Book) → T (sound t) → T (level (decode t)) → (decode t) .named ≡ k → (cs : List Call) (os : List Outcome) → Runs AsDefined t cs os → Ended t k cs os
+ended t k s l e [] [] r =
+    let v = (sound-storable t s) .valid in
+    record {
+      claim = record {
+        benches = refl;
+        book = e;
+        shares = subst (λ (named : Book). Shares named ((decode t) .holders)) e (v .shares);
+        least = λ h holders m. level-least (decode t) v l h holders (subst (λ (named : Book). Shares named holders) (sym e) m);
+        oneLoad = tt;
+        answered = tt;
+      };
+      form = s;
+      flat = l;
+    }
+ended t k s l e [] (o ∷ os) r = absurd r
+ended t k s l e (c ∷ cs) [] r = absurd r
+ended t k s l e (c ∷ cs) (o ∷ os) r =
+    let d = subst (Carried c t) (sym (r .0)) (carried t s l c) in
+    let i = ended (o .table) (entered c (isRefused (o .answer)) k) (d .form) (d .flat) (d .book ∙ ap (entered c (isRefused (o .answer))) e) cs os (r .1) in
+    let j = i .claim in
+    record {
+      claim = record {
+        benches = j .benches ∙ d .benches;
+        book = j .book;
+        shares = j .shares;
+        least = λ h holders m. subst (λ (n : ℕ). excess n ((decode (tableAfter (o .table) os)) .holders) h ≤ excess n holders h) (d .benches) (j .least h holders m);
+        oneLoad = (d .oneLoad, j .oneLoad);
+        answered = r;
+      };
+      form = i .form;
+      flat = i .flat;
+    }
+
+-- whatever does the calls as they are defined makes a run of the definition
+as-defined : (Does : Call → List ℕ → Outcome → Type 0) → ((c : Call) (t : List ℕ) (o : Outcome) → Does c t o → AsDefined c t o) → (t : List ℕ) (cs : List Call) (os : List Outcome) → Runs Does t cs os → Runs AsDefined t cs os
+as-defined Does meets t [] [] r = tt
+as-defined Does meets t [] (o ∷ os) r = absurd r
+as-defined Does meets t (c ∷ cs) [] r = absurd r
+as-defined Does meets t (c ∷ cs) (o ∷ os) r = (meets c t o (r .0), as-defined Does meets (o .table) cs os (r .1))
+
+-- a board without jobs is level
+pub empty-level : (benches jobs : ℕ) → Valid (emptyBoard benches jobs) → T (level (emptyBoard benches jobs))
+empty-level benches jobs v = jobless-level (emptyBoard benches jobs) v (λ j t. none j t)
+  where
+    nothing : (n i : ℕ) → getD {A = List ℕ} (replicate n []) i [] ≡ []
+    nothing zero i = refl
+    nothing (suc n) zero = refl
+    nothing (suc n) (suc i) = nothing n i
+
+    none : (j : ℕ) → T (stands (emptyBoard benches jobs) j) → ⊥
+    none zero t = t
+    none (suc i) t = subst (λ (l : List ℕ). T (not (empty l))) (nothing jobs i) t
+
+-- every start is a sound level table, and the book has its jobs
+started : (t : List ℕ) (k : Book) → Start t k → T (sound t) × T (level (decode t)) × ((decode t) .named ≡ k)
+started t k (fromBlank benches jobs e) =
+    let z = sized (lengthFor benches jobs) benches jobs (true→T (sizesFit (lengthFor benches jobs) benches jobs) e) in
+    let d = blank-decodes benches jobs (z .benches-within) (z .jobs-within) in
+    let v = (storable-empty benches jobs (z .benches-within) (z .jobs-within)) .valid in
+    (blank-sound benches jobs (z .benches-within) (z .jobs-within), subst (λ (b : Board). T (level b)) (sym d) (empty-level benches jobs v), ap (λ (b : Board). b .named) d)
+started t k (fromLevel u s l) = (true→T (sound u) s, true→T (level (decode u)) l, refl)
+
+-- what blanking leaves is such a start, whatever the bytes were
+pub blanking-starts : (benches jobs : ℕ) (t : List ℕ) → sizesFit (length t) benches jobs ≡ true → Start ((blanking benches jobs t) .table) (replicate jobs [])
+unfolding blanking
+blanking-starts benches jobs t e =
+    let z = sized (length t) benches jobs (true→T (sizesFit (length t) benches jobs) e) in
+    rw e (fromBlank benches jobs (subst (λ (n : ℕ). sizesFit n benches jobs ≡ true) (z .exact) e))
+
+-- so every list of calls from a start ends
+from-start : (t : List ℕ) (k : Book) → Start t k → (cs : List Call) (os : List Outcome) → Runs AsDefined t cs os → Ended t k cs os
+from-start t k start = let s = started t k start in ended t k (s .0) (s .1) (s .2)
+
+-- demand 3, whole
+pub demand-3 : Demand3
+demand-3 Does meets t k start cs os r = (from-start t k start cs os (as-defined Does meets t cs os r)) .claim
+
+-- after every list of calls the table is sound and level ..
+pub level-after : (t : List ℕ) (k : Book) → Start t k → (cs : List Call) (os : List Outcome) → Runs AsDefined t cs os → T (sound (tableAfter t os)) × T (level (decode (tableAfter t os)))
+level-after t k start cs os r = let e = from-start t k start cs os r in (e .form, e .flat)
+
+-- .. and demand 2 holds of it: its heaviest load is least, and its tight set proves it
+pub demand-2-after : (t : List ℕ) (k : Book) → Start t k → (cs : List Call) (os : List Outcome) → Runs AsDefined t cs os → Demand2 (decode (tableAfter t os))
+demand-2-after t k start cs os r =
+    let e = level-after t k start cs os r in
+    level-demand2 (decode (tableAfter t os)) ((sound-storable (tableAfter t os) (e .0)) .valid) (e .1)

@@ -1,0 +1,145 @@
+-- Demand 1 of the definitions: a call is refused exactly if a condition of it holds, with the lowest number whose condition
+-- holds; a refused call and a question leave the table as it was.
+use Prim.Native.Nat.{ℕ}
+use mathlib.Core.Path.{_≡_, refl, sym, ap, _∙_}
+use mathlib.Core.Logic.{_⊎_, inl, inr}
+use mathlib.Core.Bool.{Bool, true, false, cond, _&&_, false≢true}
+use mathlib.Core.List.{List, [], _∷_, _++_, map}
+use mathlib.Core.Option.{Option, none, some, Option·some-injective, Option·none-ne-some, Option·some-ne-none}
+use lib.Dec.{T, ltb}
+use Rattle.basics.specs.Lists.{rising, Each}
+use Rattle.layout.specs.Table.{decode}
+use Rattle.rules.specs.Sharing.{level, relevel}
+use Rattle.layout.specs.Board.{Board}
+use Rattle.calls.specs.Answers.{Refusal, Condition, refusalNumber, inNumbers, firstHolding, isRefused, settled, refused, levelYes, levelNo, levelled, stopped, sizes, unsound, jobNumber, benchNumber, alreadyStanding, notStanding, height, listTooShort, countFull, unreadable}
+use Rattle.calls.specs.Calls.{Call, arrival, closing, levelling, loadOf, heaviestLoad, tightSetOf, formCheck, levelCheck, formConditions, conditions, lentList, accepted, outcome, arrivalOutcome, closingOutcome, levellingOutcome, tightSetOutcome}
+
+-- "returned": 1 to 10, in the table's order
+pub refusals-told : map refusalNumber (sizes ∷ unsound ∷ jobNumber ∷ benchNumber ∷ alreadyStanding ∷ notStanding ∷ height ∷ listTooShort ∷ countFull ∷ unreadable ∷ []) ≡ rising 1 10
+refusals-told = refl
+
+-- a level check's and a levelling's answers in numbers: yes and level are 1, no and stopped 0
+pub level-told : (n : ℕ) → map inNumbers (levelYes ∷ levelNo ∷ levelled n ∷ stopped n ∷ []) ≡ (0 ∷ 1 ∷ []) ∷ (0 ∷ 0 ∷ []) ∷ (0 ∷ n ∷ 1 ∷ []) ∷ (0 ∷ n ∷ 0 ∷ []) ∷ []
+level-told n = refl
+
+-- each number is below the next
+abbrev rise : List ℕ → Bool
+rise [] = true
+rise (m ∷ []) = true
+rise (m ∷ n ∷ l) = ltb m n && rise (n ∷ l)
+
+-- the numbers of a call's conditions rise in their order, so that the first that holds is the lowest
+pub conditions-rise : (c : Call) (t : List ℕ) → T (rise (map (λ k. refusalNumber (k .refusal)) (formConditions t ++ conditions c (decode t))))
+unfolding conditions
+conditions-rise (arrival j x y) t = tt
+conditions-rise (closing j) t = tt
+conditions-rise (levelling allowance) t = tt
+conditions-rise (loadOf x) t = tt
+conditions-rise heaviestLoad t = tt
+conditions-rise (tightSetOf h list) t = tt
+conditions-rise formCheck t = tt
+conditions-rise levelCheck t = tt
+
+-- r is the refusal of a condition that holds, and no condition before it does
+abbrev pub FirstIs : Refusal → List Condition → Type 0
+FirstIs r [] = ⊥
+FirstIs r (c ∷ cs) = ((c .holds ≡ true) × (c .refusal ≡ r)) ⊎ ((c .holds ≡ false) × FirstIs r cs)
+
+-- the refusal of a list of conditions is the first that holds
+pub first-is : (cs : List Condition) (r : Refusal) → firstHolding cs ≡ some r → FirstIs r cs
+first-is [] r e = absurd (Option·none-ne-some r e)
+first-is (c ∷ cs) r e = go (c .holds) refl e (λ d. first-is cs r d)
+  where
+    go : (z : Bool) → c .holds ≡ z → cond z (some (c .refusal)) (firstHolding cs) ≡ some r → (firstHolding cs ≡ some r → FirstIs r cs) → FirstIs r (c ∷ cs)
+    go true h d ih = inl (h, Option·some-injective (c .refusal) r d)
+    go false h d ih = inr (h, ih d)
+
+-- and there is none exactly if no condition holds
+pub none-holds : (cs : List Condition) → firstHolding cs ≡ none → Each (λ c. c .holds ≡ false) cs
+none-holds [] e = tt
+none-holds (c ∷ cs) e = go (c .holds) refl e (λ d. none-holds cs d)
+  where
+    go : (z : Bool) → c .holds ≡ z → cond z (some (c .refusal)) (firstHolding cs) ≡ none → (firstHolding cs ≡ none → Each (λ d. d .holds ≡ false) cs) → Each (λ d. d .holds ≡ false) (c ∷ cs)
+    go true h d ih = absurd (Option·some-ne-none (c .refusal) d)
+    go false h d ih = (h, ih d)
+
+-- an accepted call's answer is no refusal
+pub accepted-answers : (c : Call) (t : List ℕ) (b : Board) → isRefused ((accepted c t b) .answer) ≡ false
+unfolding accepted arrivalOutcome closingOutcome levellingOutcome tightSetOutcome
+accepted-answers (arrival j x y) t b = refl
+accepted-answers (closing j) t b = refl
+accepted-answers (levelling allowance) t b = go (level ((relevel allowance b) .board))
+  where
+    go : (z : Bool) → isRefused (cond z (levelled ((relevel allowance b) .paths)) (stopped ((relevel allowance b) .paths))) ≡ false
+    go true = refl
+    go false = refl
+accepted-answers (loadOf x) t b = refl
+accepted-answers heaviestLoad t b = refl
+accepted-answers (tightSetOf h list) t b = refl
+accepted-answers formCheck t b = refl
+accepted-answers levelCheck t b = go (level b)
+  where
+    go : (z : Bool) → isRefused (cond z levelYes levelNo) ≡ false
+    go true = refl
+    go false = refl
+
+-- a refused call names the first condition that holds, and leaves every lent byte
+pub record RefusedBy (r : Refusal) (c : Call) (t : List ℕ) : Type 0 where
+  pub condition : FirstIs r (formConditions t ++ conditions c (decode t))
+  pub table : (outcome c t) .table ≡ t
+  pub list : (outcome c t) .list ≡ lentList c
+
+pub refused-by : (c : Call) (t : List ℕ) (r : Refusal) → (outcome c t) .answer ≡ refused r → RefusedBy r c t
+unfolding outcome
+refused-by c t r e = go (firstHolding cs) refl e
+  where
+    cs : List Condition
+    cs = formConditions t ++ conditions c (decode t)
+
+    go : (o : Option Refusal) → firstHolding cs ≡ o → (settled o t (lentList c) (accepted c t (decode t))) .answer ≡ refused r → RefusedBy r c t
+    go none f d = absurd (false≢true (sym (accepted-answers c t (decode t)) ∙ ap isRefused d))
+    go (some s) f d =
+        let same : s ≡ r = cc in
+        record { condition = first-is cs r (f ∙ ap {B = Option Refusal} some same); table = ap (λ o. (settled o t (lentList c) (accepted c t (decode t))) .table) f; list = ap (λ o. (settled o t (lentList c) (accepted c t (decode t))) .list) f }
+
+-- a call that is not refused does what it says: no condition holds, and the outcome is the accepted one
+pub accepted-by : (c : Call) (t : List ℕ) → isRefused ((outcome c t) .answer) ≡ false → Each (λ k. k .holds ≡ false) (formConditions t ++ conditions c (decode t)) × (outcome c t ≡ accepted c t (decode t))
+unfolding outcome
+accepted-by c t e = go (firstHolding cs) refl e
+  where
+    cs : List Condition
+    cs = formConditions t ++ conditions c (decode t)
+
+    go : (o : Option Refusal) → firstHolding cs ≡ o → isRefused ((settled o t (lentList c) (accepted c t (decode t))) .answer) ≡ false → Each (λ k. k .holds ≡ false) cs × (outcome c t ≡ accepted c t (decode t))
+    go none f d = (none-holds cs f, ap (λ o. settled o t (lentList c) (accepted c t (decode t))) f)
+    go (some s) f d = absurd (false≢true (sym d))
+
+-- the calls that ask and change nothing
+abbrev pub isQuestion : Call → Bool
+isQuestion (arrival j x y) = false
+isQuestion (closing j) = false
+isQuestion (levelling allowance) = false
+isQuestion (loadOf x) = true
+isQuestion heaviestLoad = true
+isQuestion (tightSetOf h list) = true
+isQuestion formCheck = true
+isQuestion levelCheck = true
+
+-- "the questions, which change no table byte"
+pub question-leaves : (c : Call) (t : List ℕ) → T (isQuestion c) → (outcome c t) .table ≡ t
+unfolding outcome accepted tightSetOutcome
+question-leaves c t q = go (firstHolding (formConditions t ++ conditions c (decode t)))
+  where
+    asked : (c : Call) → T (isQuestion c) → (accepted c t (decode t)) .table ≡ t
+    asked (arrival j x y) p = absurd p
+    asked (closing j) p = absurd p
+    asked (levelling allowance) p = absurd p
+    asked (loadOf x) p = refl
+    asked heaviestLoad p = refl
+    asked (tightSetOf h list) p = refl
+    asked formCheck p = refl
+    asked levelCheck p = refl
+
+    go : (o : Option Refusal) → (settled o t (lentList c) (accepted c t (decode t))) .table ≡ t
+    go none = asked c q
+    go (some s) = refl

@@ -1,0 +1,38 @@
+-- What a levelling says: level exactly if no path improves, stopped exactly if one does.
+use Prim.Native.Nat.{ℕ}
+use mathlib.Core.Path.{_≡_, refl, ap}
+use mathlib.Core.Logic.{_↔_}
+use mathlib.Core.Bool.{Bool, true, false, cond, not}
+use lib.Dec.{T, not-T}
+use Rattle.layout.specs.Board.{Valid}
+use Rattle.basics.proofs.Basics.{true→T}
+use Rattle.calls.specs.Answers.{levelled, stopped}
+use Rattle.calls.specs.Calls.{levellingOutcome}
+use Rattle.rules.specs.Sharing.{Levelled, level}
+use Rattle.rules.specs.Paths.{BenchPath, improves, IsPath}
+use Rattle.rules.proofs.Paths.{level-exact, unlevel-improves}
+
+-- what an answer says of the test and the count behind it
+pub says-level : (n m : ℕ) (z : Bool) → (cond z (levelled n) (stopped n) ≡ levelled m) ↔ (T z × (n ≡ m))
+says-level n m true = (λ e. (tt, cc), λ d. ap levelled (d .1))
+says-level n m false = (λ e. absurd (true→T false cc), λ d. absurd (d .0))
+
+pub says-stopped : (n m : ℕ) (z : Bool) → (cond z (levelled n) (stopped n) ≡ stopped m) ↔ (T (not z) × (n ≡ m))
+says-stopped n m true = (λ e. absurd (true→T false cc), λ d. absurd (d .0))
+says-stopped n m false = (λ e. (tt, cc), λ d. ap stopped (d .1))
+
+-- "It reports the paths turned, and "level" if no improving path is left, else "stopped"."
+pub levelling-says-level : (r : Levelled) → Valid (r .board) → ((levellingOutcome r) .answer ≡ levelled (r .paths)) ↔ ((p : BenchPath) → IsPath (r .board) p → T (improves (r .board) p) → ⊥)
+unfolding levellingOutcome
+levelling-says-level r v =
+    let s = says-level (r .paths) (r .paths) (level (r .board)) in
+    let l = level-exact (r .board) v in
+    (λ e. l .0 (s .0 e .0), λ f. s .1 (l .1 f, refl))
+
+-- .. and "stopped" exactly if one is
+pub levelling-says-stopped : (r : Levelled) → Valid (r .board) → ((levellingOutcome r) .answer ≡ stopped (r .paths)) ↔ ((p : BenchPath) × IsPath (r .board) p × T (improves (r .board) p))
+unfolding levellingOutcome
+levelling-says-stopped r v =
+    let s = says-stopped (r .paths) (r .paths) (level (r .board)) in
+    let l = level-exact (r .board) v in
+    (λ e. unlevel-improves (r .board) (s .0 e .0), λ q. s .1 (not-T (level (r .board)) (λ t. l .0 t (q .0) (q .1) (q .2)), refl))

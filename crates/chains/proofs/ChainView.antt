@@ -1,0 +1,173 @@
+-- A sound table's chains as the crate above sees them.
+use Prim.Native.Nat.{ℕ, zero, suc, _≤_}
+use native.Mathlib.Omega.{arith}
+use mathlib.Core.Path.{_≡_, refl, sym, ap, _∙_, subst}
+use mathlib.Core.Logic.{_⊎_, inl, inr, _↔_, _≢_}
+use mathlib.Core.List.{List, [], _∷_}
+use lib.Dec.{T, eqb}
+use Rattle.basics.specs.Lists.{within, different, In, nth, bit, total}
+use Rattle.layout.specs.Board.{holderOf, stands, standing, load}
+use Rattle.layout.specs.Table.{Entry, vacant, follow, chains, decode}
+use Rattle.basics.proofs.Basics.{in-each, in-nth, nth-map, T-eqb, eqb-T, differ, within-both}
+use Rattle.basics.proofs.Counting.{different-count, few, total-tested, count-total}
+use Rattle.layout.proofs.Sound.{Ends, standing-word, chain-ends, on-chain}
+use Rattle.layout.proofs.ChainEnds.{ends-on, ends-next, ends-different}
+use lib.ListN.{length}
+use Rattle.rules.proofs.Paths.{stands-within, holder-bench}
+use Rattle.store.proofs.Boards.{sound-kept, stands-job, stands-held}
+use Rattle.store.proofs.Counts.{holders-long}
+use Rattle.size.proofs.Sizes.{heads-long, board-bench}
+use Rattle.words.specs.Bytes.{laid}
+use Rattle.size.specs.Sizes.{JobIn, BenchIn, SoundTable}
+use Rattle.records.specs.Records.{RecordOf}
+use Rattle.size.specs.Written.{HeadOf}
+use Rattle.records.specs.declared.Record.{Record}
+use Rattle.store.specs.View.{Kept}
+use Rattle.chains.specs.Chains.{chainFrom, ChainOf, NextOf, Rest}
+use Rattle.size.specs.declared.Size.{Size}
+
+-- "Next 0 ends a chain"
+pub chain-end : (t : List ℕ) → chainFrom t 0 ≡ []
+unfolding chainFrom
+chain-end t = refl
+
+-- any other number begins one
+pub chain-begins : (t : List ℕ) (j : ℕ) → 1 ≤ j → In j (chainFrom t j)
+unfolding chainFrom
+chain-begins t zero l = absurd (omega arith)
+chain-begins t (suc i) l = inl refl
+
+-- the chains of a sound table
+
+-- bench x's chain is the chain from its head
+head-chain : (t : List ℕ) (x : ℕ) → nth (chains (laid t)) x [] ≡ chainFrom t (nth ((laid t) .heads) x 0)
+unfolding chainFrom
+head-chain t x = let l = laid t in nth-map (follow (l .entries) (suc (l .jobs))) (l .heads) x 0
+
+-- on it are the jobs that x holds
+held-chain : (t : List ℕ) (s : Size) (x : ℕ) → SoundTable t s → BenchIn s x → (i : ℕ) → In i (chainFrom t (nth ((laid t) .heads) x 0)) ↔ (T (stands (decode t) i) × (holderOf (decode t) i ≡ x))
+held-chain t s x z b i =
+    let on = on-chain t (z .sound) i x (b .least) (omega (arith, z .size .board-benches, b .most)) in
+    subst (λ (c : List ℕ). In i c ↔ (T (stands (decode t) i) × (holderOf (decode t) i ≡ x))) (head-chain t x) on
+
+-- bench x's chain ends
+head-ends : (t : List ℕ) (s : Size) (x : ℕ) → SoundTable t s → BenchIn s x → Ends ((laid t) .entries) ((laid t) .jobs) (nth ((laid t) .heads) x 0)
+head-ends t s x z b =
+    let l = laid t in
+    chain-ends t (z .sound) (nth (l .heads) x 0) (in-nth (l .heads) x 0 (b .least) (omega (arith, b .most, heads-long t s (z .size))))
+
+-- bench x's chain from its head
+pub first-chain : (t : List ℕ) (s : Size) (x : ℕ) → SoundTable t s → BenchIn s x → ChainOf t s x (nth ((laid t) .heads) x 0)
+unfolding chainFrom
+first-chain t s x z b =
+    record {
+      held = held;
+      once = once;
+      few = few (s .jobs) c (different-count c once) (in-each (λ j. T (within 1 (s .jobs) j)) c (λ j i. let n = stands-job t s j (z .size) ((held j) .0 i .0) in within-both 1 (s .jobs) j (n .least) (n .most)));
+    }
+  where
+    h : ℕ
+    h = nth ((laid t) .heads) x 0
+
+    c : List ℕ
+    c = chainFrom t h
+
+    held : (i : ℕ) → In i c ↔ (T (stands (decode t) i) × (holderOf (decode t) i ≡ x))
+    held = held-chain t s x z b
+
+    once : T (different c)
+    once = ends-different ((laid t) .entries) (suc ((laid t) .jobs)) ((laid t) .jobs) h (head-ends t s x z b)
+
+-- the chain after a standing job
+pub next-chain : (t : List ℕ) (s : Size) (j : ℕ) → SoundTable t s → JobIn s j → T (stands (decode t) j) → NextOf t j ((nth ((laid t) .entries) j vacant) .next)
+unfolding chainFrom
+next-chain t s zero z i p = absurd (omega (arith, i .least))
+next-chain t s (suc j) z i p =
+    record { chain = chain }
+  where
+    es : List Entry
+    es = (laid t) .entries
+
+    jobs : ℕ
+    jobs = (laid t) .jobs
+
+    n : ℕ
+    n = (nth es (suc j) vacant) .next
+
+    x : ℕ
+    x = holderOf (decode t) (suc j)
+
+    bench : BenchIn s x
+    bench = board-bench x (z .size) (holder-bench (decode t) (z .storable .valid) (suc j) p)
+
+    h : ℕ
+    h = nth ((laid t) .heads) x 0
+
+    held : (i : ℕ) → In i (chainFrom t h) ↔ (T (stands (decode t) i) × (holderOf (decode t) i ≡ x))
+    held = held-chain t s x z bench
+
+    on : In (suc j) (chainFrom t h)
+    on = (held (suc j)) .1 (p, refl)
+
+    ends : Ends es jobs h
+    ends = head-ends t s x z bench
+
+    chain : chainFrom t (suc j) ≡ suc j ∷ chainFrom t n
+    chain = ends-next es jobs j (ends-on es (suc jobs) jobs h (suc j) ends on)
+
+-- what was read
+
+-- the number of standing jobs of a sound table
+pub standing-read : (t : List ℕ) (s : Size) (r : ℕ) → SoundTable t s → r ≡ (laid t) .standing → r ≡ standing (decode t)
+standing-read t s r z e = e ∙ standing-word t (z .sound)
+
+-- bench x's head begins its chain
+pub first-read : (t : List ℕ) (s : Size) (x r : ℕ) → SoundTable t s → BenchIn s x → HeadOf t x r → ChainOf t s x r
+first-read t s x r z b h = subst (ChainOf t s x) (sym (h .head)) (first-chain t s x z b)
+
+-- a standing job's record tells the next job on its chain
+pub next-read : (t : List ℕ) (s : Size) (j : ℕ) (r : Record) → SoundTable t s → JobIn s j → T (stands (decode t) j) → RecordOf t j r → NextOf t j (r .next)
+next-read t s j r z i p f = subst (NextOf t j) (ap (λ (e : Entry). e .next) (sym (f .entry))) (next-chain t s j z i p)
+
+-- a walk along a chain
+
+-- at first the whole chain is left ..
+pub rest-first : {t : List ℕ} {s : Size} {x j : ℕ} → ChainOf t s x j → Rest t x j
+rest-first c = record { held = λ i. (c .held i) .0 }
+
+module _ {t : List ℕ} {x j : ℕ} (r : Rest t x j) where
+  -- .. until it ends, its first job is one that x holds ..
+  pub rest-here : j ≢ 0 → T (stands (decode t) j) × (holderOf (decode t) j ≡ x)
+  rest-here d = r .held j (chain-begins t j (omega arith))
+
+  -- .. and what comes after that job is left then ..
+  pub rest-next : {n : ℕ} → NextOf t j n → Rest t x n
+  rest-next o = record { held = λ i m. r .held i (subst (λ (l : List ℕ). In i l) (sym (o .chain)) (inr m)) }
+
+-- .. so each job of a chain is its first or on what is left ..
+pub next-split : {t : List ℕ} {j n : ℕ} → NextOf t j n → (i : ℕ) → In i (chainFrom t j) → (i ≡ j) ⊎ In i (chainFrom t n)
+next-split o i m = subst (λ (l : List ℕ). In i l) (o .chain) m
+
+-- .. which is less
+pub rest-less : {t : List ℕ} {j n : ℕ} → NextOf t j n → length (chainFrom t j) ≡ suc (length (chainFrom t n))
+rest-less o = ap length (o .chain)
+
+-- a job that a bench holds stands
+pub held-stands : (t : List ℕ) (s : Size) (j x : ℕ) → Kept t s → 1 ≤ x → holderOf (decode t) j ≡ x → T (stands (decode t) j)
+held-stands t s j x k l e = rw (stands-held t s j k) ((differ (holderOf (decode t) j) 0) .0 (λ z. omega arith))
+
+-- a bench's chain is as long as its load
+pub chain-load : (t : List ℕ) (s : Size) (x j : ℕ) → SoundTable t s → BenchIn s x → ChainOf t s x j → length (chainFrom t j) ≡ load ((decode t) .holders) x
+chain-load t s x j z b c =
+    let k = sound-kept t s z in
+    total-tested (s .jobs) (chainFrom t j) (λ i. eqb (holderOf (decode t) i) x) (c .once) job on
+    ∙ sym (subst (λ (n : ℕ). load ((decode t) .holders) x ≡ total n (λ i. bit (eqb (holderOf (decode t) i) x))) (holders-long k) (count-total x ((decode t) .holders)))
+  where
+    job : (i : ℕ) → In i (chainFrom t j) → T (within 1 (s .jobs) i)
+    job i o = subst (λ (n : ℕ). T (within 1 n i)) (z .size .board-jobs) (stands-within (decode t) i ((c .held i) .0 o .0))
+
+    on : (i : ℕ) → In i (chainFrom t j) ↔ T (eqb (holderOf (decode t) i) x)
+    on i = (
+      λ o. eqb-T (holderOf (decode t) i) x ((c .held i) .0 o .1),
+      λ q. let e = T-eqb (holderOf (decode t) i) x q in (c .held i) .1 (held-stands t s i x (sound-kept t s z) (b .least) e, e),
+    )

@@ -1,0 +1,16 @@
+-- Word 2 of a sound table is the number of standing jobs.
+use Rattle.chains.proofs.ChainView.{standing-read}
+use borrow.Author.Needs.{needs}
+use Rattle.chains.proofs.standing.Statement.{statement}
+use Rattle.chains.proofs.standing.Tie as tie
+
+standing-word-requires : tie.Need-standing-word-requires
+standing-word-requires c κs = search needs
+
+returns : tie.Need-returns
+returns c =
+    let start = c .before .before in
+    standing-read (start .args .t .now) (start .args .s) (c .standing-word .result) (start .pre) (c .standing-word .ensures)
+
+pub standing-spec : {M : Type 1} → statement M
+standing-spec = tie.close (tie.spec standing-word-requires returns)

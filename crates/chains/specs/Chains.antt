@@ -1,0 +1,71 @@
+-- Chains made anew, as the code goes: from the last job down, each held job is pushed at the front of its holder's chain.
+use Prim.Native.Nat.{ℕ, zero, suc, _≤_}
+use mathlib.Core.Path.{_≡_}
+use mathlib.Core.List.{List, _∷_}
+use Rattle.basics.specs.Lists.{bit, nth, In, different}
+use Rattle.layout.specs.Board.{stands, standing, holderOf}
+use Rattle.layout.specs.Table.{Layout, vacant, holderIn, decode, encode, follow}
+use Rattle.words.specs.Bytes.{laid}
+use Rattle.size.specs.Written.{withHead, withEntry, withNext}
+use Rattle.size.specs.declared.Size.{Size}
+use Rattle.store.specs.View.{Kept}
+use mathlib.Core.Logic.{_↔_}
+use lib.Dec.{T}
+use lib.ListN.{length}
+use Rattle.size.specs.Sizes.{SoundTable}
+
+-- the jobs on a chain from job j on
+unfoldable pub chainFrom : List ℕ → ℕ → List ℕ
+chainFrom t j = follow ((laid t) .entries) (suc ((laid t) .jobs)) j
+
+-- bench x's chain begins with job j: on it are the jobs that x holds, each once
+pub record ChainOf (t : List ℕ) (s : Size) (x j : ℕ) : Type 0 where
+  pub held : (i : ℕ) → In i (chainFrom t j) ↔ (T (stands (decode t) i) × (holderOf (decode t) i ≡ x))
+  pub once : T (different (chainFrom t j))
+  pub few : length (chainFrom t j) ≤ s .jobs
+
+-- after job j on its chain comes the chain from job n on
+pub record NextOf (t : List ℕ) (j n : ℕ) : Type 0 where
+  pub chain : chainFrom t j ≡ j ∷ chainFrom t n
+
+-- what is left of bench x's chain is the chain from job j on: x holds its jobs
+pub record Rest (t : List ℕ) (x j : ℕ) : Type 0 where
+  pub held : (i : ℕ) → In i (chainFrom t j) → T (stands (decode t) i) × (holderOf (decode t) i ≡ x)
+
+-- the chains were made anew: the bytes are the board's, every chain rising
+pub record Settled (t u : List ℕ) (s : Size) : Type 0 where
+  pub bytes : u ≡ encode (decode t)
+  pub sound : SoundTable u s
+  pub board : decode u ≡ decode t
+
+-- job j at the front of bench x's chain
+abbrev pub pushAt : Layout → ℕ → ℕ → Layout
+pushAt l j x = withHead (withEntry l j (withNext (nth (l .entries) j vacant) (nth (l .heads) x 0))) x j
+
+-- job j at the front of its holder's chain, if it has one
+abbrev pub pushFor : Layout → ℕ → ℕ → Layout
+pushFor l j zero = l
+pushFor l j (suc x) = pushAt l j (suc x)
+
+-- job j pushed, by the holder that its record tells
+unfoldable pub pushed : ℕ → Layout → Layout
+pushed j l = pushFor l j (holderIn (nth (l .entries) j vacant))
+
+-- jobs j, j - 1, .. 1 pushed in turn
+abbrev pub pushedFrom : ℕ → Layout → Layout
+pushedFrom zero l = l
+pushedFrom (suc j) l = pushedFrom j (pushed (suc j) l)
+
+-- the table u is t after job j was pushed; n is 1 if it stands
+pub record Pushed (t u : List ℕ) (s : Size) (j n : ℕ) : Type 0 where
+  pub kept : Kept u s
+  pub board : decode u ≡ decode t
+  pub layout : laid u ≡ pushed j (laid t)
+  pub count : n ≡ bit (stands (decode t) j)
+
+-- the table u is t after all jobs were pushed; n is the number of those that stand
+pub record Linked (t u : List ℕ) (s : Size) (n : ℕ) : Type 0 where
+  pub kept : Kept u s
+  pub board : decode u ≡ decode t
+  pub layout : laid u ≡ pushedFrom (s .jobs) (laid t)
+  pub count : n ≡ standing (decode t)

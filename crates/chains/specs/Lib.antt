@@ -1,0 +1,2 @@
+-- What the functions promise, and how chains are made anew.
+pub mod Chains

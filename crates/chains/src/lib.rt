@@ -1,0 +1,78 @@
+// Chains: the jobs that a bench holds, one after the other.
+ghost use mathlib.Core.Path.{_≡_};
+ghost use lib.Dec.{T};
+ghost use Rattle.layout.specs.Board.{stands, standing};
+ghost use Rattle.layout.specs.Table.{decode};
+ghost use Rattle.size.specs.Sizes.{JobIn, BenchIn, SoundTable};
+ghost use Rattle.store.specs.View.{Kept};
+ghost use Rattle.chains.specs.Chains.{ChainOf, NextOf, Settled, Pushed, Linked};
+use store::jobs;
+use header::heads;
+use size::Size;
+
+// The number of standing jobs.
+pub fn standing(t: &[u8], s: Size) -> usize
+    requires { ⌜ SoundTable (now t) s ⌝ }
+    ensures { λ r. ⌜ r ≡ standing (decode (now (t .entry))) ⌝ }
+{
+    header::standing_word(t, s)
+}
+
+// The first job on bench x's chain, 0 for none.
+pub fn first(t: &[u8], s: Size, x: usize) -> usize
+    requires { ⌜ SoundTable (now t) s ⌝ }
+    requires { ⌜ BenchIn s x ⌝ }
+    ensures { λ r. ⌜ ChainOf (now (t .entry)) s x r ⌝ }
+{
+    heads::head(t, s, x)
+}
+
+// The job after job j on its chain, 0 for none.
+pub fn next(t: &[u8], s: Size, j: usize) -> usize
+    requires { ⌜ SoundTable (now t) s ⌝ }
+    requires { ⌜ T (stands (decode (now t)) j) ⌝ }
+    ensures { λ r. ⌜ NextOf (now (t .entry)) j r ⌝ }
+{
+    let r = records::read_record(t, s, j);
+    r.next
+}
+
+// Job j at the front of its holder's chain; 1 if it stands, else 0.
+fn push(t: &mut [u8], s: Size, j: usize) -> usize
+    requires { ⌜ Kept (now t) s ⌝ }
+    requires { ⌜ JobIn s j ⌝ }
+    ensures { λ r. ⌜ Pushed (now (t .entry)) (now (t .exit)) s j r ⌝ }
+{
+    let x = jobs::holder(t, s, j);
+    if x == 0 {
+        return 0;
+    }
+    let behind = heads::head(t, s, x);
+    records::write_next(t, s, j, behind);
+    heads::write_head(t, s, x, j);
+    1
+}
+
+// Every standing job at the front of its holder's chain, from the last job down; how many they are.
+fn push_all(t: &mut [u8], s: Size) -> usize
+    requires { ⌜ Kept (now t) s ⌝ }
+    ensures { λ r. ⌜ Linked (now (t .entry)) (now (t .exit)) s r ⌝ }
+{
+    let mut count = 0;
+    let mut j = s.jobs();
+    while 0 < j {
+        count += push(t, s, j);
+        j -= 1;
+    }
+    count
+}
+
+// All chains made anew, in rising order. After it the bytes are those of the board that the records hold.
+pub fn settle(t: &mut [u8], s: Size)
+    requires { ⌜ Kept (now t) s ⌝ }
+    ensures { λ _. ⌜ Settled (now (t .entry)) (now (t .exit)) s ⌝ }
+{
+    heads::clear_heads(t, s);
+    let count = push_all(t, s);
+    header::write_standing(t, s, count);
+}

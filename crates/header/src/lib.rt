@@ -1,0 +1,58 @@
+// What stands before the records. Words 0 to 3: B; J; number of standing jobs; 0.
+ghost use mathlib.Core.Path.{_≡_};
+ghost use mathlib.Core.Bool.{cond};
+ghost use Prim.Native.Nat.{_<_};
+ghost use lib.ListN.{length};
+ghost use Rattle.layout.specs.Table.{sizesFit, blankTable};
+ghost use Rattle.words.specs.Bytes.{laid};
+ghost use Rattle.size.specs.Sizes.{SizeOf};
+ghost use Rattle.size.specs.Written.{Laid, withStanding};
+use size::Size;
+use size::Sizing;
+
+pub mod heads;
+
+// Word 2.
+pub fn standing_word(t: &[u8], s: Size) -> usize
+    requires { ⌜ SizeOf (now t) s ⌝ }
+    ensures { λ r. ⌜ r ≡ laid (now (t .entry)) .standing ⌝ }
+{
+    words::read(t, 2)
+}
+
+// Word 3.
+pub fn spare_word(t: &[u8], s: Size) -> usize
+    requires { ⌜ SizeOf (now t) s ⌝ }
+    ensures { λ r. ⌜ r ≡ laid (now (t .entry)) .spare ⌝ }
+{
+    words::read(t, 3)
+}
+
+// The number of standing jobs written anew, and 0 after it.
+pub fn write_standing(t: &mut [u8], s: Size, count: usize)
+    requires { ⌜ SizeOf (now t) s ⌝ }
+    requires { ⌜ count < 65536 ⌝ }
+    ensures { λ _. ⌜ Laid (now (t .exit)) s (withStanding (laid (now (t .entry))) count) ⌝ }
+{
+    words::write(t, 2, count);
+    words::write(t, 3, 0);
+}
+
+// A table without jobs, whatever the bytes were; false, and no byte changed, where the sizes do not fit.
+pub fn blank(t: &mut [u8], benches: usize, jobs: usize) -> bool
+    ensures { λ r. ⌜ r ≡ sizesFit (length (now (t .entry))) benches jobs ⌝ }
+    ensures { λ r. ⌜ now (t .exit) ≡ cond r (blankTable benches jobs) (now (t .entry)) ⌝ }
+{
+    match Size::new(benches, jobs) {
+        Sizing::Misfit => false,
+        Sizing::Fit(s) => {
+            if t.len() != s.bytes() {
+                return false;
+            }
+            words::clear(t);
+            words::write(t, 0, benches);
+            words::write(t, 1, jobs);
+            true
+        }
+    }
+}

@@ -1,0 +1,9 @@
+-- What is proved of boards and their tables.
+pub mod Named
+pub mod Loads
+pub mod Limits
+pub mod Words
+pub mod Sound
+pub mod ChainEnds
+pub mod Layouts
+pub mod Encode

@@ -1,0 +1,50 @@
+-- What jobs name, and who holds them.
+use Prim.Native.Nat.{ℕ, suc}
+use mathlib.Core.Path.{_≡_, refl, ap, sym, subst, _∙_}
+use mathlib.Core.Logic.{_↔_, inl, inr, ⊎-elim, _≢_}
+use mathlib.Core.Bool.{true, not}
+use mathlib.Core.List.{List, [], _∷_}
+use lib.Dec.{T}
+use lib.ListN.{length}
+use Rattle.basics.specs.Lists.{within, member, In, all, different, Each, change}
+use Rattle.layout.specs.Board.{Shares, namesFit, Board, Valid}
+use Rattle.basics.proofs.Basics.{left, both, right, not-member, all-in, different-head, length-change, each-change}
+use Rattle.layout.specs.Table.{mostBenches, mostJobs, paired, Storable}
+
+-- there are as many holders as job numbers
+pub length-shares : (named : List (List ℕ)) (holders : List ℕ) → Shares named holders → length holders ≡ length named
+length-shares [] [] s = refl
+length-shares [] (h ∷ holders) s = absurd s
+length-shares (names ∷ named) [] s = absurd s
+length-shares (names ∷ named) (h ∷ holders) s = ap suc (length-shares named holders (s .1))
+
+-- names that fit are benches of 1 to B
+pub fit-bench : (benches : ℕ) (names : List ℕ) (x : ℕ) → T (namesFit benches names) → In x names → T (within 1 benches x)
+fit-bench benches names x f = all-in (within 1 benches) x names (left (all (within 1 benches) names) (different names) f)
+
+-- two names fit exactly if they are different benches of 1 to B
+pub pair-fits : (benches x y : ℕ) → T (namesFit benches (x ∷ y ∷ [])) ↔ (T (within 1 benches x) × T (within 1 benches y) × (x ≢ y))
+pair-fits benches x y =
+    let bench = within 1 benches in
+    let rest = y ∷ [] in
+    let names = x ∷ rest in
+    let listed = all bench names in (
+      λ f. (fit-bench benches names x f (inl refl), fit-bench benches names y f (inr (inl refl)), λ e. different-head x rest (right listed (different names) f) (inl e)),
+      λ r. both listed (different names) (both (bench x) (all bench rest) (r .0) (both (bench y) true (r .1) tt)) (both (not (member x rest)) true (not-member x rest (⊎-elim (r .2) (λ i. i))) tt),
+    )
+
+-- a board with the sizes of a storable one, valid and with two benches for each job, is storable
+pub resized : (b c : Board) → Storable b → Valid c → c .benches ≡ b .benches → length (c .named) ≡ length (b .named) → Each (λ names. T (paired names)) (c .named) → Storable c
+resized b c s v e l p =
+    record {
+      valid = v;
+      benches = subst (λ (n : ℕ). T (within 1 mostBenches n)) (sym e) (s .benches);
+      jobs = subst (λ (n : ℕ). T (within 1 mostJobs n)) (sym l) (s .jobs);
+      pairs = p;
+    }
+
+-- so is one in which job j was taken to these names
+pub changed-storable : (b c : Board) (j : ℕ) (names : List ℕ) → Storable b → T (paired names) → Valid c → c .benches ≡ b .benches → c .named ≡ change (b .named) j names → Storable c
+changed-storable b c j names s p v e n =
+    resized b c s v e (ap length n ∙ length-change (b .named) j names)
+    (subst (Each (λ names. T (paired names))) (sym n) (each-change (λ names. T (paired names)) (b .named) j names p (s .pairs)))

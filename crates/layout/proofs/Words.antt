@@ -1,0 +1,184 @@
+-- Words and bytes: what is written reads back, a board's words fit its table, and a blanked table is the board without jobs.
+use Prim.Native.Nat.{ℕ, suc, _+_, _*_, _/_, _%_, _≤_, _<_}
+use native.Mathlib.Omega.{arith}
+use mathlib.Core.Path.{_≡_, refl, sym, ap, _∙_}
+use mathlib.Core.Bool.{not}
+use mathlib.Core.List.{List, [], _∷_, _++_, map, flatMap, append-nil}
+use lib.Dec.{T, eqb, leb}
+use lib.ListN.{length, take, drop, length-append}
+use lib.Seq.{take-at, drop-at}
+use Rattle.basics.specs.Lists.{within, rising, Each, empty}
+use Rattle.layout.specs.Board.{Board, Shares, namesFit}
+use Rattle.layout.specs.Table.{paired, words, bytesOf, mostBenches, mostJobs, lengthFor, sizesFit, Entry, Layout, entriesIn, layout, fits, firstHeld, placeOf, entryFor, entriesFrom, layoutOf, entryWords, flat, encode, Storable}
+use Rattle.basics.proofs.Basics.{five, cond-le, two-elements, T-eqb, eqb-T, leb-T, within-high, in-each, each-append, each-map, length-keep, length-values}
+use Rattle.layout.proofs.Named.{length-shares, fit-bench}
+
+-- words and bytes
+
+-- bytes of words below 65,536 read back as the same words, whatever bytes follow ..
+pub words-append : (ws rest : List ℕ) → Each (λ w. w < 65536) ws → words (bytesOf ws ++ rest) ≡ ws ++ words rest
+words-append [] rest s = refl
+words-append (w ∷ ws) rest s = let e : w % 256 + 256 * (w / 256 % 256) ≡ w = omega arith in rw (e, words-append ws rest (s .1))
+
+-- .. or none
+pub words-bytesOf : (ws : List ℕ) → Each (λ w. w < 65536) ws → words (bytesOf ws) ≡ ws
+words-bytesOf ws s = ap words (sym (append-nil (bytesOf ws))) ∙ words-append ws [] s ∙ append-nil ws
+
+-- two bytes are written for each word
+pub length-bytesOf : (ws : List ℕ) → length (bytesOf ws) ≡ 2 * length ws
+length-bytesOf [] = refl
+length-bytesOf (w ∷ ws) = omega (arith, length-bytesOf ws)
+
+-- every byte that is written is a byte
+pub bytesOf-bytes : (ws : List ℕ) → Each (λ y. y < 256) (bytesOf ws)
+bytesOf-bytes [] = tt
+bytesOf-bytes (w ∷ ws) = (omega arith, (omega arith, bytesOf-bytes ws))
+
+-- layouts
+
+-- a layout that a table of its sizes has room for: a head for each bench, two names in each record
+pub record LaidOut (l : Layout) : Type 0 where
+  pub heads : length (l .heads) ≡ l .benches
+  pub entries : Each (λ e. length (e .names) ≡ 2) (l .entries)
+
+-- the words of a record with two names read back as that record
+entriesIn-entry : (e : Entry) (ws : List ℕ) → length (e .names) ≡ 2 → entriesIn (entryWords e ++ ws) ≡ e ∷ entriesIn ws
+entriesIn-entry e ws two = let p = two-elements (e .names) two in rw (p .2)
+
+-- the words of records with two names each read back as the same records
+entriesIn-words : (es : List Entry) → Each (λ e. length (e .names) ≡ 2) es → entriesIn (flatMap entryWords es) ≡ es
+unfolding flatMap
+entriesIn-words [] p = refl
+entriesIn-words (e ∷ es) p = rw (entriesIn-entry e (flatMap entryWords es) (p .0), entriesIn-words es (p .1))
+
+-- records with two names have four words each
+length-entryWords : (es : List Entry) → Each (λ e. length (e .names) ≡ 2) es → length (flatMap entryWords es) ≡ 4 * length es
+unfolding flatMap
+length-entryWords [] p = refl
+length-entryWords (e ∷ es) p =
+    omega (arith, length-entryWords es (p .1), length-append (entryWords e) (flatMap entryWords es), length-append (e .names) (e .holder ∷ e .next ∷ []))
+
+-- the words of a layout read back as the same layout
+pub layout-flat : (l : Layout) → LaidOut l → layout (flat l) ≡ l
+unfolding layout flat
+layout-flat l r = λ i. record { benches = l .benches; jobs = l .jobs; standing = l .standing; spare = l .spare; heads = heads i; entries = entries i }
+  where
+    front : List ℕ
+    front = l .benches ∷ l .jobs ∷ l .standing ∷ l .spare ∷ l .heads
+
+    records : List ℕ
+    records = flatMap entryWords (l .entries)
+
+    heads : take (l .benches) (l .heads ++ records) ≡ l .heads
+    heads = take-at (l .heads) records (l .benches) (r .heads)
+
+    entries : entriesIn (drop (4 + l .benches) (front ++ records)) ≡ l .entries
+    entries = rw (drop-at front records (4 + l .benches) (omega arith)) (entriesIn-words (l .entries) (r .entries))
+
+-- a layout has "4 + B + 4 × J words"
+pub length-flat : (l : Layout) → LaidOut l → length (flat l) ≡ 4 + l .benches + 4 * length (l .entries)
+unfolding flat
+length-flat l r = omega (arith, length-entryWords (l .entries) (r .entries), length-append (l .heads) (flatMap entryWords (l .entries)))
+
+-- the layout of a board
+
+-- a board's layout has one record for each job number
+pub length-entries : (i : ℕ) (named : List (List ℕ)) (holders : List ℕ) → Shares named holders → length (entriesFrom i named holders) ≡ length named
+length-entries i [] holders s = refl
+length-entries i (names ∷ named) [] s = absurd s
+length-entries i (names ∷ named) (h ∷ holders) s = ap suc (length-entries (suc i) named holders (s .1))
+
+-- the records have two names each
+entries-two : (i : ℕ) (named : List (List ℕ)) (holders : List ℕ) → Each (λ names. T (paired names)) named → Each (λ e. length (e .names) ≡ 2) (entriesFrom i named holders)
+entries-two i [] holders p = tt
+entries-two i (names ∷ named) [] p = tt
+entries-two i ([] ∷ named) (h ∷ holders) p = (refl, entries-two (suc i) named holders (p .1))
+entries-two i ((x ∷ names) ∷ named) (h ∷ holders) p = (T-eqb (length (x ∷ names)) 2 (p .0), entries-two (suc i) named holders (p .1))
+
+-- a table of the board's sizes has room for its layout
+pub laidOut : (b : Board) → Storable b → LaidOut (layoutOf b)
+unfolding layoutOf
+laidOut b s =
+    record {
+      heads = length-values (λ x. firstHeld 1 x (b .holders)) 1 (b .benches);
+      entries = entries-two 1 (b .named) (b .holders) (s .pairs);
+    }
+
+-- small words
+
+-- the first job that a bench holds is not after the last job
+firstHeld-le : (i x : ℕ) (holders : List ℕ) → firstHeld i x holders ≤ i + length holders
+firstHeld-le i x [] = omega arith
+firstHeld-le i x (h ∷ holders) =
+    cond-le (eqb h x) i (firstHeld (suc i) x holders) (i + suc (length holders)) (omega arith) (omega (arith, firstHeld-le (suc i) x holders))
+
+-- a place is not after the end of the list
+placeOf-le : (h : ℕ) (names : List ℕ) → placeOf h names ≤ length names
+placeOf-le h [] = omega arith
+placeOf-le h (x ∷ names) = cond-le (eqb x h) 1 (suc (placeOf h names)) (suc (length names)) (omega arith) (omega (arith, placeOf-le h names))
+
+abbrev Small : ℕ → Type 0
+Small w = w < 65536
+
+-- no word of a record is above 65,535
+entry-small : (benches : ℕ) (names : List ℕ) (h n : ℕ) → benches ≤ mostBenches → n < 65536 → T (namesFit benches names) → T (paired names) → Each Small (entryWords (entryFor names h n))
+entry-small benches [] h n b m f p = omega arith
+entry-small benches (x ∷ l) h n b m f p =
+    let names : List ℕ = x ∷ l in
+    each-append Small names (placeOf h names ∷ n ∷ [])
+    (in-each Small names (λ w i. omega (arith, within-high 1 benches w (fit-bench benches names w f i))))
+    (omega (arith, placeOf-le h names, T-eqb (length names) 2 p))
+
+-- nor of the records of the jobs from i on
+entries-small : (benches i : ℕ) (named : List (List ℕ)) (holders : List ℕ) → benches ≤ mostBenches → i + length holders < 65536 → Each (λ names. T (namesFit benches names)) named → Each (λ names. T (paired names)) named → Each Small (flatMap entryWords (entriesFrom i named holders))
+unfolding flatMap
+entries-small benches i [] holders b m f p = tt
+entries-small benches i (names ∷ named) [] b m f p = tt
+entries-small benches i (names ∷ named) (h ∷ holders) b m f p =
+    let next : ℕ = firstHeld (suc i) h holders in
+    each-append Small (entryWords (entryFor names h next)) (flatMap entryWords (entriesFrom (suc i) named holders))
+    (entry-small benches names h next b (omega (arith, firstHeld-le (suc i) h holders)) (f .0) (p .0))
+    (entries-small benches (suc i) named holders b (omega arith) (f .1) (p .1))
+
+-- no word of a board's layout is above 65,535
+pub layoutOf-small : (b : Board) → Storable b → Each (λ w. w < 65536) (flat (layoutOf b))
+unfolding flat layoutOf
+layoutOf-small b s =
+    let benches : b .benches ≤ mostBenches = within-high 1 mostBenches (b .benches) (s .benches) in
+    let jobs : length (b .named) ≤ mostJobs = within-high 1 mostJobs (length (b .named)) (s .jobs) in
+    let held : length (b .holders) ≡ length (b .named) = length-shares (b .named) (b .holders) (s .valid .shares) in
+    let head : ℕ → ℕ = λ x. firstHeld 1 x (b .holders) in
+    let heads : Each Small (map head (rising 1 (b .benches))) = each-map Small head (rising 1 (b .benches)) (λ x i. omega (arith, firstHeld-le 1 x (b .holders))) in
+    let records : Each Small (flatMap entryWords (entriesFrom 1 (b .named) (b .holders))) = entries-small (b .benches) 1 (b .named) (b .holders) benches (omega arith) (s .valid .names) (s .pairs) in
+    let rest = each-append Small (map head (rising 1 (b .benches))) (flatMap entryWords (entriesFrom 1 (b .named) (b .holders))) heads records in
+    (omega arith, (omega arith, (omega (arith, length-keep (λ names. not (empty names)) (b .named)), (omega arith, rest))))
+
+-- the table of a board
+
+-- an encoded board's words are the words of its layout
+words-encode : (b : Board) → Storable b → words (encode b) ≡ flat (layoutOf b)
+unfolding encode
+words-encode b s = words-bytesOf (flat (layoutOf b)) (layoutOf-small b s)
+
+-- an encoded board's words have the board's layout
+pub layout-encode : (b : Board) → Storable b → layout (words (encode b)) ≡ layoutOf b
+layout-encode b s = rw (words-encode b s) (layout-flat (layoutOf b) (laidOut b s))
+
+-- an encoded board has the length that belongs to its sizes
+length-encode : (b : Board) → Storable b → length (encode b) ≡ lengthFor (b .benches) (length (b .named))
+unfolding encode layoutOf
+length-encode b s =
+    omega (arith, length-bytesOf (flat (layoutOf b)), length-flat (layoutOf b) (laidOut b s), length-entries 1 (b .named) (b .holders) (s .valid .shares))
+
+-- sizes within the limits fit the length that belongs to them
+pub within-fit : (benches jobs : ℕ) → T (within 1 mostBenches benches) → T (within 1 mostJobs jobs) → T (sizesFit (lengthFor benches jobs) benches jobs)
+unfolding sizesFit
+within-fit benches jobs b j =
+    let len : ℕ = lengthFor benches jobs in
+    (five (eqb (len % 2) 0) (leb 8 len) (within 1 mostBenches benches) (within 1 mostJobs jobs) (eqb len len)) .1
+    (eqb-T (len % 2) 0 (omega arith), leb-T 8 len (omega arith), b, j, eqb-T len len refl)
+
+-- an encoded board's sizes fit
+pub fits-encode : (b : Board) → Storable b → T (fits (encode b))
+unfolding fits flat layoutOf
+fits-encode b s = rw (words-encode b s, length-encode b s) (within-fit (b .benches) (length (b .named)) (s .benches) (s .jobs))

@@ -1,0 +1,3 @@
+-- The board and its table, as in document 01. Nothing here is taken from code.
+pub mod Board
+pub mod Table

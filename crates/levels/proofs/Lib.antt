@@ -1,0 +1,2 @@
+-- Paths turned one after the other.
+pub mod Turning

@@ -1,0 +1,2 @@
+-- What levelling leaves.
+pub mod Levels

@@ -1,0 +1,94 @@
+-- The counter program's state: what its table and its tally are before and after each line, and what it prints of them.
+use Prim.Native.Nat.{ℕ}
+use Prim.Native.Char.{code}
+use native.Mathlib.Omega.{arith}
+use mathlib.Core.Path.{_≡_, refl, ap, _∙_}
+use mathlib.Core.Bool.{Bool, true, false}
+use mathlib.Core.List.{List, [], _∷_, _++_, flatMap}
+use mathlib.Core.Option.{none}
+use lib.Dec.{T}
+use lib.ListN.{length, replicate, length-take, length-replicate}
+use Rattle.layout.specs.Board.{heaviest, standing}
+use Rattle.layout.specs.Table.{mostBenches, mostJobs, sizesFit, lengthFor, layout, fits, formed, sound, boardOf, decode, layoutOf, flat, encode, blankTable}
+use Rattle.rules.specs.Paths.{steps, pathsFrom, improves, improvingFrom, improving, improvingTo, flip}
+use Rattle.rules.specs.Sharing.{arrivalChoice, closingChoice, levellingChoice, arrive, close, level, widen, tightSet}
+use Rattle.calls.specs.Answers.{Outcome, isRefused, tightSetIs}
+use Rattle.calls.specs.Calls.{arrival, closing, heaviestLoad, tightSetOf, conditions, arrivalOutcome, closingOutcome, levellingOutcome, tightSetOutcome, accepted, outcome, blanking}
+use Rattle.calls.specs.Tally.{zeroTally, noted}
+use Rattle.lines.specs.Counter.{Counter, Command, setTable, takeIn, closeJob, askTightSet, askHeaviest, number, commandFor, command, printed, lineFor, done, after, prints, counter, atFirst, room, counterList}
+use Rattle.lines.specs.Text.{text}
+use Rattle.basics.proofs.Basics.{true→T, within-high}
+use Rattle.layout.proofs.Sound.{sized}
+use Rattle.calls.proofs.Blanking.{standing-empty, blank-sound, blank-decodes}
+use Rattle.calls.proofs.ChainOrder.{sound-outcome}
+use Rattle.calls.proofs.Questions.{tight-list}
+use Rattle.calls.proofs.TallyRun.{Balanced, keeps}
+
+-- "Before the first B its table has length 0"
+pub first-table : length (atFirst .table) ≡ 0
+first-table = refl
+
+-- the program has bytes for every table that 01 allows
+pub room-fits : (benches jobs : ℕ) → sizesFit (lengthFor benches jobs) benches jobs ≡ true → length (room benches jobs) ≡ lengthFor benches jobs
+room-fits benches jobs e =
+    let z = sized (lengthFor benches jobs) benches jobs (true→T (sizesFit (lengthFor benches jobs) benches jobs) e) in
+    let b = within-high 1 mostBenches benches (z .benches-within) in
+    let j = within-high 1 mostJobs jobs (z .jobs-within) in
+    length-take (lengthFor benches jobs) (replicate (lengthFor mostBenches mostJobs) 0)
+    ∙ omega (arith, length-replicate {A = ℕ} (lengthFor mostBenches mostJobs) 0)
+
+-- "All else [..] gives 10", and the lines after it find the same state: 10 leaves "the board"
+pub unreadable-line : (s : Counter) (line piece : List ℕ) (rest : List (List ℕ)) → command line ≡ none → prints s (line ∷ piece ∷ rest) ≡ text "R 10\n" ++ prints s (piece ∷ rest)
+unfolding prints printed flatMap
+unreadable-line s line piece rest e = rw (prints, e)
+
+-- "a refused B keeps the old table"
+pub refused-keeps : (benches jobs : ℕ) (s : Counter) (o : Outcome) → isRefused (o .answer) ≡ true → after (setTable benches jobs) s o ≡ s
+unfolding after
+refused-keeps benches jobs s o e = rw e
+
+-- a question keeps the state
+pub question-keeps : (s : Counter) (o : Outcome) (h : ℕ) → (after (askTightSet h) s o ≡ s) × (after askHeaviest s o ≡ s)
+unfolding after
+question-keeps s o h = (refl, refl)
+
+module _ (t : List ℕ) (s : T (sound t)) where
+  -- "H heaviest"
+  pub heaviest-line : lineFor askHeaviest (done askHeaviest t) ≡ printed (code "H") (heaviest (decode t) ∷ [])
+  unfolding lineFor done conditions accepted
+  heaviest-line = rw (sound-outcome heaviestLoad t s)
+
+  -- "S height, benches, inside jobs, then the benches"
+  pub tight-line : (h n i : ℕ) → (outcome (tightSetOf h counterList) t) .answer ≡ tightSetIs n i → lineFor (askTightSet h) (done (askTightSet h) t) ≡ printed (code "S") (h ∷ n ∷ i ∷ tightSet (decode t) h)
+  unfolding lineFor done
+  tight-line h n i e = rw (e, (tight-list t s h counterList n i e) .benches)
+
+-- "If a blank table and a zero tally start together": so they do with each B that is not refused, whatever was before
+pub table-starts : (benches jobs : ℕ) (s : Counter) → sizesFit (lengthFor benches jobs) benches jobs ≡ true → after (setTable benches jobs) s (done (setTable benches jobs) (s .table)) ≡ record { table = blankTable benches jobs; tally = zeroTally }
+unfolding done after blanking
+table-starts benches jobs s e = rw (room-fits benches jobs e, e)
+
+-- a sound table whose tally counts its jobs
+abbrev Together : Counter → Type 0
+Together s = T (sound (s .table)) × Balanced (s .tally) (decode (s .table))
+
+-- the program's table and tally are together after each line too, as long as there is no 9: "arrivals less closings are the jobs standing"
+pub counter-balanced : (c : Command) (s : Counter) → T (sound (s .table)) → Balanced (s .tally) (decode (s .table)) → (noted (s .tally) ((done c (s .table)) .answer)) .refusal ≡ none → let u = after c s (done c (s .table)) in T (sound (u .table)) × Balanced (u .tally) (decode (u .table))
+unfolding done after blanking
+counter-balanced (setTable benches jobs) s f b n = go (sizesFit (length (room benches jobs)) benches jobs) refl
+  where
+    go : (z : Bool) → sizesFit (length (room benches jobs)) benches jobs ≡ z → Together (after (setTable benches jobs) s (done (setTable benches jobs) (s .table)))
+    go true e =
+        let z = sized (length (room benches jobs)) benches jobs (true→T (sizesFit (length (room benches jobs)) benches jobs) e) in
+        let d = blank-decodes benches jobs (z .benches-within) (z .jobs-within) in
+        rw e (blank-sound benches jobs (z .benches-within) (z .jobs-within), omega (arith, ap standing d, standing-empty jobs))
+    go false e = rw e (f, b)
+counter-balanced (takeIn j x y) s f b n = let k = keeps (s .table) f (arrival j x y) in (k .form, k .balance (s .tally) b n)
+counter-balanced (closeJob j) s f b n = let k = keeps (s .table) f (closing j) in (k .form, k .balance (s .tally) b n)
+counter-balanced (askTightSet h) s f b n = (f, b)
+counter-balanced askHeaviest s f b n = (f, b)
+
+-- a run with every kind of line and of unreadable line
+pub counter-told : counter (text "H\nB 2 123\nA 9 1 2\nA 12 1 2\nA 99 1 2\nS 2\nB 501 4\nH\nA 9 1 2\nAB 1 1 2\nA 1 1 2 3\nD 9 x\n\nh\nA  1 1 2\nH\nD 12\nA 0 1 2\nD 65535\nD 65536\nS \n S 1\nS 0\nH\nA 7 1 2") ≡ text "R 1\nB 2 123\nA 9 1 1 0\nA 12 2 2 0\nA 99 1 1 0\nS 2 2 3 1 2\nR 1\nH 2\nR 5\nR 10\nR 10\nR 10\nR 10\nR 10\nR 10\nH 2\nD 12 1 1\nR 3\nR 3\nR 10\nR 10\nR 10\nR 7\nH 1\nR 10\n"
+unfolding flatMap heaviest sizesFit layout formed fits sound boardOf decode layoutOf flat encode blankTable steps pathsFrom improves improvingFrom improving improvingTo flip arrivalChoice closingChoice levellingChoice arrive close level widen tightSet conditions arrivalOutcome closingOutcome levellingOutcome tightSetOutcome accepted outcome blanking noted number commandFor command printed lineFor done after prints counter
+counter-told = refl

@@ -1,0 +1,3 @@
+-- What is proved of the lines.
+pub mod Counter
+pub mod CounterRun

@@ -1,0 +1,2 @@
+-- Refusals of what each question asks.
+pub mod Asking

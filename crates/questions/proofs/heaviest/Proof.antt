@@ -1,0 +1,50 @@
+-- The heaviest load of a sound table.
+use Rattle.calls.specs.Calls.{heaviestLoad}
+use Rattle.size.specs.Sizes.{SoundTable}
+use Rattle.answers.proofs.Formal.{sizes-refused, unsound-refused}
+use Rattle.questions.proofs.Asking.{heaviest-told}
+use borrow.Author.Needs.{needs}
+use Rattle.questions.proofs.heaviest.Statement.{statement}
+use Rattle.questions.proofs.heaviest.Tie as tie
+
+check-requires : tie.Need-check-requires
+check-requires c κs = search needs
+
+enum-told : tie.Need-enum-told
+enum-told c = search needs
+
+enum-told-2 : tie.Need-enum-told-2
+enum-told-2 c = search needs
+
+enum-known-s : tie.Need-enum-known-s
+enum-known-s c = search needs
+
+-- the table is sound
+sound-table : (c : tie.After-known-told) → SoundTable (c .before .before .before .before .before .args .t .now) (c .before .s .given .0 .0)
+sound-table c = rw (c .before .s .given .1) at (c .before .before .before .check .ensures .says)
+
+heaviest-requires : tie.Need-heaviest-requires
+heaviest-requires c κs = sound-table c
+
+returns : tie.Need-returns
+returns c = sizes-refused heaviestLoad _ (rw (c .enum-told .given .1) at (c .before .before .check .ensures .says))
+
+returns-2 : tie.Need-returns-2
+returns-2 c =
+    unsound-refused heaviestLoad _ (rw (c .enum-told2 .given .1) at (c .before .before .check .ensures .says))
+
+returns-3 : tie.Need-returns-3
+returns-3 c = heaviest-told (sound-table (c .before)) (c .heaviest .result) (c .heaviest .ensures)
+
+pub heaviest-spec : {M : Type 1} → statement M
+heaviest-spec =
+    tie.close
+    (tie.spec
+    check-requires
+    enum-told
+    enum-told-2
+    enum-known-s
+    heaviest-requires
+    returns
+    returns-2
+    returns-3)

@@ -1,0 +1,98 @@
+// The questions: they change no table byte.
+ghost use mathlib.Core.List.{[]};
+ghost use Rattle.calls.specs.Calls.{outcome, loadOf, heaviestLoad, tightSetOf, formCheck, levelCheck};
+ghost use Rattle.size.specs.Sizes.{SoundTable};
+ghost use Rattle.answers.specs.Answered.{Leaves};
+use answers::Answer;
+use answers::Refusal;
+use form::Form;
+use sharing::counts;
+use size::Size;
+use tight::set;
+
+// Form check: sound, or the refusal.
+pub fn form_check(t: &[u8]) -> Answer
+    ensures { λ r. ⌜ Leaves (outcome formCheck (now (t .entry))) r (now (t .entry)) [] ⌝ }
+{
+    match form::check(t) {
+        Form::Sizes => Answer::Refused(Refusal::Sizes),
+        Form::Unsound => Answer::Refused(Refusal::Unsound),
+        Form::Sound(_) => Answer::Sound,
+    }
+}
+
+// Level check: whether no path improves.
+pub fn level_check(t: &[u8]) -> Answer
+    ensures { λ r. ⌜ Leaves (outcome levelCheck (now (t .entry))) r (now (t .entry)) [] ⌝ }
+{
+    match form::check(t) {
+        Form::Sizes => Answer::Refused(Refusal::Sizes),
+        Form::Unsound => Answer::Refused(Refusal::Unsound),
+        Form::Sound(s) => {
+            if levels::is_level(t, s) {
+                Answer::Level
+            } else {
+                Answer::NotLevel
+            }
+        }
+    }
+}
+
+// The load of a bench.
+pub fn load(t: &[u8], bench: usize) -> Answer
+    ensures { λ r. ⌜ Leaves (outcome (loadOf bench) (now (t .entry))) r (now (t .entry)) [] ⌝ }
+{
+    match form::check(t) {
+        Form::Sizes => Answer::Refused(Refusal::Sizes),
+        Form::Unsound => Answer::Refused(Refusal::Unsound),
+        Form::Sound(s) => {
+            if s.has_bench(bench) {
+                Answer::Load(counts::load(t, s, bench))
+            } else {
+                Answer::Refused(Refusal::BenchNumber)
+            }
+        }
+    }
+}
+
+// The heaviest load.
+pub fn heaviest(t: &[u8]) -> Answer
+    ensures { λ r. ⌜ Leaves (outcome heaviestLoad (now (t .entry))) r (now (t .entry)) [] ⌝ }
+{
+    match form::check(t) {
+        Form::Sizes => Answer::Refused(Refusal::Sizes),
+        Form::Unsound => Answer::Refused(Refusal::Unsound),
+        Form::Sound(s) => Answer::Heaviest(counts::heaviest(t, s)),
+    }
+}
+
+fn tight_set_on(t: &[u8], s: Size, height: usize, list: &mut [u8]) -> Answer
+    requires { ⌜ SoundTable (now t) s ⌝ }
+    ensures { λ r. ⌜ Leaves (outcome (tightSetOf height (now (list .entry))) (now (t .entry))) r (now (t .entry)) (now (list .exit)) ⌝ }
+{
+    if height == 0 {
+        return Answer::Refused(Refusal::Height);
+    }
+    let mut marks = set::unmarked();
+    let e = set::tight_set(t, s, height, &mut marks);
+    // No bench has this load: the height is above the heaviest.
+    if e.benches == 0 {
+        return Answer::Refused(Refusal::Height);
+    }
+    if list.len() < 2 * e.benches {
+        return Answer::Refused(Refusal::ListTooShort);
+    }
+    set::write(s, &marks, list);
+    Answer::TightSet(e.benches, e.jobs)
+}
+
+// The tight set of a height: its benches, rising, as words at the list's beginning.
+pub fn tight_set(t: &[u8], height: usize, list: &mut [u8]) -> Answer
+    ensures { λ r. ⌜ Leaves (outcome (tightSetOf height (now (list .entry))) (now (t .entry))) r (now (t .entry)) (now (list .exit)) ⌝ }
+{
+    match form::check(t) {
+        Form::Sizes => Answer::Refused(Refusal::Sizes),
+        Form::Unsound => Answer::Refused(Refusal::Unsound),
+        Form::Sound(s) => tight_set_on(t, s, height, list),
+    }
+}

@@ -1,0 +1,2 @@
+-- A job's record as the code holds it.
+pub mod Records

@@ -1,0 +1,112 @@
+// Jobs' records: words B + 4 × j and the next three are job j's, which is 4 + B + 4 × (j − 1).
+ghost use mathlib.Core.Path.{_≡_};
+ghost use Prim.Native.Nat.{_+_, _*_, _<_};
+ghost use Rattle.layout.specs.Table.{holderIn};
+ghost use Rattle.words.specs.Bytes.{laid};
+ghost use Rattle.size.specs.Sizes.{Limits, SizeOf, JobIn};
+ghost use Rattle.size.specs.Written.{recordIn, Laid, withEntry, withHolder, withNext};
+ghost use Rattle.records.specs.Records.{entryOf, Small, RecordOf};
+use size::Size;
+
+// "First bench, second bench, holder (1 first-named, 2 second-named), next job on the chain."
+pub struct Record {
+    pub first: usize,
+    pub second: usize,
+    pub holder: usize,
+    pub next: usize,
+}
+
+impl Record {
+    // The bench that the holder word tells, 0 for none.
+    pub fn holder_bench(self) -> usize
+        ensures { λ r. ⌜ r ≡ holderIn (entryOf self) ⌝ }
+    {
+        let first = self.first;
+        let second = self.second;
+        let holder = self.holder;
+        if holder == 1 {
+            return first;
+        }
+        if holder == 2 {
+            return second;
+        }
+        0
+    }
+}
+
+// Where job j's record begins.
+fn record_at(s: Size, j: usize) -> usize
+    requires { ⌜ Limits s ⌝ }
+    requires { ⌜ JobIn s j ⌝ }
+    ensures { λ r. ⌜ r ≡ s .benches + 4 * j ⌝ }
+{
+    s.benches() + 4 * j
+}
+
+// Job j's record.
+pub fn read_record(t: &[u8], s: Size, j: usize) -> Record
+    requires { ⌜ SizeOf (now t) s ⌝ }
+    requires { ⌜ JobIn s j ⌝ }
+    ensures { λ r. ⌜ RecordOf (now (t .entry)) j r ⌝ }
+{
+    let at = record_at(s, j);
+    let first = words::read(t, at);
+    let second = words::read(t, at + 1);
+    let holder = words::read(t, at + 2);
+    let next = words::read(t, at + 3);
+    Record {
+        first,
+        second,
+        holder,
+        next,
+    }
+}
+
+// The bench that job j's holder word tells, 0 for none. It reads that bench alone: no branch on which of the names it is, which a processor
+// would guess wrong every other time.
+pub fn holder_at(t: &[u8], s: Size, j: usize) -> usize
+    requires { ⌜ SizeOf (now t) s ⌝ }
+    requires { ⌜ JobIn s j ⌝ }
+    ensures { λ r. ⌜ r ≡ holderIn (recordIn (now (t .entry)) j) ⌝ }
+{
+    let at = record_at(s, j);
+    let place = words::read(t, at + 2);
+    if place < 1 || 2 < place {
+        return 0;
+    }
+    words::read(t, at + place - 1)
+}
+
+// Job j's record written anew.
+pub fn write_record(t: &mut [u8], s: Size, j: usize, r: Record)
+    requires { ⌜ SizeOf (now t) s ⌝ }
+    requires { ⌜ JobIn s j ⌝ }
+    requires { ⌜ Small r ⌝ }
+    ensures { λ _. ⌜ Laid (now (t .exit)) s (withEntry (laid (now (t .entry))) j (entryOf r)) ⌝ }
+{
+    let at = record_at(s, j);
+    words::write(t, at, r.first);
+    words::write(t, at + 1, r.second);
+    words::write(t, at + 2, r.holder);
+    words::write(t, at + 3, r.next);
+}
+
+// Another holder word in job j's record.
+pub fn write_holder(t: &mut [u8], s: Size, j: usize, holder: usize)
+    requires { ⌜ SizeOf (now t) s ⌝ }
+    requires { ⌜ JobIn s j ⌝ }
+    requires { ⌜ holder < 65536 ⌝ }
+    ensures { λ _. ⌜ Laid (now (t .exit)) s (withEntry (laid (now (t .entry))) j (withHolder (recordIn (now (t .entry)) j) holder)) ⌝ }
+{
+    words::write(t, record_at(s, j) + 2, holder);
+}
+
+// Another next word in job j's record.
+pub fn write_next(t: &mut [u8], s: Size, j: usize, next: usize)
+    requires { ⌜ SizeOf (now t) s ⌝ }
+    requires { ⌜ JobIn s j ⌝ }
+    requires { ⌜ next < 65536 ⌝ }
+    ensures { λ _. ⌜ Laid (now (t .exit)) s (withEntry (laid (now (t .entry))) j (withNext (recordIn (now (t .entry)) j) next)) ⌝ }
+{
+    words::write(t, record_at(s, j) + 3, next);
+}

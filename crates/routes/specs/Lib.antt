@@ -1,0 +1,3 @@
+-- What ends and routes promise.
+pub mod Ends
+pub mod Route

@@ -1,0 +1,15 @@
+-- The two tests of `within`.
+use Prim.Native.Nat.{_≤_, _<_}
+use native.Mathlib.Omega.{arith}
+use borrow.Author.Tests.{le-leb, lt-leb}
+use Rattle.size.proofs.Size.has_bench.Statement.{statement}
+use Rattle.size.proofs.Size.has_bench.Tie as tie
+
+returns : tie.Need-returns
+returns c = let h : 1 ≤ c .before .before .args .x = omega arith in rw (le-leb 1 (c .before .before .args .x) h)
+
+returns-2 : tie.Need-returns-2
+returns-2 c = let h : c .before .args .x < 1 = omega arith in rw (lt-leb 1 (c .before .args .x) h)
+
+pub has-bench-spec : {M : Type 1} → statement M
+has-bench-spec = tie.close (tie.spec returns returns-2)

@@ -1,0 +1,304 @@
+-- What a written word does to the layout.
+use Prim.Native.Nat.{ℕ, zero, suc, _+_, _-_, _*_, _≤_, _<_}
+use native.Mathlib.Omega.{arith}
+use mathlib.Core.Path.{_≡_, refl, sym, ap, _∙_, subst}
+use mathlib.Core.Logic.{_⊎_, ⊎-elim}
+use mathlib.Core.List.{List, [], _∷_, _++_, flatMap}
+use lib.ListN.{length, getD, set, take, drop, replicate, length-append, length-take, length-drop, length-replicate, take-append-drop}
+use lib.Seq.{take-set-le, take-set-lt, drop-set-lt, drop-set-add, getD-set-other, take-at, drop-at, drop-append-add}
+use Rattle.basics.specs.Lists.{nth, change}
+use Rattle.layout.specs.Table.{words, Entry, vacant, holderIn, entriesIn, entryWords, Layout, layout, flat}
+use Rattle.basics.proofs.Basics.{nth-change-same, change-again, each-replicate}
+use Rattle.layout.proofs.Words.{words-append}
+use Rattle.layout.proofs.Sound.{two-more, length-words, entryFrom, head-at, entry-at}
+use Rattle.words.specs.Bytes.{IsWord, setWord, laid}
+use Rattle.size.specs.Sizes.{SizeOf, JobIn, BenchIn}
+use Rattle.size.specs.Written.{HeadOf, withNext, withHead, cleared, withEntry, withStanding, Laid}
+use Rattle.size.specs.declared.Size.{Size}
+use Rattle.words.proofs.Bytes.{words-setWord, length-setWord, zero-bytes}
+use Rattle.size.proofs.Sizes.{size-kept, words-long, entries-long}
+
+-- one word
+
+-- a word after words 0 and 1 leaves the size, and the layout is that of the changed words
+written : (t : List ℕ) (s : Size) (i w : ℕ) (l : Layout) → SizeOf t s → 2 ≤ i → i < length (words t) → w < 65536 → layout (set (words t) i w) ≡ l → Laid (setWord t i w) s l
+written t s i w l z low high small e =
+    let ws : words (setWord t i w) ≡ set (words t) i w = words-setWord t i w (omega (arith, length-words t)) small in
+    let b : getD (set (words t) i w) 0 0 ≡ getD (words t) 0 0 = getD-set-other (words t) i 0 w 0 (λ p. omega arith) in
+    let j : getD (set (words t) i w) 1 0 ≡ getD (words t) 1 0 = getD-set-other (words t) i 1 w 0 (λ p. omega arith) in
+    record {
+      size = size-kept t (setWord t i w) s z (length-setWord t i w) (ap (λ (k : List ℕ). getD k 0 0) ws ∙ b) (ap (λ (k : List ℕ). getD k 1 0) ws ∙ j);
+      layout = ap layout ws ∙ e;
+    }
+
+-- the layout with other heads and other records
+abbrev pub withBoth : Layout → List ℕ → List Entry → Layout
+withBoth l heads entries =
+    record { benches = l .benches; jobs = l .jobs; standing = l .standing; spare = l .spare; heads = heads; entries = entries }
+
+-- words 0 to 3 stay where a later one is changed
+layout-later : (ws : List ℕ) (i w : ℕ) → let b = (layout ws) .benches in layout (set ws (4 + i) w) ≡ withBoth (layout ws) (take b (set (drop 4 ws) i w)) (entriesIn (drop (4 + b) (set ws (4 + i) w)))
+unfolding layout
+layout-later ws i w =
+    let us : List ℕ = set ws (4 + i) w in
+    let kept : (k : ℕ) → k < 4 → getD us k 0 ≡ getD ws k 0 = λ k l. getD-set-other ws (4 + i) k w 0 (λ p. omega arith) in
+    let first : getD us 0 0 ≡ getD ws 0 0 = kept 0 (omega arith) in
+    λ k. record {
+      benches = first k;
+      jobs = kept 1 (omega arith) k;
+      standing = kept 2 (omega arith) k;
+      spare = kept 3 (omega arith) k;
+      heads = take (first k) (drop-set-add 4 ws i w k);
+      entries = entriesIn (drop (4 + first k) us);
+    }
+
+-- heads
+
+-- word 4 + i is the head at place 1 + i
+layout-head : (ws : List ℕ) (i w : ℕ) → i < (layout ws) .benches → layout (set ws (4 + i) w) ≡ withHead (layout ws) (suc i) w
+unfolding layout
+layout-head ws i w l =
+    let b : ℕ = getD ws 0 0 in
+    let heads : take b (set (drop 4 ws) i w) ≡ set (take b (drop 4 ws)) i w = take-set-lt b (drop 4 ws) i w l in
+    let rest : drop (4 + b) (set ws (4 + i) w) ≡ drop (4 + b) ws = drop-set-lt (4 + b) ws (4 + i) w (omega arith) in
+    layout-later ws i w ∙ (λ k. withBoth (layout ws) (heads k) (entriesIn (rest k)))
+
+-- word 3 + x
+pub laid-head : (t : List ℕ) (s : Size) (x j : ℕ) → SizeOf t s → BenchIn s x → j < 65536 → Laid (setWord t (3 + x) j) s (withHead (laid t) x j)
+laid-head t s zero j z b w = absurd (omega (arith, b .least))
+laid-head t s (suc i) j z b w =
+    let e : 3 + suc i ≡ 4 + i = omega arith in
+    let l : layout (set (words t) (4 + i) j) ≡ withHead (laid t) (suc i) j = layout-head (words t) i j (omega (arith, b .most, z .benches)) in
+    rw e (written t s (4 + i) j (withHead (laid t) (suc i) j) z (omega arith) (omega (arith, words-long t s z, b .most)) w l)
+
+-- records
+
+-- a record with another word at place k: 0 and 1 are the names, 2 the holder, 3 the next job
+abbrev withWord : ℕ → ℕ → Entry → Entry
+withWord zero w e = record { names = set (e .names) 0 w; holder = e .holder; next = e .next }
+withWord (suc zero) w e = record { names = set (e .names) 1 w; holder = e .holder; next = e .next }
+withWord (suc (suc zero)) w e = record { names = e .names; holder = w; next = e .next }
+withWord (suc (suc (suc k))) w e = withNext e w
+
+-- word k of the record at place i
+entriesIn-word : (ws : List ℕ) (i k w : ℕ) → k < 4 → 4 * i + 4 ≤ length ws → entriesIn (set ws (4 * i + k) w) ≡ set (entriesIn ws) i (withWord k w (getD (entriesIn ws) i vacant))
+entriesIn-word [] i k w p l = absurd (omega arith)
+entriesIn-word (a ∷ []) i k w p l = absurd (omega arith)
+entriesIn-word (a ∷ b ∷ []) i k w p l = absurd (omega arith)
+entriesIn-word (a ∷ b ∷ h ∷ []) i k w p l = absurd (omega arith)
+entriesIn-word (a ∷ b ∷ h ∷ n ∷ ws) zero zero w p l = refl
+entriesIn-word (a ∷ b ∷ h ∷ n ∷ ws) zero (suc zero) w p l = refl
+entriesIn-word (a ∷ b ∷ h ∷ n ∷ ws) zero (suc (suc zero)) w p l = refl
+entriesIn-word (a ∷ b ∷ h ∷ n ∷ ws) zero (suc (suc (suc zero))) w p l = refl
+entriesIn-word (a ∷ b ∷ h ∷ n ∷ ws) zero (suc (suc (suc (suc k)))) w p l = absurd (omega arith)
+entriesIn-word (a ∷ b ∷ h ∷ n ∷ ws) (suc i) k w p l =
+    let e : 4 * suc i + k ≡ suc (suc (suc (suc (4 * i + k)))) = omega arith in
+    rw e (ap (λ (es : List Entry). record { names = a ∷ b ∷ []; holder = h; next = n } ∷ es) (entriesIn-word ws i k w p (omega arith)))
+
+-- word B + 4 × j + k is word k of job j's record
+layout-word : (ws : List ℕ) (j k w : ℕ) → 1 ≤ j → k < 4 → 4 + (layout ws) .benches + 4 * j ≤ length ws → layout (set ws ((layout ws) .benches + 4 * j + k) w) ≡ withEntry (layout ws) j (withWord k w (nth ((layout ws) .entries) j vacant))
+unfolding layout
+layout-word ws zero k w l p h = absurd (omega arith)
+layout-word ws (suc i) k w l p h =
+    let b : ℕ = getD ws 0 0 in
+    let m : ℕ = 4 * i + k in
+    let d : b + 4 * suc i + k ≡ 4 + (b + m) = omega arith in
+    let r : 4 + (b + m) ≡ 4 + b + m = omega arith in
+    let heads : take b (set (drop 4 ws) (b + m) w) ≡ take b (drop 4 ws) = take-set-le b (drop 4 ws) (b + m) w (omega arith) in
+    let rest : drop (4 + b) (set ws (4 + (b + m)) w) ≡ set (drop (4 + b) ws) m w = rw r (drop-set-add (4 + b) ws m w) in
+    let entries = ap entriesIn rest ∙ entriesIn-word (drop (4 + b) ws) i k w p (omega (arith, length-drop (4 + b) ws)) in
+    rw d (layout-later ws (b + m) w ∙ (λ q. withBoth (layout ws) (heads q) (entries q)))
+
+-- job j's record is words B + 4 × j and the next three
+pub record-words : (t : List ℕ) (s : Size) (j : ℕ) → SizeOf t s → JobIn s j → nth ((laid t) .entries) j vacant ≡ entryFrom (words t) (s .benches + 4 * j)
+record-words t s j z i = rw (sym (z .benches)) (entry-at (words t) j (i .least) (omega (arith, words-long t s z, z .benches, i .most)))
+
+-- word k of job j's record written ..
+laid-word : (t : List ℕ) (s : Size) (j k w : ℕ) → SizeOf t s → JobIn s j → k < 4 → w < 65536 → Laid (setWord t (s .benches + 4 * j + k) w) s (withEntry (laid t) j (withWord k w (nth ((laid t) .entries) j vacant)))
+laid-word t s j k w z i p small =
+    let l : Layout = withEntry (laid t) j (withWord k w (nth ((laid t) .entries) j vacant)) in
+    let e = layout-word (words t) j k w (i .least) p (omega (arith, words-long t s z, z .benches, i .most)) in
+    let f : layout (set (words t) (s .benches + 4 * j + k) w) ≡ l = rw (sym (z .benches)) e in
+    written t s (s .benches + 4 * j + k) w l z (omega (arith, i .least)) (omega (arith, words-long t s z, i .most)) small f
+
+-- .. after others of it
+laid-again : (t : List ℕ) (s : Size) (l : Layout) (j k w : ℕ) (e : Entry) → Laid t s (withEntry l j e) → JobIn s j → j ≤ length (l .entries) → k < 4 → w < 65536 → Laid (setWord t (s .benches + 4 * j + k) w) s (withEntry l j (withWord k w e))
+laid-again t s l j k w e a i m p small =
+    let r = laid-word t s j k w (a .size) i p small in
+    let same : nth (change (l .entries) j e) j vacant ≡ e = nth-change-same (l .entries) j e vacant (i .least) m in
+    let q : Layout → Layout = λ m. withEntry m j (withWord k w (nth (m .entries) j vacant)) in
+    let f : q (withEntry l j e) ≡ withEntry l j (withWord k w e) = rw same (λ n. withBoth l (l .heads) (change-again (l .entries) j e (withWord k w e) n)) in
+    record { size = r .size; layout = r .layout ∙ ap q (a .layout) ∙ f }
+
+-- the four words of job j's record, written one after the other
+pub laid-entry : (t : List ℕ) (s : Size) (j a b h n : ℕ) → SizeOf t s → JobIn s j → a < 65536 → b < 65536 → h < 65536 → n < 65536 → Laid (setWord (setWord (setWord (setWord t (s .benches + 4 * j) a) (s .benches + 4 * j + 1) b) (s .benches + 4 * j + 2) h) (s .benches + 4 * j + 3) n) s (withEntry (laid t) j (record { names = a ∷ b ∷ []; holder = h; next = n }))
+laid-entry t s j a b h n z i wa wb wh wn =
+    let p : ℕ = s .benches + 4 * j in
+    let l : Layout = laid t in
+    let m : j ≤ length (l .entries) = omega (arith, entries-long t s z, i .most) in
+    let old : Entry = nth (l .entries) j vacant in
+    let t0 : List ℕ = setWord t p a in
+    let t1 : List ℕ = setWord t0 (p + 1) b in
+    let t2 : List ℕ = setWord t1 (p + 2) h in
+    let t3 : List ℕ = setWord t2 (p + 3) n in
+    let r0 : Laid t0 s (withEntry l j (withWord 0 a old)) = subst (λ (q : ℕ). Laid (setWord t q a) s (withEntry l j (withWord 0 a old))) (omega arith) (laid-word t s j 0 a z i (omega arith) wa) in
+    let r1 = laid-again t0 s l j 1 b (withWord 0 a old) r0 i m (omega arith) wb in
+    let r2 = laid-again t1 s l j 2 h (withWord 1 b (withWord 0 a old)) r1 i m (omega arith) wh in
+    let r3 = laid-again t2 s l j 3 n (withWord 2 h (withWord 1 b (withWord 0 a old))) r2 i m (omega arith) wn in
+    subst (λ (e : Entry). Laid t3 s (withEntry l j (withWord 3 n (withWord 2 h (withWord 1 b (withWord 0 a e)))))) (record-words t s j z i) r3
+
+-- the holder word alone ..
+pub laid-holder : (t : List ℕ) (s : Size) (j h : ℕ) → SizeOf t s → JobIn s j → h < 65536 → let e = nth ((laid t) .entries) j vacant in Laid (setWord t (s .benches + 4 * j + 2) h) s (withEntry (laid t) j (record { names = e .names; holder = h; next = e .next }))
+laid-holder t s j h z i w = laid-word t s j 2 h z i (omega arith) w
+
+-- .. and the next word alone
+pub laid-next : (t : List ℕ) (s : Size) (j n : ℕ) → SizeOf t s → JobIn s j → n < 65536 → Laid (setWord t (s .benches + 4 * j + 3) n) s (withEntry (laid t) j (withNext (nth ((laid t) .entries) j vacant) n))
+laid-next t s j n z i w = laid-word t s j 3 n z i (omega arith) w
+
+-- the number of standing jobs
+
+-- the other words stay where words 2 and 3 are changed
+layout-standing : (ws : List ℕ) (n : ℕ) → 4 ≤ length ws → layout (set (set ws 2 n) 3 0) ≡ withStanding (layout ws) n
+unfolding layout
+layout-standing [] n l = absurd (omega arith)
+layout-standing (a ∷ []) n l = absurd (omega arith)
+layout-standing (a ∷ b ∷ []) n l = absurd (omega arith)
+layout-standing (a ∷ b ∷ c ∷ []) n l = absurd (omega arith)
+layout-standing (a ∷ b ∷ c ∷ d ∷ ws) n l =
+    let rest : drop (4 + a) (a ∷ b ∷ n ∷ 0 ∷ ws) ≡ drop (4 + a) (a ∷ b ∷ c ∷ d ∷ ws) = drop-append-add (a ∷ b ∷ n ∷ 0 ∷ []) ws a ∙ sym (drop-append-add (a ∷ b ∷ c ∷ d ∷ []) ws a) in
+    λ k. record { benches = a; jobs = b; standing = n; spare = 0; heads = take a ws; entries = entriesIn (rest k) }
+
+-- words 2 and 3
+pub laid-standing : (t : List ℕ) (s : Size) (n : ℕ) → SizeOf t s → n < 65536 → Laid (setWord (setWord t 2 n) 3 0) s (withStanding (laid t) n)
+laid-standing t s n z w =
+    let u : List ℕ = setWord t 2 n in
+    let long : length (words t) ≡ 4 + s .benches + 4 * s .jobs = words-long t s z in
+    let ws : words u ≡ set (words t) 2 n = words-setWord t 2 n (omega (arith, length-words t)) w in
+    let r : Laid u s (layout (set (words t) 2 n)) = written t s 2 n (layout (set (words t) 2 n)) z (omega arith) (omega arith) w refl in
+    let e : layout (set (words u) 3 0) ≡ withStanding (laid t) n = rw ws (layout-standing (words t) n (omega arith)) in
+    written u s 3 0 (withStanding (laid t) n) (r .size) (omega arith) (omega (arith, words-long u s (r .size))) (omega arith) e
+
+-- no heads
+
+-- bytes two by two, read as words: the first n words ..
+words-take : (n : ℕ) (t rest : List ℕ) → 2 * n ≤ length t → words (take (2 * n) t ++ rest) ≡ take n (words t) ++ words rest
+words-take zero t rest l = refl
+words-take (suc n) [] rest l = absurd (omega arith)
+words-take (suc n) (a ∷ []) rest l = absurd (omega arith)
+words-take (suc n) (a ∷ b ∷ t) rest l = rw (two-more n) (ap (λ (ws : List ℕ). (a + 256 * b) ∷ ws) (words-take n t rest (omega arith)))
+
+-- .. the words after them ..
+words-drop : (n : ℕ) (t : List ℕ) → words (drop (2 * n) t) ≡ drop n (words t)
+words-drop zero t = refl
+words-drop (suc n) [] = rw (two-more n)
+words-drop (suc n) (a ∷ []) = rw (two-more n)
+words-drop (suc n) (a ∷ b ∷ t) = rw (two-more n) (words-drop n t)
+
+-- .. and n zero words
+words-zeros : (n : ℕ) (rest : List ℕ) → words (replicate (2 * n) 0 ++ rest) ≡ replicate n 0 ++ words rest
+words-zeros n rest = rw (zero-bytes n) (words-append (replicate n 0) rest (each-replicate (λ w. w < 65536) n 0 (omega arith)))
+
+-- B zero words after word 3 are the heads
+layout-cleared : (ws : List ℕ) → 4 ≤ length ws → let b = (layout ws) .benches in layout (take 4 ws ++ (replicate b 0 ++ drop (4 + b) ws)) ≡ cleared (layout ws)
+unfolding layout
+layout-cleared [] l = absurd (omega arith)
+layout-cleared (a ∷ []) l = absurd (omega arith)
+layout-cleared (a ∷ b ∷ []) l = absurd (omega arith)
+layout-cleared (a ∷ b ∷ c ∷ []) l = absurd (omega arith)
+layout-cleared (a ∷ b ∷ c ∷ d ∷ ws) l =
+    let zeros : List ℕ = replicate a 0 in
+    let rest : List ℕ = drop (4 + a) (a ∷ b ∷ c ∷ d ∷ ws) in
+    let heads : take a (zeros ++ rest) ≡ zeros = take-at zeros rest a (length-replicate {A = ℕ} a 0) in
+    let entries : drop (4 + a) (a ∷ b ∷ c ∷ d ∷ (zeros ++ rest)) ≡ rest = drop-at (a ∷ b ∷ c ∷ d ∷ zeros) rest (4 + a) (omega (arith, length-replicate {A = ℕ} a 0)) in
+    λ k. withBoth (layout (a ∷ b ∷ c ∷ d ∷ ws)) (heads k) (entriesIn (entries k))
+
+-- the words of all heads: bytes 8 to 8 + 2 × B
+pub laid-cleared : (t : List ℕ) (s : Size) → SizeOf t s → Laid (take 8 t ++ (replicate (2 * s .benches) 0 ++ drop (8 + 2 * s .benches) t)) s (cleared (laid t))
+unfolding layout
+laid-cleared t s z =
+    let b : ℕ = s .benches in
+    let rest : List ℕ = drop (8 + 2 * b) t in
+    let zeros : List ℕ = replicate (2 * b) 0 in
+    let u : List ℕ = take 8 t ++ (zeros ++ rest) in
+    let e : 8 + 2 * b ≡ 2 * (4 + b) = omega arith in
+    let f : words rest ≡ drop (4 + b) (words t) = rw e (words-drop (4 + b) t) in
+    let ws : words u ≡ take 4 (words t) ++ (replicate b 0 ++ words rest) = words-take 4 t (zeros ++ rest) (omega (arith, z .long)) ∙ ap (λ (l : List ℕ). take 4 (words t) ++ l) (words-zeros b rest) in
+    let c : layout (take 4 (words t) ++ (replicate b 0 ++ drop (4 + b) (words t))) ≡ cleared (laid t) = subst (λ (n : ℕ). layout (take 4 (words t) ++ (replicate n 0 ++ drop (4 + n) (words t))) ≡ cleared (laid t)) (z .benches) (layout-cleared (words t) (omega (arith, words-long t s z))) in
+    let l : laid u ≡ cleared (laid t) = rw (ws, f) c in
+    let long : length u ≡ length t = omega (arith, z .long, length-append (take 8 t) (zeros ++ rest), length-append zeros rest, length-take 8 t, length-drop (8 + 2 * b) t, length-replicate {A = ℕ} (2 * b) 0) in
+    record { size = size-kept t u s z long (ap (λ (l : Layout). l .benches) l) (ap (λ (l : Layout). l .jobs) l); layout = l }
+
+-- all words
+
+-- four words a record, and none left over
+entriesIn-all : (n : ℕ) (ws : List ℕ) → length ws ≡ 4 * n → flatMap entryWords (entriesIn ws) ≡ ws
+unfolding flatMap
+entriesIn-all n [] e = refl
+entriesIn-all n (a ∷ []) e = absurd (omega arith)
+entriesIn-all n (a ∷ b ∷ []) e = absurd (omega arith)
+entriesIn-all n (a ∷ b ∷ h ∷ []) e = absurd (omega arith)
+entriesIn-all zero (a ∷ b ∷ h ∷ m ∷ ws) e = absurd (omega arith)
+entriesIn-all (suc n) (a ∷ b ∷ h ∷ m ∷ ws) e = ap (λ (l : List ℕ). a ∷ b ∷ h ∷ m ∷ l) (entriesIn-all n ws (omega arith))
+
+-- 4 + B + 4 × J words are those of their layout ..
+flat-layout : (ws : List ℕ) (jobs : ℕ) → length ws ≡ 4 + (layout ws) .benches + 4 * jobs → flat (layout ws) ≡ ws
+unfolding layout flat
+flat-layout [] jobs e = absurd (omega arith)
+flat-layout (a ∷ []) jobs e = absurd (omega arith)
+flat-layout (a ∷ b ∷ []) jobs e = absurd (omega arith)
+flat-layout (a ∷ b ∷ c ∷ []) jobs e = absurd (omega arith)
+flat-layout (a ∷ b ∷ c ∷ d ∷ ws) jobs e =
+    let r : flatMap entryWords (entriesIn (drop a ws)) ≡ drop a ws = entriesIn-all jobs (drop a ws) (omega (arith, length-drop a ws)) in
+    rw (drop-append-add (a ∷ b ∷ c ∷ d ∷ []) ws a, r, take-append-drop a ws)
+
+-- .. and so are a table's
+pub flat-laid : (t : List ℕ) (s : Size) → SizeOf t s → flat (laid t) ≡ words t
+flat-laid t s z = flat-layout (words t) (s .jobs) (omega (arith, words-long t s z, z .benches))
+
+-- words read
+
+-- word 2
+pub standing-read : (t : List ℕ) (r : ℕ) → IsWord t 2 r → r ≡ (laid t) .standing
+unfolding layout
+standing-read t r w = w .value
+
+-- word 3
+pub spare-read : (t : List ℕ) (r : ℕ) → IsWord t 3 r → r ≡ (laid t) .spare
+unfolding layout
+spare-read t r w = w .value
+
+-- word 3 + x
+pub head-read : (t : List ℕ) (s : Size) (x r : ℕ) → SizeOf t s → BenchIn s x → IsWord t (3 + x) r → HeadOf t x r
+head-read t s x r z b w =
+    record {
+      head = w .value ∙ sym (head-at (words t) x (b .least) (omega (arith, b .most, z .benches)));
+      small = w .small;
+    }
+
+-- the bench at place p among a record's two names
+named-word : (ws : List ℕ) (at p : ℕ) → 1 ≤ p → p ≤ 2 → nth (getD ws at 0 ∷ getD ws (at + 1) 0 ∷ []) p 0 ≡ getD ws (at + p - 1) 0
+named-word ws at zero l m = absurd (omega arith)
+named-word ws at (suc zero) l m = let e : at + 1 - 1 ≡ at = omega arith in rw e refl
+named-word ws at (suc (suc zero)) l m = let e : at + 2 - 1 ≡ at + 1 = omega arith in rw e refl
+named-word ws at (suc (suc (suc p))) l m = absurd (omega arith)
+
+-- no bench is at another place
+none-named : (a b p : ℕ) → (p < 1) ⊎ (2 < p) → nth (a ∷ b ∷ []) p 0 ≡ 0
+none-named a b zero o = refl
+none-named a b (suc zero) o = ⊎-elim (λ h. absurd (omega arith)) (λ h. absurd (omega arith)) o
+none-named a b (suc (suc zero)) o = ⊎-elim (λ h. absurd (omega arith)) (λ h. absurd (omega arith)) o
+none-named a b (suc (suc (suc p))) o = refl
+
+module _ (t : List ℕ) (s : Size) (j place : ℕ) (size : SizeOf t s) (job : JobIn s j) (holder : IsWord t (s .benches + 4 * j + 2) place) where
+  -- the holder word tells the bench at its place among the names
+  holder-place : holderIn (nth ((laid t) .entries) j vacant) ≡ nth (getD (words t) (s .benches + 4 * j) 0 ∷ getD (words t) (s .benches + 4 * j + 1) 0 ∷ []) place 0
+  holder-place = ap holderIn (record-words t s j size job) ∙ ap (λ p. nth (getD (words t) (s .benches + 4 * j) 0 ∷ getD (words t) (s .benches + 4 * j + 1) 0 ∷ []) p 0) (sym (holder .value))
+
+  -- .. which is one word
+  pub holder-word : (r : ℕ) → 1 ≤ place → place ≤ 2 → IsWord t (s .benches + 4 * j + place - 1) r → r ≡ holderIn (nth ((laid t) .entries) j vacant)
+  holder-word r l m w = w .value ∙ sym (holder-place ∙ named-word (words t) (s .benches + 4 * j) place l m)
+
+  -- .. or none
+  pub holder-none : (place < 1) ⊎ (2 < place) → 0 ≡ holderIn (nth ((laid t) .entries) j vacant)
+  holder-none o =
+      sym (holder-place ∙ none-named (getD (words t) (s .benches + 4 * j) 0) (getD (words t) (s .benches + 4 * j + 1) 0) place o)

@@ -1,0 +1,3 @@
+-- Sizes, and the layout with one part of it written anew.
+pub mod Sizes
+pub mod Written

@@ -1,0 +1,56 @@
+-- The layout with one part of it written anew.
+use Prim.Native.Nat.{ℕ, _<_}
+use mathlib.Core.Path.{_≡_}
+use mathlib.Core.List.{List}
+use lib.ListN.{replicate}
+use Rattle.size.specs.declared.Size.{Size}
+use Rattle.basics.specs.Lists.{nth, change}
+use Rattle.size.specs.Sizes.{SizeOf}
+use Rattle.layout.specs.Table.{Entry, Layout, vacant}
+use Rattle.words.specs.Bytes.{laid}
+
+-- job j's record
+abbrev pub recordIn : List ℕ → ℕ → Entry
+recordIn t j = nth ((laid t) .entries) j vacant
+
+-- j is the first job on bench x's chain
+pub record HeadOf (t : List ℕ) (x j : ℕ) : Type 0 where
+  pub head : j ≡ nth ((laid t) .heads) x 0
+  pub small : j < 65536
+
+-- a record with another holder word ..
+abbrev pub withHolder : Entry → ℕ → Entry
+withHolder e h = record { names = e .names; holder = h; next = e .next }
+
+-- .. and with another next job
+abbrev pub withNext : Entry → ℕ → Entry
+withNext e n = record { names = e .names; holder = e .holder; next = n }
+
+-- the layout with another first job on bench x's chain
+abbrev pub withHead : Layout → ℕ → ℕ → Layout
+withHead l x j =
+    record { benches = l .benches; jobs = l .jobs; standing = l .standing; spare = l .spare; heads = change (l .heads) x j; entries = l .entries }
+
+-- the layout with other chains' heads
+abbrev pub withHeads : Layout → List ℕ → Layout
+withHeads l heads =
+    record { benches = l .benches; jobs = l .jobs; standing = l .standing; spare = l .spare; heads = heads; entries = l .entries }
+
+-- no chain has a job
+abbrev pub cleared : Layout → Layout
+cleared l = withHeads l (replicate (l .benches) 0)
+
+-- the layout with another record of job j
+abbrev pub withEntry : Layout → ℕ → Entry → Layout
+withEntry l j e =
+    record { benches = l .benches; jobs = l .jobs; standing = l .standing; spare = l .spare; heads = l .heads; entries = change (l .entries) j e }
+
+-- the layout with word 2 written anew and word 3 zero
+abbrev pub withStanding : Layout → ℕ → Layout
+withStanding l n =
+    record { benches = l .benches; jobs = l .jobs; standing = n; spare = 0; heads = l .heads; entries = l .entries }
+
+-- a table of size s that has the layout l: l fixes all its bytes
+pub record Laid (t : List ℕ) (s : Size) (l : Layout) : Type 0 where
+  pub size : SizeOf t s
+  pub layout : laid t ≡ l

@@ -1,0 +1,90 @@
+// How many benches and jobs a table is for.
+ghost use mathlib.Core.Path.{_≡_};
+ghost use Rattle.size.specs.Sizes.{Limits, sizing, sizeIn};
+ghost use Rattle.basics.specs.Lists.{within};
+ghost use Rattle.layout.specs.Table.{lengthFor};
+
+// Numbers of benches and of jobs within the limits.
+pub struct Size {
+    benches: usize,
+    jobs: usize,
+}
+
+// A size, or refused.
+pub enum Sizing {
+    Fit(Size),
+    Misfit,
+}
+
+impl Size {
+    pub const MOST_BENCHES: usize = 500;
+
+    pub const MOST_JOBS: usize = 4000;
+
+    // Refuses numbers outside 1 to MOST_BENCHES and 1 to MOST_JOBS.
+    pub fn new(benches: usize, jobs: usize) -> Sizing
+        ensures { λ r. ⌜ r ≡ sizing benches jobs ⌝ }
+    {
+        if benches < 1 || Size::MOST_BENCHES < benches {
+            return Sizing::Misfit;
+        }
+        if jobs < 1 || Size::MOST_JOBS < jobs {
+            return Sizing::Misfit;
+        }
+        Sizing::Fit(Size { benches, jobs })
+    }
+
+    // The size of a table; refused where its sizes do not fit (refusal 1).
+    pub fn of(t: &[u8]) -> Sizing
+        ensures { λ r. ⌜ r ≡ sizeIn (now (t .entry)) ⌝ }
+    {
+        let len = t.len();
+        if len < 8 {
+            return Sizing::Misfit;
+        }
+        match Size::new(words::read(t, 0), words::read(t, 1)) {
+            Sizing::Misfit => Sizing::Misfit,
+            Sizing::Fit(s) => {
+                if len == s.bytes() {
+                    Sizing::Fit(s)
+                } else {
+                    Sizing::Misfit
+                }
+            }
+        }
+    }
+
+    pub fn benches(self) -> usize
+        ensures { λ r. ⌜ r ≡ self .benches ⌝ }
+    {
+        self.benches
+    }
+
+    pub fn jobs(self) -> usize
+        ensures { λ r. ⌜ r ≡ self .jobs ⌝ }
+    {
+        self.jobs
+    }
+
+    // Whether j is a job number of 1 to J.
+    pub fn has_job(self, j: usize) -> bool
+        ensures { λ r. ⌜ r ≡ within 1 (self .jobs) j ⌝ }
+    {
+        1 <= j && j <= self.jobs
+    }
+
+    // Whether x is a bench of 1 to B.
+    pub fn has_bench(self, x: usize) -> bool
+        ensures { λ r. ⌜ r ≡ within 1 (self .benches) x ⌝ }
+    {
+        1 <= x && x <= self.benches
+    }
+
+    // The byte length of a table of this size.
+    pub fn bytes(self) -> usize
+        requires { ⌜ Limits self ⌝ }
+        ensures { λ r. ⌜ r ≡ lengthFor (self .benches) (self .jobs) ⌝ }
+    {
+        2 * (4 + self.benches + 4 * self.jobs)
+    }
+}

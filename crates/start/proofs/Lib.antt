@@ -1,0 +1,2 @@
+-- The first bench, found by one search after another.
+pub mod Starting

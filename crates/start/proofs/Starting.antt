@@ -1,0 +1,258 @@
+-- Levelling's first bench: one search more, and what it tells of the benches of that load.
+use Prim.Native.Nat.{ℕ, zero, suc, _+_, _-_, _≤_, _<_}
+use native.Mathlib.Omega.{arith}
+use native.Mathlib.Decide.{ℕ-discrete, decLe, decLt}
+use mathlib.Core.Path.{_≡_, refl, sym, ap, subst}
+use mathlib.Core.Logic.{_⊎_, inl, inr, ⊎-elim, _≢_, _↔_}
+use mathlib.Core.List.{List}
+use lib.Dec.{T}
+use lib.ListN.{replicate}
+use Rattle.basics.specs.Lists.{within}
+use Rattle.layout.specs.Table.{mostBenches, mostJobs}
+use Rattle.basics.proofs.Basics.{within-low, within-high, within-both}
+use Rattle.size.specs.Sizes.{Limits}
+use Rattle.size.specs.declared.Size.{Size}
+use Rattle.search.specs.Arrays.{at, Leads, Reached, here, step, Arcs, LoadsIn}
+use Rattle.search.specs.Lists.{LeastFrom, ListedBy, Joins, Ways}
+use Rattle.search.specs.Spread.{Spread}
+use Rattle.start.specs.Start.{QueuedIn, LowIn, AsHeavy, StartsLow, FirstStart, StartOf, Searching, Searched}
+use Rattle.search.proofs.Listing.{array-at, least-some, listed-ways, joins-leads}
+use Rattle.search.proofs.Widening.{reached-same, queued-few, none-queued, none-stays, spread-stays}
+
+-- what is reached
+
+module _ {Joined : ℕ → ℕ → Type 0} where
+  -- what every step hands on holds of all that is reached
+  reached-all : (P : ℕ → Type 0) → ((z y : ℕ) → P z → Joined z y → P y) → (x y : ℕ) → P x → Reached Joined x y → P y
+  reached-all P on x _ p (here _) = p
+  reached-all P on x y p (step _ z _ j r) = reached-all P on z y (on x z p j) r
+
+  -- one step more
+  reached-more : (x y z : ℕ) → Reached Joined x y → Joined y z → Reached Joined x z
+  reached-more x _ z (here _) j = step x z z j (here z)
+  reached-more x y z (step _ w _ i r) j = step x w z i (reached-more w y z r j)
+
+  -- what a search from v found is reached from v
+  found-reached : {v found end : ℕ} {dist queue' dist' : List ℕ} → Spread Joined v found dist end queue' dist' → (n y : ℕ) → at dist y ≡ 0 → at dist' y ≡ suc n → Reached Joined v y
+  found-reached {v} s zero y e f = subst (Reached Joined v) (sym (s .only y e f)) (here v)
+  found-reached {v} s (suc n) y e f =
+      let (z, ez, fz, j) = s .comes y n e f in
+      reached-more v z y (found-reached s n z ez fz) j
+
+  -- a search puts benches into the queue
+  pub spread-queued : {x found end : ℕ} {dist queue' dist' loads : List ℕ} → Spread Joined x found dist end queue' dist' → ((y : ℕ) → T (within 1 mostBenches y) → at loads y ≤ mostJobs) → QueuedIn queue' found end loads
+  spread-queued {found = found} {end} {dist} {queue'} {dist'} s h =
+      record { most = queued-few (s .queued); bench = λ i l u. within-high 1 mostBenches (at queue' i) (bench i l u); few = λ i l u. h (at queue' i) (bench i l u) }
+    where
+      bench : (i : ℕ) → found ≤ i → i < end → T (within 1 mostBenches (at queue' i))
+      bench i l u = let (e, f) = s .new i l u in s .bench (at queue' i) e f
+
+-- a low load in the queue
+
+module _ (queue loads : List ℕ) (begin load : ℕ) where
+  -- the bench at place i has no low load either ..
+  pub low-turn : (i : ℕ) → (LowIn queue begin i loads load → ⊥) → load < at loads (at queue i) + 2 → LowIn queue begin (i + 1) loads load → ⊥
+  low-turn i none high (k, l, u, low) =
+      elim (ℕ-discrete k i) [ yes e ↦ omega (arith, ap (λ (n : ℕ). at loads (at queue n)) e) | no d ↦ none (k, l, omega arith, low) ]
+
+  -- .. and none has one at the end
+  pub low-end : (i end : ℕ) → (LowIn queue begin i loads load → ⊥) → end ≤ i → LowIn queue begin end loads load → ⊥
+  low-end i end none h (k, l, u, low) = none (k, l, omega arith, low)
+
+-- one search more
+
+-- the benches of this load before x were searched, and none of them starts an improving path; x is the next, 0 for none
+pub record Among (Joined : ℕ → ℕ → Type 0) (loads : List ℕ) (n load x found : ℕ) (queue dist : List ℕ) : Type 0 where
+  pub searching : Searching Joined loads n load found queue dist
+  pub next : x ≢ 0 → T (within 1 mostBenches x) × (at loads x ≡ load)
+  pub each : (w : ℕ) → T (within 1 mostBenches w) → at loads w ≡ load → ((x ≢ 0) × (x ≤ w)) ⊎ (StartsLow Joined loads w → ⊥)
+
+-- the least number of 1 to 500 with this load, from i on, is a bench of this load
+least-bench : {loads : List ℕ} {i load x : ℕ} → LeastFrom loads mostBenches i load x → 1 ≤ i → x ≢ 0 → T (within 1 mostBenches x) × (at loads x ≡ load)
+least-bench {x = x} h l d = let (a, b, e) = h .found d in (within-both 1 mostBenches x (omega arith) b, e)
+
+-- no number is above those of benches
+pub least-most : {loads : List ℕ} {i load x : ℕ} → LeastFrom loads mostBenches i load x → x ≤ mostBenches
+least-most h = ⊎-elim (λ e. omega arith) (λ g. g .1) (least-some mostBenches (omega arith) h)
+
+module _ {Joined : ℕ → ℕ → Type 0} {loads : List ℕ} where
+  -- no bench of this load was searched yet
+  pub among-start : {after : List ℕ} {n load x found : ℕ} {queue dist : List ℕ} → AsHeavy n loads after load x → Searching Joined loads n load found queue dist → Among Joined loads n load x found queue dist
+  among-start h s =
+      record { searching = s; next = least-bench (h .head) (omega arith); each = λ w t e. inl (h .head .least w (within-low 1 mostBenches w t) (within-high 1 mostBenches w t) e) }
+
+  -- what is found starts no improving path, if its load is not above this one
+  found-none : {n load found : ℕ} {queue dist : List ℕ} → Searching Joined loads n load found queue dist → (w : ℕ) → 1 ≤ at dist w → at loads w ≤ load → StartsLow Joined loads w → ⊥
+  found-none {dist = dist} s w h l (y, r, low) =
+      omega (arith, s .high y (reached-all (λ z. 1 ≤ at dist z) (λ z u. s .shut z u) w y h r))
+
+  module _ {n load x found end : ℕ} {queue dist queue' dist' : List ℕ} (a : Among Joined loads n load x found queue dist) (some : x ≢ 0) (s : Spread Joined x found dist end queue' dist') where
+    -- the search from x found a load that is lower by two or more: x is the first that starts an improving path
+    pub among-first : LowIn queue' found end loads load → FirstStart Joined loads x
+    among-first (i, l, u, low) =
+        let y = at queue' i in
+        let (e, f) = s .new i l u in
+        let (t, same) = a .next some in
+        record { bench = t; starts = (y, found-reached s (at dist' y - 1) y e (omega arith), omega (arith, same)); first = first }
+      where
+        first : (w : ℕ) → T (within 1 mostBenches w) → StartsLow Joined loads w → (at loads w < at loads x) ⊎ ((at loads x ≡ at loads w) × (x ≤ w))
+        first w t sw =
+            let same = a .next some .1 in
+            elim (decLt (at loads w) (at loads x)) [
+              | yes h ↦ inl h
+              | no h ↦ elim (ℕ-discrete (at loads w) load) [
+                | yes e ↦ ⊎-elim (λ p. inr (omega (arith, same, e), p .1)) (λ n. absurd (n sw)) (a .each w t e)
+                | no d ↦ absurd (a .searching .none w t (omega (arith, same)) sw)
+              ]
+            ]
+
+    module _ (none : LowIn queue' found end loads load → ⊥) where
+      -- it found none: what is found is handed on, and has at least the load less one ..
+      among-searching : x ≤ n → Searching Joined loads n load end queue' dist'
+      among-searching h = record { queued = s .queued; stays = spread-stays (a .searching .stays) h s; shut = shut; high = high; none = a .searching .none }
+        where
+          shut : (z y : ℕ) → 1 ≤ at dist' z → Joined z y → 1 ≤ at dist' y
+          shut z y h j =
+              elim (ℕ-discrete (at dist z) 0) [
+                | yes e ↦ s .on z y e h j .0
+                | no d ↦ let old = a .searching .shut z y (omega arith) j in omega (arith, s .kept y old)
+              ]
+
+          high : (y : ℕ) → 1 ≤ at dist' y → load ≤ at loads y + 1
+          high y h =
+              elim (ℕ-discrete (at dist y) 0) [
+                | yes e ↦ new y (s .listed y e h)
+                | no d ↦ a .searching .high y (omega arith)
+              ]
+            where
+              new : (y : ℕ) → (i : ℕ) × (found ≤ i) × (i < end) × (at queue' i ≡ y) → load ≤ at loads y + 1
+              new y (i, l, u, e) =
+                  elim (decLe (at loads y + 2) load) [
+                    | yes low ↦ absurd (none (i, l, u, rw e low))
+                    | no h ↦ omega arith
+                  ]
+
+      -- .. so x starts none, and the next bench of this load is next
+      pub among-turn : {after : List ℕ} {x₀ : ℕ} → AsHeavy n loads after load x₀ → Among Joined loads n load (at after x) end queue' dist'
+      among-turn {after} h =
+          let (t, e) = a .next some in
+          record { searching = searching; next = least-bench (h .later x t e) (omega arith); each = each }
+        where
+          searching : Searching Joined loads n load end queue' dist'
+          searching = among-searching (h .bench x (a .next some .1))
+
+          each : (w : ℕ) → T (within 1 mostBenches w) → at loads w ≡ load → ((at after x ≢ 0) × (at after x ≤ w)) ⊎ (StartsLow Joined loads w → ⊥)
+          each w t e = ⊎-elim (λ p. from (p .1)) inr (a .each w t e)
+            where
+              from : x ≤ w → ((at after x ≢ 0) × (at after x ≤ w)) ⊎ (StartsLow Joined loads w → ⊥)
+              from l =
+                  let (tx, ex) = a .next some in
+                  elim (ℕ-discrete x w) [
+                    | yes q ↦ inr (found-none searching w (subst (λ (z : ℕ). 1 ≤ at dist' z) q (s .here)) (omega arith))
+                    | no d ↦ inl (h .later x tx ex .least w (omega arith) (within-high 1 mostBenches w t) e)
+                  ]
+
+  -- the first is known
+  pub searched-first : {n load x found : ℕ} {queue dist : List ℕ} → x ≢ 0 → FirstStart Joined loads x → Searched Joined loads n load (record { start = x; found = found }) queue dist
+  searched-first d f = record { none = λ e. absurd (d e); some = λ _. f }
+
+  -- no bench of this load is left
+  pub among-end : {n load x found : ℕ} {queue dist : List ℕ} → Among Joined loads n load x found queue dist → x ≡ 0 → 1 ≤ load → Searched Joined loads n load (record { start = 0; found = found }) queue dist
+  among-end {n} {load} {x} {found} {queue} {dist} a z l =
+      record { none = λ e. record { queued = s .queued; stays = s .stays; shut = s .shut; high = λ y h. omega (arith, s .high y h); none = none }; some = λ d. absurd (d refl) }
+    where
+      s : Searching Joined loads n load found queue dist
+      s = a .searching
+
+      none : (w : ℕ) → T (within 1 mostBenches w) → load - 1 < at loads w → StartsLow Joined loads w → ⊥
+      none w t h =
+          elim (ℕ-discrete (at loads w) load) [
+            | yes e ↦ ⊎-elim (λ p. absurd (p .0 z)) (λ n. n) (a .each w t e)
+            | no d ↦ s .none w t (omega arith)
+          ]
+
+-- arcs that lead the same way
+
+module _ {A B : ℕ → ℕ → Type 0} where
+  -- the same benches start improving paths ..
+  starts-same : (loads : List ℕ) → ((x y : ℕ) → A x y → B x y) → (x : ℕ) → StartsLow A loads x → StartsLow B loads x
+  starts-same loads f x (y, r, low) = (y, reached-same f x y r, low)
+
+-- .. so the first is the same
+start-same : {A B : ℕ → ℕ → Type 0} {loads : List ℕ} {r : ℕ} → ((x y : ℕ) → A x y ↔ B x y) → StartOf A loads r → StartOf B loads r
+start-same {loads = loads} {r} f s =
+    record { none = λ e w t h. s .none e w t (starts-same loads (λ x y. f x y .1) w h); some = λ d. let g = s .some d in record { bench = g .bench; starts = starts-same loads (λ x y. f x y .0) r (g .starts); first = λ w t h. g .first w t (starts-same loads (λ x y. f x y .1) w h) } }
+
+-- every load in turn
+
+-- what is least among 1 to n is least among more, if the others have other keys
+least-more : {key : List ℕ} {n i k r : ℕ} (m : ℕ) → LeastFrom key n i k r → n ≤ m → ((x : ℕ) → n < x → at key x ≢ k) → LeastFrom key m i k r
+least-more {key} {n} {i} {k} {r} m h l others =
+    record { found = λ d. let (a, b, e) = h .found d in (a, omega arith, e); least = least }
+  where
+    least : (x : ℕ) → i ≤ x → x ≤ m → at key x ≡ k → (r ≢ 0) × (r ≤ x)
+    least x a b e = elim (decLe x n) [ yes u ↦ h .least x a u e | no u ↦ absurd (others x (omega arith) e) ]
+
+-- listed benches are listed load by load
+listed-heavy : {s : Size} {loads heavy after : List ℕ} → Limits s → LoadsIn s loads → ListedBy (mostJobs + 1) (s .benches) loads heavy after → (load : ℕ) → 1 ≤ load → load ≤ mostJobs → AsHeavy (s .benches) loads after load (at heavy load)
+listed-heavy {s} {loads} {heavy} {after} limits l listed load p q =
+    record { bench = bench; few = λ y t. omega (arith, l .most y (within-low 1 mostBenches y t), limits .jobs-most); least = p; head = more 1 (at heavy load) (listed .heads load (omega arith)); later = later }
+  where
+    bench : (y : ℕ) → at loads y ≡ load → y ≤ s .benches
+    bench y e = elim (decLe y (s .benches)) [ yes u ↦ u | no u ↦ absurd (omega (arith, l .beyond y (omega arith))) ]
+
+    more : (i r : ℕ) → LeastFrom loads (s .benches) i load r → LeastFrom loads mostBenches i load r
+    more i r h = least-more mostBenches h (limits .benches-most) (λ x u e. omega (arith, l .beyond x u))
+
+    later : (y : ℕ) → T (within 1 mostBenches y) → at loads y ≡ load → LeastFrom loads mostBenches (suc y) load (at after y)
+    later y t e =
+        more (suc y) (at after y) (subst (λ (k : ℕ). LeastFrom loads (s .benches) (suc y) k (at after y)) e (listed .later y (within-low 1 mostBenches y t) (bench y e)))
+
+-- the lists of arcs and of loads, and what is found: no bench above this load starts an improving path
+pub record Falling (n jobs : ℕ) (from to loads first next heavy after : List ℕ) (load found : ℕ) (queue dist : List ℕ) : Type 0 where
+  pub ways : Ways first next to
+  pub same : (x y : ℕ) → Joins first next to x y ↔ Leads jobs from to x y
+  pub each : (k : ℕ) → 1 ≤ k → k ≤ mostJobs → AsHeavy n loads after k (at heavy k)
+  pub most : load ≤ mostJobs
+  pub searching : Searching (Joins first next to) loads n load found queue dist
+
+-- before the greatest load no bench was searched
+pub falling-start : {s : Size} {from to loads first next heavy after queue dist : List ℕ} → Limits s → Arcs s from to → LoadsIn s loads → ListedBy (mostBenches + 1) (s .jobs) from first next → ListedBy (mostJobs + 1) (s .benches) loads heavy after → queue ≡ replicate (mostBenches + 1) 0 → dist ≡ replicate (mostBenches + 1) 0 → Falling (s .benches) (s .jobs) from to loads first next heavy after (s .jobs) 0 queue dist
+falling-start limits arcs l listed benches q d =
+    record {
+      ways = listed-ways limits arcs listed;
+      same = joins-leads limits arcs listed;
+      each = listed-heavy limits l benches;
+      most = limits .jobs-most;
+      searching = record {
+        queued = none-queued q d;
+        stays = none-stays limits arcs listed d;
+        shut = λ z y h j. absurd (omega (arith, array-at (mostBenches + 1) d z));
+        high = λ y h. absurd (omega (arith, array-at (mostBenches + 1) d y));
+        none = λ w t h _. omega (arith, l .most w (within-low 1 mostBenches w t));
+      };
+    }
+
+module _ {n jobs : ℕ} {from to loads first next heavy after : List ℕ} {load found : ℕ} {queue dist : List ℕ} (f : Falling n jobs from to loads first next heavy after load found queue dist) where
+  -- the benches of this load are listed
+  pub falling-heavy : 1 < load → AsHeavy n loads after load (at heavy load)
+  falling-heavy h = f .each load (omega arith) (f .most)
+
+  -- one load less
+  pub falling-turn : {found' : ℕ} {queue' dist' : List ℕ} → Searching (Joins first next to) loads n (load - 1) found' queue' dist' → Falling n jobs from to loads first next heavy after (load - 1) found' queue' dist'
+  falling-turn g = record { ways = f .ways; same = f .same; each = f .each; most = omega (arith, f .most); searching = g }
+
+  -- the first is known ..
+  pub falling-some : {r : ℕ} → FirstStart (Joins first next to) loads r → r ≢ 0 → StartOf (Leads jobs from to) loads r
+  falling-some g d = start-same (f .same) (record { none = λ e. absurd (d e); some = λ _. g })
+
+  -- .. or no load is left of which a bench starts one
+  pub falling-none : load ≤ 1 → StartOf (Leads jobs from to) loads 0
+  falling-none h = start-same (f .same) (record { none = λ _. none; some = λ d. absurd (d refl) })
+    where
+      none : (w : ℕ) → T (within 1 mostBenches w) → StartsLow (Joins first next to) loads w → ⊥
+      none w t (y, r, low) = f .searching .none w t (omega arith) (y, r, low)
+
+-- a load above 1 can be lessened
+pub load-less : (load : ℕ) → 1 < load → (1 ≤ load) × (load - 1 < load)
+load-less load h = (omega arith, omega arith)

@@ -1,0 +1,98 @@
+-- Invariant: the benches of this load before x start no improving path, and x is the next of them (`Among`). The measure is the number of
+-- benches from x on, 0 where x is 0.
+use Prim.Native.Nat.{suc, _<_}
+use native.Mathlib.Omega.{arith}
+use mathlib.Core.Path.{_≡_}
+use lib.Dec.{T}
+use lib.ListN.{getD}
+use Rattle.basics.specs.Lists.{within}
+use Rattle.layout.specs.Table.{mostBenches}
+use Rattle.basics.proofs.Basics.{within-low, within-high, within-both}
+use Rattle.search.specs.Lists.{LeastFrom, Joins}
+use Rattle.search.proofs.Listing.{least-some, left, left-less}
+use Rattle.start.proofs.Starting.{Among, among-start, among-first, among-turn, among-end, searched-first, spread-queued, least-most}
+use Rattle.start.proofs.start_among.Statement.{statement}
+use Rattle.start.proofs.start_among.Tie as tie
+
+abbrev Inv-loop : tie.InvT-loop
+Inv-loop first next to loads after benches load x found queue₀ dist₀ found₀ x₀ queue dist found' x' = Among (Joins first next to) loads benches load x' found' queue dist
+
+abbrev μ-loop : tie.MeasureT-loop
+μ-loop first next to loads after benches load x found queue₀ dist₀ found₀ x₀ queue dist found' x' = left mostBenches x'
+
+loop-holds : tie.Need-loop-holds Inv-loop μ-loop
+loop-holds c = among-start (c .pre .1 .0) (c .pre .1 .1)
+
+spread-requires : tie.Need-spread-requires Inv-loop μ-loop
+spread-requires c κs =
+    let start = c .before .before .before .before in
+    let l = c .before .before .before .loop in
+    let (t, e) = l .inv .next (c .before .before .loop-test .taken) in
+    (start .pre .0, (within-both 1 (start .args .benches) (l .x) (within-low 1 mostBenches (l .x) t) (start .pre .1 .0 .bench (l .x) e), (l .inv .searching .queued, l .inv .searching .stays)))
+
+low-among-requires : tie.Need-low-among-requires Inv-loop μ-loop
+low-among-requires c κs =
+    spread-queued (c .before .spread .ensures) (c .before .before .before .before .before .before .pre .1 .0 .few)
+
+returns : tie.Need-returns Inv-loop μ-loop
+returns c =
+    let l = c .before .before .before .before .before .before .before .loop in
+    let d = c .before .before .before .before .before .before .loop-test .taken in
+    searched-first d (among-first (l .inv) d (c .before .before .before .spread .ensures) (rw (c .if1 .taken) at (c .before .low-among .ensures)))
+
+-- x is a bench of this load ..
+bench : (c : tie.Else1 Inv-loop μ-loop) → let x = c .before .before .before .before .before .before .before .loop .x in T (within 1 mostBenches x) × (getD (c .before .before .before .before .before .before .before .before .args .loads .now) x 0 ≡ c .before .before .before .before .before .before .before .before .args .load)
+bench c =
+    c .before .before .before .before .before .before .before .loop .inv .next (c .before .before .before .before .before .before .loop-test .taken)
+
+-- .. and has a place in the arrays
+small : (c : tie.Else1 Inv-loop μ-loop) → c .before .before .before .before .before .before .before .loop .x < 501
+small c =
+    omega (arith, within-high 1 mostBenches (c .before .before .before .before .before .before .before .loop .x) (bench c .0))
+
+-- the next bench of this load, or 0
+later : (c : tie.Else1 Inv-loop μ-loop) → let a = c .before .before .before .before .before .before .before .before .args in let x = c .before .before .before .before .before .before .before .loop .x in LeastFrom (a .loads .now) mostBenches (suc x) (a .load) (getD (a .after .now) x 0)
+later c =
+    let b = bench c in
+    c .before .before .before .before .before .before .before .before .pre .1 .0 .later (c .before .before .before .before .before .before .before .loop .x) (b .0) (b .1)
+
+mul-x : tie.Need-mul-x Inv-loop μ-loop
+mul-x c = omega (arith, small c)
+
+element-copy-out-x : tie.Need-element-copy-out-x Inv-loop μ-loop
+element-copy-out-x c = small c
+
+cast-x : tie.Need-cast-x Inv-loop μ-loop
+cast-x c = omega (arith, least-most (later (c .before)))
+
+loop-less : tie.Need-loop-less Inv-loop μ-loop
+loop-less c =
+    let p = c .before .before .before .before .before .before .before .before in
+    let l = p .loop in
+    left-less mostBenches (l .x) (getD (p .before .args .after .now) (l .x) 0) (c .before .before .before .before .before .before .before .loop-test .taken) (omega (arith, small (c .before))) (least-some mostBenches (omega arith) (later (c .before)))
+
+loop-again : tie.Need-loop-again Inv-loop μ-loop
+loop-again c =
+    let l = c .before .before .before .before .before .before .before .before .loop in
+    let d = c .before .before .before .before .before .before .before .loop-test .taken in
+    among-turn (l .inv) d (c .before .before .before .before .spread .ensures) (rw (c .before .if1 .left) at (c .before .before .low-among .ensures)) (c .before .before .before .before .before .before .before .before .before .pre .1 .0)
+
+returns-2 : tie.Need-returns-2 Inv-loop μ-loop
+returns-2 c = among-end (c .before .loop .inv) (c .loop-test .left) (c .before .before .pre .1 .0 .least)
+
+pub start-among-spec : {M : Type 1} → statement M
+start-among-spec =
+    tie.close
+    (tie.spec
+    Inv-loop
+    μ-loop
+    loop-holds
+    spread-requires
+    low-among-requires
+    returns
+    mul-x
+    element-copy-out-x
+    cast-x
+    loop-less
+    loop-again
+    returns-2)

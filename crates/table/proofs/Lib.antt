@@ -1,4 +1,0 @@
--- What is proved of words, sizes and layouts.
-pub mod Bytes
-pub mod Sizes
-pub mod Written

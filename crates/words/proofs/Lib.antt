@@ -1,0 +1,2 @@
+-- What is proved of words.
+pub mod Bytes

@@ -1,0 +1,2 @@
+-- Words where they lie in bytes.
+pub mod Bytes

@@ -1,0 +1,40 @@
+// Words in bytes: "A word is 16 bits, two bytes, low byte first."
+ghost use mathlib.Core.Path.{_≡_};
+ghost use Prim.Native.Nat.{_+_, _*_, _<_};
+ghost use lib.ListN.{length, replicate};
+ghost use Rattle.words.specs.Bytes.{IsWord, setWord};
+
+fn wide(byte: u8) -> usize
+    ensures { λ r. ⌜ (r ≡ byte) × (r < 256) ⌝ }
+{
+    byte as usize
+}
+
+// Word i of a list of words.
+pub fn read(bytes: &[u8], i: usize) -> usize
+    requires { ⌜ 2 * i + 1 < length (now bytes) ⌝ }
+    ensures { λ r. ⌜ IsWord (now (bytes .entry)) i r ⌝ }
+{
+    wide(bytes[2 * i]) + 256 * wide(bytes[2 * i + 1])
+}
+
+// Word i written anew.
+pub fn write(bytes: &mut [u8], i: usize, word: usize)
+    requires { ⌜ 2 * i + 1 < length (now bytes) ⌝ }
+    requires { ⌜ word < 65536 ⌝ }
+    ensures { λ _. ⌜ now (bytes .exit) ≡ setWord (now (bytes .entry)) i word ⌝ }
+{
+    bytes[2 * i] = (word % 256) as u8;
+    bytes[2 * i + 1] = (word / 256 % 256) as u8;
+}
+
+// All bytes zero.
+pub fn clear(bytes: &mut [u8])
+    ensures { λ _. ⌜ now (bytes .exit) ≡ replicate (length (now (bytes .entry))) 0 ⌝ }
+{
+    let mut i = 0;
+    while i < bytes.len() {
+        bytes[i] = 0;
+        i += 1;
+    }
+}
