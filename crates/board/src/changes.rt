@@ -7,8 +7,8 @@ use answers::Answer;
 use answers::Refusal;
 use form::Form;
 use sharing::changes;
-use store::jobs;
 use size::Size;
+use store::jobs;
 
 // Blanking: a table for so many benches and jobs, without jobs. Old bytes are not looked at.
 pub fn blank(t: &mut [u8], benches: usize, jobs: usize) -> Answer

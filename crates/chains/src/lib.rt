@@ -6,9 +6,9 @@ ghost use Rattle.layout.specs.Table.{decode};
 ghost use Rattle.size.specs.Sizes.{JobIn, BenchIn, SoundTable};
 ghost use Rattle.store.specs.View.{Kept};
 ghost use Rattle.chains.specs.Chains.{ChainOf, NextOf, Settled, Pushed, Linked};
-use store::jobs;
 use header::heads;
 use size::Size;
+use store::jobs;
 
 // The number of standing jobs.
 pub fn standing(t: &[u8], s: Size) -> usize

@@ -8,8 +8,8 @@ ghost use Rattle.levels.specs.Levels.{LevellingOf};
 use paths::arcs;
 use paths::turns;
 use search::scratch;
-use store::loads;
 use size::Size;
+use store::loads;
 
 // What levelling reports: the paths turned, and whether no improving path is left.
 pub struct Levelling {

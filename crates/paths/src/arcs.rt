@@ -7,8 +7,8 @@ ghost use Rattle.layout.specs.Table.{mostJobs, decode};
 ghost use Rattle.size.specs.Sizes.{JobIn};
 ghost use Rattle.store.specs.View.{Kept};
 ghost use Rattle.paths.specs.Arcs.{OtherOf, ArcsOf};
-use store::jobs;
 use size::Size;
+use store::jobs;
 
 // The other bench that job j names; 0 where it does not stand.
 fn other(t: &[u8], s: Size, j: usize, holder: usize) -> usize

@@ -14,8 +14,8 @@ use routes::ends;
 use routes::route;
 use search::scratch;
 use search::spread;
-use store::jobs;
 use size::Size;
+use store::jobs;
 
 // What turning a path did: the bench whose load changed beside the one that was asked for, or this one, and the jobs handed over.
 pub struct Turn {

@@ -15,9 +15,9 @@ use paths::arcs;
 use paths::turns;
 use paths::turns::Turn;
 use search::scratch;
+use size::Size;
 use store::jobs;
 use store::loads;
-use size::Size;
 
 // What an arrival reports: the bench that holds the new job in the end, the bench whose load rose, and the other jobs that changed holder.
 pub struct Arrival {

@@ -4,8 +4,8 @@
 ghost use Rattle.size.specs.Sizes.{SoundTable};
 use form::Form;
 use libc::STDOUT_FILENO;
-use store::loads;
 use size::Size;
+use store::loads;
 
 fn heaviest(loads: &[u16; Size::MOST_BENCHES + 1]) -> u16 {
     let mut most = 0;

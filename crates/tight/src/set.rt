@@ -13,8 +13,8 @@ use crate::visits;
 use paths::arcs;
 use search::lists;
 use search::scratch;
-use store::loads;
 use size::Size;
+use store::loads;
 
 // How many benches are in a set, and how many jobs they hold.
 pub struct Extent {
