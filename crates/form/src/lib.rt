@@ -87,12 +87,11 @@ fn walk(t: &[u8], s: Size, x: usize, left: usize) -> Seen
         if left == 0 || jobs < j {
             return Seen::Broken;
         }
-        let r = records::read_record(t, s, j);
-        if r.holder_bench() != x {
+        if records::holder_at(t, s, j) != x {
             return Seen::Broken;
         }
         left -= 1;
-        j = r.next;
+        j = records::read_record(t, s, j).next;
     }
     Seen::Jobs(left)
 }

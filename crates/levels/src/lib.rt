@@ -1,10 +1,12 @@
 // Levelling, and whether a board is level.
 ghost use mathlib.Core.Path.{_≡_};
+ghost use Prim.Native.Nat.{_+_};
+ghost use lib.ListN.{length};
 ghost use Rattle.rules.specs.Sharing.{level};
-ghost use Rattle.layout.specs.Table.{decode};
+ghost use Rattle.layout.specs.Table.{mostJobs, decode};
 ghost use Rattle.size.specs.Sizes.{SoundTable};
 ghost use Rattle.store.specs.View.{Kept};
-ghost use Rattle.levels.specs.Levels.{LevellingOf};
+ghost use Rattle.levels.specs.Levels.{NextStart, LevellingOf};
 use paths::arcs;
 use paths::turns;
 use search::scratch;
@@ -17,6 +19,29 @@ pub struct Levelling {
     pub level: bool,
 }
 
+// The first bench of the path that levelling turns next, 0 where the board is level. Where there is one, `from`, `to` and `load` get the
+// board's arcs and loads.
+fn next_start(
+    t: &[u8],
+    s: Size,
+    from: &mut [u16; Size::MOST_JOBS + 1],
+    to: &mut [u16; Size::MOST_JOBS + 1],
+    load: &mut [u16; Size::MOST_BENCHES + 1],
+) -> usize
+    requires { ⌜ Kept (now t) s ⌝ }
+    requires { ⌜ length (now from) ≡ mostJobs + 1 ⌝ }
+    requires { ⌜ length (now to) ≡ mostJobs + 1 ⌝ }
+    ensures { λ r. ⌜ NextStart (decode (now (t .entry))) s (now (from .exit)) (now (to .exit)) (now (load .exit)) r ⌝ }
+{
+    loads::loads(t, s, load);
+    let range = start::range_of(s, load);
+    if range.high < range.low + 2 {
+        return 0;
+    }
+    arcs::fill(t, s, from, to);
+    start::first_start(s, from, to, load, range)
+}
+
 // Whether no improving path is left.
 pub fn is_level(t: &[u8], s: Size) -> bool
     requires { ⌜ Kept (now t) s ⌝ }
@@ -24,10 +49,8 @@ pub fn is_level(t: &[u8], s: Size) -> bool
 {
     let mut from = scratch::jobs();
     let mut to = scratch::jobs();
-    arcs::fill(t, s, &mut from, &mut to);
     let mut load = scratch::benches();
-    loads::loads(t, s, &mut load);
-    start::first_start(s, &from, &to, &load) == 0
+    next_start(t, s, &mut from, &mut to, &mut load) == 0
 }
 
 // While an improving path is left and the allowance is not used up, one is turned.
@@ -37,17 +60,13 @@ pub fn relevel(t: &mut [u8], s: Size, allowance: u32) -> Levelling
 {
     let mut from = scratch::jobs();
     let mut to = scratch::jobs();
-    arcs::fill(t, s, &mut from, &mut to);
     let mut load = scratch::benches();
-    loads::loads(t, s, &mut load);
     let mut paths = 0;
-    let mut x = start::first_start(s, &from, &to, &load);
+    let mut x = next_start(t, s, &mut from, &mut to, &mut load);
     while x != 0 && paths < allowance {
         turns::turn_from(t, s, &from, &to, &load, x);
         paths += 1;
-        arcs::fill(t, s, &mut from, &mut to);
-        loads::loads(t, s, &mut load);
-        x = start::first_start(s, &from, &to, &load);
+        x = next_start(t, s, &mut from, &mut to, &mut load);
     }
     chains::settle(t, s);
     Levelling {

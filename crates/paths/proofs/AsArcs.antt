@@ -18,7 +18,6 @@ use Rattle.layout.proofs.Named.{length-shares, pair-fits}
 use Rattle.basics.proofs.Counting.{count-none, count-most}
 use Rattle.rules.proofs.Distances.{storable-one-other}
 use Rattle.rules.proofs.Paths.{named-stands, named-bench, shares-nth, held-named, holder-bench, step-is, is-step}
-use Rattle.rules.proofs.Search.{NumberedAway, NumberedTo}
 use Rattle.rules.proofs.Walks.{Reach, reach-here, reach-first}
 use Rattle.size.specs.Sizes.{BenchIn}
 use Rattle.size.specs.declared.Size.{Size}
@@ -27,8 +26,10 @@ use Rattle.store.specs.View.{Kept, Loaded, Place, NameOf}
 use Rattle.store.proofs.Boards.{names-job, holder-most, stands-held, names-length}
 use Rattle.store.proofs.Counts.{holders-long}
 use Rattle.search.specs.Arrays.{at, Leads, Arcs, Reached, here, step, LoadsIn}
+use Rattle.search.specs.Keys.{KeysIn}
 use Rattle.search.specs.Spread.{Distances}
 use Rattle.paths.specs.Arcs.{otherThan, otherOf, OtherOf, ArcsOf}
+use Rattle.rules.proofs.Search.{NumberedAway, NumberedTo}
 
 -- one job
 
@@ -156,7 +157,7 @@ load-beyond t s x k l = count-none x ((decode t) .holders) never
         let r = numbered-nth (n .0, x) ((decode t) .holders) 0 (n .1) in
         omega (arith, r .2, holder-most t s (n .0) k)
 
--- the loads of a board are loads of its size
+-- the loads of a board are loads of its size ..
 pub loads-in : {t : List ℕ} {s : Size} {loads : List ℕ} → Kept t s → Loaded (decode t) loads → LoadsIn s loads
 loads-in {t} {s} {loads} k l = record { most = most; beyond = beyond; long = long }
   where
@@ -175,6 +176,10 @@ loads-in {t} {s} {loads} k l = record { most = most; beyond = beyond; long = lon
 
     beyond : (x : ℕ) → s .benches < x → at loads x ≡ 0
     beyond x h = at-load (λ n. n ≡ 0) x (load-beyond t s x k h) refl
+
+-- .. so none is above the most jobs
+pub loads-keys : {t : List ℕ} {s : Size} {loads : List ℕ} → Kept t s → Loaded (decode t) loads → KeysIn s loads
+loads-keys k l = record { most = λ x b. omega (arith, loads-in k l .most x (b .least), k .size .limits .jobs-most) }
 
 module _ {t : List ℕ} {s : Size} (kept : Kept t s) where
   -- a bench of the size is one of the board ..
@@ -255,9 +260,9 @@ module _ {t : List ℕ} {s : Size} {from to : List ℕ} (kept : Kept t s) (arcs 
 
   -- distances
 
-  -- distances along arcs are distances from v on the board ..
-  pub distances-away : {v : ℕ} {dist : List ℕ} → BenchIn s v → Distances s from to v dist → NumberedAway ((decode t) .benches) (steps (decode t)) v (at dist)
-  distances-away b d =
+  -- numbers along arcs are numbers away from v on the board, as far as every wanted bench with a number has m or more ..
+  pub distances-away : {Wanted : ℕ → Type 0} {v : ℕ} {dist : List ℕ} (m : ℕ) → BenchIn s v → Distances s from to Wanted v dist → ((w : ℕ) → 1 ≤ at dist w → Wanted w → m ≤ at dist w) → NumberedAway ((decode t) .benches) (steps (decode t)) m v (at dist)
+  distances-away m b d far =
       record {
         here = (on-board kept b, d .here);
         only = λ y w e. d .only y e;
@@ -265,17 +270,17 @@ module _ {t : List ℕ} {s : Size} {from to : List ℕ} (kept : Kept t s) (arcs 
             let (z, f, (a, u, g, h)) = d .comes y n e in
             let i = d .bench z (omega arith) in
             (z, stepBy a (at to a), on-board kept i, arc-step a z u (i .least) g, h, f);
-        on = λ z q w l i. let r = step-arc z q i in d .on z (q .to) l (q .job, r .0, r .1, r .2);
+        on = λ z q w l u i. let r = step-arc z q i in d .on z (q .to) l (λ k f h. omega (arith, far k f h)) (q .job, r .0, r .1, r .2);
       }
 
   -- .. and against them to v
-  pub distances-to : {v : ℕ} {dist : List ℕ} → Distances s to from v dist → NumberedTo ((decode t) .benches) (steps (decode t)) v (at dist)
-  distances-to {dist = dist} d =
+  pub distances-to : {Wanted : ℕ → Type 0} {v : ℕ} {dist : List ℕ} (m : ℕ) → Distances s to from Wanted v dist → ((w : ℕ) → 1 ≤ at dist w → Wanted w → m ≤ at dist w) → NumberedTo ((decode t) .benches) (steps (decode t)) m v (at dist)
+  distances-to {dist = dist} m d far =
       record {
         here = d .here;
         only = λ x w e. d .only x e;
         from = λ x n w e.
             let (z, f, (a, u, g, h)) = d .comes x n e in
             (stepBy a (at to a), arc-step a x u (within-low 1 ((decode t) .benches) x w) h, ap (at dist) g ∙ f);
-        on = λ x q w i l. let r = step-arc x q i in d .on (q .to) x l (q .job, r .0, r .2, r .1);
+        on = λ x q w i l u. let r = step-arc x q i in d .on (q .to) x l (λ k f h. omega (arith, far k f h)) (q .job, r .0, r .2, r .1);
       }

@@ -1,42 +1,43 @@
 -- The end bench by the rule's order and the first list to it, handed over, are the rule's path turned.
-use Prim.Native.Nat.{ℕ, suc, _+_, _-_, _≤_, _<_}
+use Prim.Native.Nat.{ℕ, suc, _+_, _≤_, _<_}
 use native.Mathlib.Omega.{arith}
 use mathlib.Core.Path.{_≡_, refl, sym, ap, subst}
-use mathlib.Core.Bool.{true, false}
 use mathlib.Core.Logic.{_⊎_, inl, inr, _≢_, _↔_}
 use mathlib.Core.List.{List, [], _∷_}
 use mathlib.Core.Option.{Option, none, some}
 use lib.Dec.{T}
-use lib.ListN.{length, take, length-map}
+use lib.ListN.{length, take, set, replicate, length-map}
 use lib.Seq.{length-take-le}
 use Rattle.layout.specs.Board.{Board, load, namesOf}
-use Rattle.layout.specs.Table.{mostJobs, decode}
+use Rattle.layout.specs.Table.{mostBenches, mostJobs, decode}
 use Rattle.rules.specs.Paths.{BenchPath, stepBy, steps, pathBy, last, IsPath, improves, improvingFrom, improvingTo, flip}
 use Rattle.rules.specs.Sharing.{arrivalKey, closingKey, arrivalChoice, closingChoice}
 use Rattle.basics.proofs.Basics.{in-member, in-empty}
 use Rattle.rules.proofs.Paths.{step-is, step-bench, improvingFrom-only, improvingTo-only, improves-loads, improves-start}
 use Rattle.rules.proofs.Choice.{least-empty}
 use Rattle.rules.proofs.Walks.{path-reach, reach-bench}
-use Rattle.rules.proofs.Distances.{To, Away, Greedy, greedy-walk, storable-one-other}
+use Rattle.rules.proofs.Distances.{Stays, Greedy, greedy-walk, storable-one-other}
 use Rattle.rules.proofs.Found.{Lower, ArrivalEnd, Higher, ClosingStart, arrival-not-found, closing-not-found}
-use Rattle.rules.proofs.Search.{numbered-away, numbered-to, away-to, arrival-greedy, closing-greedy}
+use Rattle.rules.proofs.Search.{arrival-greedy, closing-greedy, away-number, away-right, to-number, to-right, greedy-right}
 use Rattle.size.specs.Sizes.{BenchIn}
 use Rattle.size.specs.declared.Size.{Size}
 use Rattle.size.proofs.Sizes.{job-in, board-bench}
 use Rattle.store.specs.View.{Kept, Holds, Loaded}
 use Rattle.search.specs.Arrays.{at}
+use Rattle.search.specs.Keys.{LeastKey, Reversed, Wanted}
 use Rattle.search.specs.Spread.{Distances}
-use Rattle.routes.specs.Ends.{Candidate, SomeBetter, Best, Chosen}
+use Rattle.routes.specs.Ends.{Chosen}
 use Rattle.routes.specs.Route.{Follows, Routed}
 use Rattle.paths.specs.Arcs.{ArcsOf}
 use Rattle.paths.specs.Turns.{stepsBy, Handable, handedBy, Along, lastOf, startOf, Turned}
-use Rattle.routes.proofs.Choosing.{load-most}
-use Rattle.paths.proofs.AsArcs.{loads-in, on-board, load-at, arc-step, step-arc, distances-away, distances-to}
+use Rattle.rules.proofs.Far.{distance, distance-to, distance-away}
+use Rattle.paths.proofs.AsArcs.{loads-keys, on-board, load-at, arc-step, step-arc, distances-away, distances-to}
+use Rattle.paths.proofs.Stopping.{Beside, nearest-right, only-goal, goal-right, Lighter, Lightest, none-lighter, best-nearest, best-lightest}
 
--- numbers taken from m come in the other order
-turn-round : {D : Type 0} (m k n : ℕ) → k ≤ m → n ≤ m → (m - k < m - n) ⊎ ((m - k ≡ m - n) × D) → (n < k) ⊎ ((k ≡ n) × D)
-turn-round m k n p q (inl l) = inl (omega arith)
-turn-round m k n p q (inr (e, d)) = inr (omega arith, d)
+-- where each weight and its load add up to m, the weights come in the other order
+turn-round : {D : Type 0} {m v w k n : ℕ} → v + k ≡ m → w + n ≡ m → (v < w) ⊎ ((v ≡ w) × D) → (n < k) ⊎ ((k ≡ n) × D)
+turn-round p q (inl l) = inl (omega arith)
+turn-round p q (inr (e, d)) = inr (omega arith, d)
 
 -- where no path is chosen the table stays
 turned-none : {t : List ℕ} {s : Size} → Kept t s → (end : ℕ) (tell : Option BenchPath → ℕ) (o : Option BenchPath) → o ≡ none → end ≡ tell none → Turned t t s o (tell o) (record { bench = end; jobs = 0 })
@@ -65,16 +66,36 @@ module _ (t : List ℕ) {u : List ℕ} {s : Size} {from to near : List ℕ} {y n
       subst (λ (o : Option BenchPath). Turned t u s o (tell o) (record { bench = end; jobs = n })) (sym e)
       (record { holds = a .board; bench = f; jobs = omega (arith, a .far, along-far) })
 
-module _ {t : List ℕ} {s : Size} {from to : List ℕ} (kept : Kept t s) (arcs : ArcsOf (decode t) s from to) where
-  -- distances along the arcs are those from v on the board ..
-  away-from : {v : ℕ} {dist : List ℕ} → BenchIn s v → Distances s from to v dist → Away ((decode t) .benches) (steps (decode t)) v (at dist)
-  away-from {v} {dist} h d =
-      numbered-away ((decode t) .benches) (steps (decode t)) (step-bench (decode t) (kept .storable .valid)) v (at dist) (distances-away kept arcs h d)
+-- steps stay on the board
+stays : {t : List ℕ} {s : Size} → Kept t s → Stays ((decode t) .benches) (steps (decode t))
+stays {t} k = step-bench (decode t) (k .storable .valid)
 
-  -- .. and against them those to v
-  near-to : {v : ℕ} {dist : List ℕ} → Distances s to from v dist → To ((decode t) .benches) (steps (decode t)) v (at dist)
-  near-to {v} {dist} d =
-      numbered-to ((decode t) .benches) (steps (decode t)) (step-bench (decode t) (kept .storable .valid)) v (at dist) (distances-to kept arcs d)
+module _ {t : List ℕ} {s : Size} {from to : List ℕ} (kept : Kept t s) (arcs : ArcsOf (decode t) s from to) where
+  -- the numbers of a search along the arcs, beside the distances from v ..
+  away-beside : {Wanted : ℕ → Type 0} {v : ℕ} {dist : List ℕ} → BenchIn s v → Distances s from to Wanted v dist → Beside s Wanted (at dist) (distance (decode t) v)
+  away-beside {v = v} {dist} h d =
+      let b = decode t in
+      let all = distance-away b (kept .storable .valid) v (on-board kept h) in
+      record {
+        bench = d .bench;
+        number = λ y l. away-number (b .benches) (steps b) (stays kept) 0 v (at dist) (distances-away kept arcs 0 h d (λ w f i. omega arith)) (distance b v) all y (on-board kept (d .bench y l)) l;
+        right = λ y w l far.
+            let m = distance b v y in
+            away-right (b .benches) (steps b) (stays kept) m v (at dist) (distances-away kept arcs m h d far) (distance b v) all y (on-board kept w) l (omega arith);
+      }
+
+  -- .. and of one against them, beside the distances to v
+  near-beside : {Wanted : ℕ → Type 0} {v : ℕ} {dist : List ℕ} → Distances s to from Wanted v dist → Beside s Wanted (at dist) (λ z. distance (decode t) z v)
+  near-beside {v = v} {dist} d =
+      let b = decode t in
+      let all = distance-to b (kept .storable .valid) v in
+      record {
+        bench = d .bench;
+        number = λ y l. to-number (b .benches) (steps b) (stays kept) 0 v (at dist) (distances-to kept arcs 0 d (λ w f i. omega arith)) (λ z. distance b z v) all y (on-board kept (d .bench y l)) l;
+        right = λ y w l far.
+            let m = distance b y v in
+            to-right (b .benches) (steps b) (stays kept) m v (at dist) (distances-to kept arcs m d far) (λ z. distance b z v) all y (on-board kept w) l (omega arith);
+      }
 
   module _ (near : List ℕ) (numbered : (y : ℕ) → 1 ≤ at near y → BenchIn s y) where
     -- arcs that follow each other to the end are the greedy route
@@ -93,111 +114,139 @@ module _ {t : List ℕ} {s : Size} {from to : List ℕ} (kept : Kept t s) (arcs 
         let i = step-is (decode t) y (stepBy a (at to a)) (arc-step kept arcs a y w (numbered y l .least) (f .0 .1)) in
         ((job-in s a w, in-member (at to a) (namesOf (decode t) a) (i .1)), follows-handable (at to a) path (f .2))
 
-  -- jobs handed over along distances are the greedy route
-  along-greedy : {u near : List ℕ} {v y n : ℕ} → Distances s to from v near → (a : Along (decode t) u s from to near y n) → Greedy ((decode t) .benches) (steps (decode t)) (at near) y (stepsBy to (a .path))
-  along-greedy {near = near} {y = y} d a = follows-greedy near (d .bench) y (a .path) (omega (arith, a .far, a .long)) (a .follows)
+  -- jobs handed over along the numbers, from y on, are the greedy route by the distances, if no wanted bench has a lower number than y
+  along-greedy : {Wanted : ℕ → Type 0} {u near : List ℕ} {v y n : ℕ} → Distances s to from Wanted v near → (a : Along (decode t) u s from to near y n) → ((w : ℕ) → 1 ≤ at near w → Wanted w → at near y ≤ at near w) → (distance (decode t) y v ≡ suc (length (stepsBy to (a .path)))) × Greedy ((decode t) .benches) (steps (decode t)) (λ z. distance (decode t) z v) y (stepsBy to (a .path))
+  along-greedy {near = near} {v} {y} d a far =
+      let b = decode t in
+      let l : 1 ≤ at near y = omega (arith, a .far) in
+      let e = nearest-right (near-beside d) l far in
+      let greedy = follows-greedy near (d .bench) y (a .path) (omega (arith, a .far, a .long)) (a .follows) in
+      (omega (arith, e, along-far t a), greedy-right (b .benches) (steps b) (stays kept) (at near y) v (at near) (distances-to kept arcs (at near y) d far) (λ z. distance b z v) (distance-to b (kept .storable .valid) v) y (stepsBy to (a .path)) (on-board kept (d .bench y l)) l (omega arith) greedy)
 
 module _ {t : List ℕ} {s : Size} {from to loads : List ℕ} (kept : Kept t s) (arcs : ArcsOf (decode t) s from to) (loaded : Loaded (decode t) loads) {x : ℕ} (bench : BenchIn s x) where
   -- what stands at a bench is its load ..
   own : {y : ℕ} → BenchIn s y → at loads y ≡ load ((decode t) .holders) y
   own h = load-at kept loaded h
 
-  -- .. and at most the greatest number of jobs
+  -- .. and at most the greatest number of jobs ..
   few : {y : ℕ} → BenchIn s y → at loads y ≤ mostJobs
-  few h = load-most (kept .size .limits) (loads-in kept loaded) h
+  few {y} h = loads-keys kept loaded .most y h
 
-  -- the candidates for the end of an arrival's path ..
-  lower : (dist : List ℕ) (y : ℕ) → Candidate false s loads dist x y ↔ Lower (decode t) x (at dist) y
-  lower dist y =
-      (λ c. record { bench = on-board kept (c .bench); reached = c .reached; lower = omega (arith, c .better, own (c .bench), own bench) }, λ c. let h = board-bench y (kept .size) (c .bench) in record { bench = h; reached = c .reached; better = omega (arith, c .lower, own h, own bench) })
+  -- .. so a reversed load is what is left of that
+  left : {weights : List ℕ} {y : ℕ} → Reversed s loads weights → BenchIn s y → at weights y + load ((decode t) .holders) y ≡ mostJobs
+  left {y = y} r h = omega (arith, r .bench y h, own h, few h)
 
-  -- .. and for the start of a closing's
-  higher : (dist : List ℕ) (z : ℕ) → Candidate true s loads dist x z ↔ Higher (decode t) x (at dist) z
-  higher dist z =
-      (λ c. record { bench = on-board kept (c .bench); reaches = c .reached; higher = omega (arith, c .better, few (c .bench), own (c .bench), own bench) }, λ c. let h = board-bench z (kept .size) (c .bench) in record { bench = h; reached = c .reaches; better = omega (arith, c .higher, few h, own h, own bench) })
+  -- the benches lighter than x are those where an arrival's path may end ..
+  lower : (g : ℕ → ℕ) (y : ℕ) → Lighter s loads g x y ↔ Lower (decode t) x g y
+  lower g y =
+      (λ c. record { bench = on-board kept (c .bench); reached = c .reached; lower = omega (arith, c .lighter, own (c .bench), own bench) }, λ c. let h = board-bench y (kept .size) (c .bench) in record { bench = h; reached = c .reached; lighter = omega (arith, c .lower, own h, own bench) })
 
-  -- the best candidate is the end bench by the arrival's order ..
-  arrival-end : (dist : List ℕ) (y : ℕ) → Best false s loads dist x y → ArrivalEnd (decode t) x (at dist) y
-  arrival-end dist y b =
-      record { is = (lower dist y) .0 (b .is); first = λ z l. let c = (lower dist z) .1 l in rw (sym (own (b .is .bench)), sym (own (c .bench))) (b .first z c) }
+  -- .. and by the reversed loads those where a closing's may start
+  higher : {weights : List ℕ} (g : ℕ → ℕ) (z : ℕ) → Reversed s loads weights → Lighter s weights g x z ↔ Higher (decode t) x g z
+  higher g z r =
+      (λ c. record { bench = on-board kept (c .bench); reaches = c .reached; higher = omega (arith, c .lighter, left r (c .bench), left r bench) }, λ c. let h = board-bench z (kept .size) (c .bench) in record { bench = h; reached = c .reaches; lighter = omega (arith, c .higher, left r h, left r bench) })
+
+  -- the lightest is the end bench by the arrival's order ..
+  arrival-end : (g : ℕ → ℕ) (y : ℕ) → Lightest s loads g x y → ArrivalEnd (decode t) x g y
+  arrival-end g y b =
+      record { is = (lower g y) .0 (b .is); first = λ z l. let c = (lower g z) .1 l in rw (sym (own (b .is .bench)), sym (own (c .bench))) (b .first z c) }
 
   -- .. and the first bench by the closing's
-  closing-start : (dist : List ℕ) (z : ℕ) → Best true s loads dist x z → ClosingStart (decode t) x (at dist) z
-  closing-start dist z b =
+  closing-start : {weights : List ℕ} (g : ℕ → ℕ) (z : ℕ) → Reversed s loads weights → Lightest s weights g x z → ClosingStart (decode t) x g z
+  closing-start g z r b =
       record {
-        is = (higher dist z) .0 (b .is);
-        first = λ w l.
-            let c = (higher dist w) .1 l in
-            rw (sym (own (b .is .bench)), sym (own (c .bench)))
-            (turn-round mostJobs (at loads z) (at loads w) (few (b .is .bench)) (few (c .bench)) (b .first w c));
+        is = (higher g z r) .0 (b .is);
+        first = λ w l. let c = (higher g w r) .1 l in turn-round (left r (b .is .bench)) (left r (c .bench)) (b .first w c);
       }
 
   -- an improving path joins two benches, and the load of the last is less by two or more
-  path-ends : (q : BenchPath) → IsPath (decode t) q → T (improves (decode t) q) → BenchIn s (q .start) × BenchIn s (last q) × (at loads (last q) + 2 ≤ at loads (q .start))
+  path-ends : (q : BenchPath) → IsPath (decode t) q → T (improves (decode t) q) → BenchIn s (q .start) × BenchIn s (last q) × (load ((decode t) .holders) (last q) + 2 ≤ load ((decode t) .holders) (q .start))
   path-ends q h i =
       let v = kept .storable .valid in
       let f = improves-start (decode t) v q h i in
-      let a = board-bench (q .start) (kept .size) f in
-      let z = board-bench (last q) (kept .size) (reach-bench (decode t) v (q .start) (last q) f (path-reach (decode t) q h)) in
-      (a, z, omega (arith, improves-loads (decode t) q i, own a, own z))
+      let z = reach-bench (decode t) v (q .start) (last q) f (path-reach (decode t) q h) in
+      (board-bench (q .start) (kept .size) f, board-bench (last q) (kept .size) z, improves-loads (decode t) q i)
 
   -- an arrival at x: no bench with a lower load, no path ..
-  pub from-unneeded : (SomeBetter false s loads x → ⊥) → Turned t t s (arrivalChoice (decode t) x) (lastOf x (arrivalChoice (decode t) x)) (record { bench = x; jobs = 0 })
+  pub from-unneeded : {low : ℕ} → LeastKey s loads low → at loads x < low + 2 → Turned t t s (arrivalChoice (decode t) x) (lastOf x (arrivalChoice (decode t) x)) (record { bench = x; jobs = 0 })
   unfolding arrivalChoice
-  from-unneeded n =
+  from-unneeded least h =
       let all = improvingFrom (decode t) x in
       turned-none kept x (lastOf x) (arrivalChoice (decode t) x)
       (least-empty (arrivalKey (decode t)) all
-      (in-empty all (λ q i. let h = improvingFrom-only (decode t) x q i in let e = path-ends q (h .0) (h .2) in n (last q, e .1, omega (arith, e .2, ap (at loads) (h .1))))))
+      (in-empty all (λ q i. let p = improvingFrom-only (decode t) x q i in let e = path-ends q (p .0) (p .2) in omega (arith, h, least .least (last q) (e .1), e .2, own (e .1), own bench, ap (load ((decode t) .holders)) (p .1)))))
       refl
 
-  -- .. no end bench, no path ..
-  pub from-none : {away : List ℕ} → Distances s from to x away → Chosen false s loads away x 0 → Turned t t s (arrivalChoice (decode t) x) (lastOf x (arrivalChoice (decode t) x)) (record { bench = x; jobs = 0 })
-  from-none {away} d c =
-      turned-none kept x (lastOf x) (arrivalChoice (decode t) x)
-      (arrival-not-found (decode t) (kept .storable .valid) x (at away) (away-from kept arcs bench d) (λ z l. c .none refl z ((lower away z) .1 l)))
-      refl
+  module _ {low : ℕ} {away : List ℕ} (least : LeastKey s loads low) (heavy : low + 2 ≤ at loads x) (d : Distances s from to (Wanted loads low) x away) where
+    -- .. no end bench, no path ..
+    pub from-none : Chosen s loads away x 0 → Turned t t s (arrivalChoice (decode t) x) (lastOf x (arrivalChoice (decode t) x)) (record { bench = x; jobs = 0 })
+    from-none c =
+        let b = decode t in
+        let v = kept .storable .valid in
+        turned-none kept x (lastOf x) (arrivalChoice b x)
+        (arrival-not-found b v x (distance b x) (distance-away b v x (on-board kept bench)) (λ z l. none-lighter least heavy (away-beside kept arcs bench d) (c .none refl) z ((lower (distance b x) z) .1 l)))
+        refl
 
-  -- .. else the path to it
-  pub from-some : {away near u : List ℕ} {y n : ℕ} → Distances s from to x away → Chosen false s loads away x y → y ≢ 0 → Distances s to from y near → Along (decode t) u s from to near x n → Turned t u s (arrivalChoice (decode t) x) (lastOf x (arrivalChoice (decode t) x)) (record { bench = y; jobs = n })
-  from-some {away} {near} {y = y} d c e f a =
-      let v = kept .storable .valid in
-      let r = stepsBy to (a .path) in
-      let w = on-board kept bench in
-      let go = near-to kept arcs f in
-      let far = along-far t a in
-      let greedy = along-greedy kept arcs f a in
-      let walk = greedy-walk ((decode t) .benches) (steps (decode t)) (step-bench (decode t) v) y (at near) go x r w far greedy in
-      turned-some t a y (lastOf x) (arrivalChoice (decode t) x)
-      (arrival-greedy (decode t) v (storable-one-other (decode t) (kept .storable)) x y (at away) (at near) r w (away-from kept arcs bench d) (arrival-end away y (c .some e)) go far greedy)
-      (sym (walk .1))
+    module _ {near goal : List ℕ} {y : ℕ} (c : Chosen s loads away x y) (some : y ≢ 0) (e : goal ≡ set (replicate (mostBenches + 1) 1) x 0) (f : Distances s to from (Wanted goal 0) y near) where
+      -- .. else the chosen bench is the lightest that x reaches ..
+      end-lightest : Lightest s loads (distance (decode t) x) x y
+      end-lightest = best-lightest least heavy (away-beside kept arcs bench d) (c .some some)
 
-  -- a closing at x: no bench with a higher load, no path ..
-  pub to-unneeded : (SomeBetter true s loads x → ⊥) → Turned t t s (closingChoice (decode t) x) (startOf x (closingChoice (decode t) x)) (record { bench = x; jobs = 0 })
-  unfolding closingChoice
-  to-unneeded n =
-      let all = improvingTo (decode t) x in
-      turned-none kept x (startOf x) (closingChoice (decode t) x)
-      (least-empty (closingKey (decode t)) all
-      (in-empty all (λ q i. let h = improvingTo-only (decode t) x q i in let e = path-ends q (h .0) (h .3) in n (q .start, e .0, omega (arith, e .2, few (e .0), ap (at loads) (h .2))))))
-      refl
+      -- .. on the way back x alone is wanted ..
+      x-wanted : (w : ℕ) → 1 ≤ at near w → Wanted goal 0 w → w ≡ x
+      x-wanted w l i = only-goal (mostBenches + 1) x w e (omega (arith, f .bench w l .most, kept .size .limits .benches-most)) i
 
-  -- .. no first bench, no path ..
-  pub to-none : {near : List ℕ} → Distances s to from x near → Chosen true s loads near x 0 → Turned t t s (closingChoice (decode t) x) (startOf x (closingChoice (decode t) x)) (record { bench = x; jobs = 0 })
-  to-none {near} d c =
-      turned-none kept x (startOf x) (closingChoice (decode t) x)
-      (closing-not-found (decode t) (kept .storable .valid) x (at near) (near-to kept arcs d) (λ z h. c .none refl z ((higher near z) .1 h)))
-      refl
+      -- .. so x is found ..
+      pub end-reached : 1 ≤ at near x
+      end-reached =
+          let l = end-lightest .is .reached in
+          omega (arith, goal-right (near-beside kept arcs f) bench l x-wanted, l)
 
-  -- .. else the path from it
-  pub to-some : {near u : List ℕ} {z n : ℕ} → Distances s to from x near → Chosen true s loads near x z → z ≢ 0 → Along (decode t) u s from to near z n → Turned t u s (closingChoice (decode t) x) (startOf x (closingChoice (decode t) x)) (record { bench = z; jobs = n })
-  to-some {near} {z = z} d c e a =
-      turned-some t a z (startOf x) (closingChoice (decode t) x)
-      (closing-greedy (decode t) (kept .storable .valid) (storable-one-other (decode t) (kept .storable)) x z (at near) (stepsBy to (a .path)) (near-to kept arcs d) (closing-start near z (c .some e)) (along-far t a) (along-greedy kept arcs d a))
-      refl
+      -- .. and the path from x is the rule's
+      pub from-some : {u : List ℕ} {n : ℕ} → Along (decode t) u s from to near x n → Turned t u s (arrivalChoice (decode t) x) (lastOf x (arrivalChoice (decode t) x)) (record { bench = y; jobs = n })
+      from-some a =
+          let b = decode t in
+          let v = kept .storable .valid in
+          let r = stepsBy to (a .path) in
+          let w = on-board kept bench in
+          let to-y = distance-to b v y in
+          let greedy = along-greedy kept arcs f a (λ w l i. omega (arith, ap (at near) (x-wanted w l i))) in
+          let walk = greedy-walk (b .benches) (steps b) (stays kept) y (λ z. distance b z y) to-y x r w (greedy .0) (greedy .1) in
+          turned-some t a y (lastOf x) (arrivalChoice b x)
+          (arrival-greedy b v (storable-one-other b (kept .storable)) x y (distance b x) (λ z. distance b z y) r w (distance-away b v x w) (arrival-end (distance b x) y end-lightest) to-y (greedy .0) (greedy .1))
+          (sym (walk .1))
 
-  -- x has a distance to the end bench of an arrival's path
-  pub end-reached : {away near : List ℕ} {y : ℕ} → Distances s from to x away → Chosen false s loads away x y → y ≢ 0 → Distances s to from y near → 1 ≤ at near x
-  end-reached {away} {near} {y} d c e f =
-      let i = (c .some e) .is in
-      omega (arith, i .reached, away-to (decode t) (kept .storable .valid) x y (at away) (at near) (on-board kept bench) (on-board kept (i .bench)) (away-from kept arcs bench d) (near-to kept arcs f))
+  module _ {weights : List ℕ} (r : Reversed s loads weights) {low : ℕ} (least : LeastKey s weights low) where
+    -- a closing at x: no bench with a higher load, no path ..
+    pub to-unneeded : at weights x < low + 2 → Turned t t s (closingChoice (decode t) x) (startOf x (closingChoice (decode t) x)) (record { bench = x; jobs = 0 })
+    unfolding closingChoice
+    to-unneeded h =
+        let all = improvingTo (decode t) x in
+        turned-none kept x (startOf x) (closingChoice (decode t) x)
+        (least-empty (closingKey (decode t)) all
+        (in-empty all (λ q i. let p = improvingTo-only (decode t) x q i in let e = path-ends q (p .0) (p .3) in omega (arith, h, least .least (q .start) (e .0), e .2, left r (e .0), left r bench, ap (load ((decode t) .holders)) (p .2)))))
+        refl
+
+    module _ {near : List ℕ} (heavy : low + 2 ≤ at weights x) (d : Distances s to from (Wanted weights low) x near) where
+      -- .. no first bench, no path ..
+      pub to-none : Chosen s weights near x 0 → Turned t t s (closingChoice (decode t) x) (startOf x (closingChoice (decode t) x)) (record { bench = x; jobs = 0 })
+      to-none c =
+          let b = decode t in
+          let v = kept .storable .valid in
+          let g : ℕ → ℕ = λ z. distance b z x in
+          turned-none kept x (startOf x) (closingChoice b x)
+          (closing-not-found b v x g (distance-to b v x) (λ z h. none-lighter least heavy (near-beside kept arcs d) (c .none refl) z ((higher g z r) .1 h)))
+          refl
+
+      -- .. else the path from it
+      pub to-some : {u : List ℕ} {z n : ℕ} → Chosen s weights near x z → z ≢ 0 → Along (decode t) u s from to near z n → Turned t u s (closingChoice (decode t) x) (startOf x (closingChoice (decode t) x)) (record { bench = z; jobs = n })
+      to-some {z = z} c e a =
+          let b = decode t in
+          let v = kept .storable .valid in
+          let g : ℕ → ℕ = λ y. distance b y x in
+          let beside = near-beside kept arcs d in
+          let best = c .some e in
+          let greedy = along-greedy kept arcs d a (best-nearest least heavy beside best) in
+          turned-some t a z (startOf x) (closingChoice b x)
+          (closing-greedy b v (storable-one-other b (kept .storable)) x z g (stepsBy to (a .path)) (distance-to b v x) (closing-start g z r (best-lightest least heavy beside best)) (greedy .0) (greedy .1))
+          refl

@@ -7,11 +7,14 @@ ghost use Rattle.layout.specs.Table.{mostBenches, decode};
 ghost use Rattle.size.specs.Sizes.{BenchIn};
 ghost use Rattle.store.specs.View.{Kept, Holds, Loaded};
 ghost use Rattle.search.specs.Arrays.{at};
+ghost use Rattle.search.specs.Lists.{ListedBy};
 ghost use Rattle.routes.specs.Route.{Falls};
 ghost use Rattle.paths.specs.Arcs.{ArcsOf};
 ghost use Rattle.paths.specs.Turns.{Handable, handedBy, Along, lastOf, startOf, Turned};
 use routes::ends;
 use routes::route;
+use search::keys;
+use search::lists;
 use search::scratch;
 use search::spread;
 use size::Size;
@@ -51,22 +54,26 @@ fn turn_along(
     s: Size,
     from: &[u16; Size::MOST_JOBS + 1],
     to: &[u16; Size::MOST_JOBS + 1],
+    first: &[u16; Size::MOST_BENCHES + 1],
+    next: &[u16; Size::MOST_JOBS + 1],
     near: &[u16; Size::MOST_BENCHES + 1],
     x: usize,
 ) -> usize
     requires { ⌜ Kept (now t) s ⌝ }
     requires { ⌜ ArcsOf (decode (now t)) s (now from) (now to) ⌝ }
+    requires { ⌜ ListedBy (mostBenches + 1) (s .jobs) (now from) (now first) (now next) ⌝ }
     requires { ⌜ Falls s (now from) (now to) (now near) ⌝ }
     requires { ⌜ 1 ≤ at (now near) x ⌝ }
     ensures { λ r. ⌜ Along (decode (now (t .entry))) (now (t .exit)) s (now (from .entry)) (now (to .entry)) (now (near .entry)) x r ⌝ }
 {
     let mut path = scratch::benches();
-    let n = route::route(s, from, to, near, x, &mut path);
+    let n = route::route(s, from, to, first, next, near, x, &mut path);
     hand_over(t, s, to, &path, n);
     n
 }
 
 // Of the improving paths from x the one that the arrival's order names is turned: its last bench and its jobs; x and 0 where there is none.
+// No bench has a lower load than the lightest: a search need go no farther than the nearest of those.
 pub fn turn_from(
     t: &mut [u8],
     s: Size,
@@ -81,18 +88,23 @@ pub fn turn_from(
     requires { ⌜ BenchIn s x ⌝ }
     ensures { λ r. ⌜ Turned (now (t .entry)) (now (t .exit)) s (arrivalChoice (decode (now (t .entry))) x) (lastOf x (arrivalChoice (decode (now (t .entry))) x)) r ⌝ }
 {
-    if !ends::any_better(false, s, loads, x) {
+    let low = keys::least(s, loads);
+    if loads[x] < low + 2 {
         return Turn { bench: x, jobs: 0 };
     }
+    let mut first = scratch::benches();
+    let mut next = scratch::jobs();
+    lists::list_by(s.jobs(), from, &mut first, &mut next);
     let mut away = scratch::benches();
-    spread::distances(s, from, to, x, &mut away);
-    let y = ends::choose(false, s, loads, &away, x);
+    spread::distances_along(s, from, to, &first, &next, loads, low, x, &mut away);
+    let y = ends::choose(s, loads, &away, x);
     if y == 0 {
         return Turn { bench: x, jobs: 0 };
     }
     let mut near = scratch::benches();
-    spread::distances(s, to, from, y, &mut near);
-    let jobs = turn_along(t, s, from, to, &near, x);
+    let goal = scratch::all_but(x);
+    spread::distances(s, to, from, &goal, 0, y, &mut near);
+    let jobs = turn_along(t, s, from, to, &first, &next, &near, x);
     Turn { bench: y, jobs }
 }
 
@@ -111,15 +123,21 @@ pub fn turn_to(
     requires { ⌜ BenchIn s x ⌝ }
     ensures { λ r. ⌜ Turned (now (t .entry)) (now (t .exit)) s (closingChoice (decode (now (t .entry))) x) (startOf x (closingChoice (decode (now (t .entry))) x)) r ⌝ }
 {
-    if !ends::any_better(true, s, loads, x) {
+    let mut weights = scratch::benches();
+    keys::reverse(s, loads, &mut weights);
+    let low = keys::least(s, &weights);
+    if weights[x] < low + 2 {
         return Turn { bench: x, jobs: 0 };
     }
     let mut near = scratch::benches();
-    spread::distances(s, to, from, x, &mut near);
-    let z = ends::choose(true, s, loads, &near, x);
+    spread::distances(s, to, from, &weights, low, x, &mut near);
+    let z = ends::choose(s, &weights, &near, x);
     if z == 0 {
         return Turn { bench: x, jobs: 0 };
     }
-    let jobs = turn_along(t, s, from, to, &near, z);
+    let mut first = scratch::benches();
+    let mut next = scratch::jobs();
+    lists::list_by(s.jobs(), from, &mut first, &mut next);
+    let jobs = turn_along(t, s, from, to, &first, &next, &near, z);
     Turn { bench: z, jobs }
 }

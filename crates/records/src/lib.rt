@@ -16,24 +16,6 @@ pub struct Record {
     pub next: usize,
 }
 
-impl Record {
-    // The bench that the holder word tells, 0 for none.
-    pub fn holder_bench(self) -> usize
-        ensures { λ r. ⌜ r ≡ holderIn (entryOf self) ⌝ }
-    {
-        let first = self.first;
-        let second = self.second;
-        let holder = self.holder;
-        if holder == 1 {
-            return first;
-        }
-        if holder == 2 {
-            return second;
-        }
-        0
-    }
-}
-
 // Where job j's record begins.
 fn record_at(s: Size, j: usize) -> usize
     requires { ⌜ Limits s ⌝ }

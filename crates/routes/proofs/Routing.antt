@@ -20,7 +20,7 @@ use Rattle.search.proofs.Listing.{on-some, on-rest, on-above, on-listed}
 use Rattle.search.proofs.Widening.{bench-within}
 
 -- distances to v, by arcs taken backwards, fall along arcs
-pub distances-fall : {s : Size} {from to : List ℕ} {v : ℕ} {dist : List ℕ} → Distances s to from v dist → Falls s from to dist
+pub distances-fall : {s : Size} {from to : List ℕ} {Wanted : ℕ → Type 0} {v : ℕ} {dist : List ℕ} → Distances s to from Wanted v dist → Falls s from to dist
 distances-fall {s} {from} {to} {dist = dist} d = record { bench = d .bench; most = d .most; nearer = nearer }
   where
     nearer : (y n : ℕ) → at dist y ≡ suc (suc n) → (z : ℕ) × (at dist z ≡ suc n) × Leads (s .jobs) from to y z

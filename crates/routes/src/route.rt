@@ -7,10 +7,8 @@ ghost use Rattle.basics.specs.Lists.{within};
 ghost use Rattle.layout.specs.Table.{mostBenches};
 ghost use Rattle.size.specs.Sizes.{Limits};
 ghost use Rattle.search.specs.Arrays.{at, Arcs};
-ghost use Rattle.search.specs.Lists.{Ways};
+ghost use Rattle.search.specs.Lists.{ListedBy, Ways};
 ghost use Rattle.routes.specs.Route.{FirstNearer, Falls, Routed};
-use search::lists;
-use search::scratch;
 use size::Size;
 
 // The smallest arc from x to a bench that is one nearer; 0 where there is none.
@@ -37,29 +35,30 @@ fn nearer(
     0
 }
 
-// From x each time by the smallest arc to a bench that is one nearer, until the distance is 0: the arcs into `path`, and their number.
+// From x each time by the smallest arc to a bench that is one nearer, until the distance is 0: the arcs into `path`, and their number. The lists
+// are those of the arcs by the bench that they leave; of `from`, what they leave, only the contract speaks.
 pub fn route(
     s: Size,
     from: &[u16; Size::MOST_JOBS + 1],
     to: &[u16; Size::MOST_JOBS + 1],
+    first: &[u16; Size::MOST_BENCHES + 1],
+    next: &[u16; Size::MOST_JOBS + 1],
     dist: &[u16; Size::MOST_BENCHES + 1],
     x: usize,
     path: &mut [u16; Size::MOST_BENCHES + 1],
 ) -> usize
     requires { ⌜ Limits s ⌝ }
     requires { ⌜ Arcs s (now from) (now to) ⌝ }
+    requires { ⌜ ListedBy (mostBenches + 1) (s .jobs) (now from) (now first) (now next) ⌝ }
     requires { ⌜ Falls s (now from) (now to) (now dist) ⌝ }
     requires { ⌜ 1 ≤ at (now dist) x ⌝ }
     requires { ⌜ length (now path) ≡ mostBenches + 1 ⌝ }
     ensures { λ r. ⌜ Routed s (now (from .entry)) (now (to .entry)) (now (dist .entry)) x r (now (path .exit)) ⌝ }
 {
-    let mut first = scratch::benches();
-    let mut next = scratch::jobs();
-    lists::list_by(s.jobs(), from, &mut first, &mut next);
     let mut y = x;
     let mut n = 0;
     while 1 < dist[y] {
-        let a = nearer(&first, &next, to, dist, y);
+        let a = nearer(first, next, to, dist, y);
         path[n] = a as u16;
         n += 1;
         y = to[a] as usize;

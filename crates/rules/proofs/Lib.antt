@@ -14,5 +14,6 @@ pub mod KeepsLevel
 pub mod Levelling
 pub mod Distances
 pub mod Found
+pub mod Far
 pub mod Search
 pub mod SearchInstance

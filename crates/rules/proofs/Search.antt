@@ -19,50 +19,67 @@ use Rattle.rules.proofs.Distances.{To, Away, Stays, Nearer, Next, Small
 use Rattle.rules.proofs.Found.{FirstList, ArrivalEnd, ClosingStart, arrival-found, closing-found}
 
 module _ (benches : ℕ) (out : ℕ → List Step) where
-  -- numbers away from v: v alone has 1, each higher one comes by a step from one lower, and no step leads from a numbered bench to one
-  -- without a number or more than one higher
-  pub record NumberedAway (v : ℕ) (f : ℕ → ℕ) : Type 0 where
+  -- numbers away from v, as far as m: v alone has 1, each higher one comes by a step from one lower, and no step leads from a bench with a
+  -- number below m to one without a number or more than one higher
+  pub record NumberedAway (m v : ℕ) (f : ℕ → ℕ) : Type 0 where
     pub here : T (within 1 benches v) × (f v ≡ 1)
     pub only : (y : ℕ) → T (within 1 benches y) → f y ≡ 1 → y ≡ v
     pub from : (y n : ℕ) → T (within 1 benches y) → f y ≡ suc (suc n) → (z : ℕ) × (s : Step) × T (within 1 benches z) × In s (out z) × (s .to ≡ y) × (f z ≡ suc n)
-    pub on : (z : ℕ) (s : Step) → T (within 1 benches z) → 1 ≤ f z → In s (out z) → (1 ≤ f (s .to)) × (f (s .to) ≤ suc (f z))
+    pub on : (z : ℕ) (s : Step) → T (within 1 benches z) → 1 ≤ f z → f z < m → In s (out z) → (1 ≤ f (s .to)) × (f (s .to) ≤ suc (f z))
 
-  -- numbers towards t: the same with the steps taken backwards
-  pub record NumberedTo (t : ℕ) (d : ℕ → ℕ) : Type 0 where
+  -- numbers towards t, as far as m: the same with the steps taken backwards
+  pub record NumberedTo (m t : ℕ) (d : ℕ → ℕ) : Type 0 where
     pub here : d t ≡ 1
     pub only : (x : ℕ) → T (within 1 benches x) → d x ≡ 1 → x ≡ t
     pub from : (x n : ℕ) → T (within 1 benches x) → d x ≡ suc (suc n) → (s : Step) × In s (out x) × (d (s .to) ≡ suc n)
-    pub on : (x : ℕ) (s : Step) → T (within 1 benches x) → In s (out x) → 1 ≤ d (s .to) → (1 ≤ d x) × (d x ≤ suc (d (s .to)))
+    pub on : (x : ℕ) (s : Step) → T (within 1 benches x) → In s (out x) → 1 ≤ d (s .to) → d (s .to) < m → (1 ≤ d x) × (d x ≤ suc (d (s .to)))
 
 module _ (benches : ℕ) (out : ℕ → List Step) (stays : Stays benches out) where
-  module _ (v : ℕ) (f : ℕ → ℕ) (a : NumberedAway benches out v f) where
+  module _ (m v : ℕ) (f : ℕ → ℕ) (a : NumberedAway benches out m v f) where
+    -- a bench with a number is reached with one step less
     away-walk : (n y : ℕ) → T (within 1 benches y) → f y ≡ suc n → (r : List Step) × Walk out v r × (endOf v r ≡ y) × (length r ≡ n)
     away-walk zero y w e = ([], tt, sym (a .only y w e), refl)
     away-walk (suc n) y w e =
-        let (z, s, u, i, k, m) = a .from y n w e in
-        let h = away-walk n z u m in
+        let (z, s, u, i, k, l) = a .from y n w e in
+        let h = away-walk n z u l in
         let j : In s (out (endOf v (h .0))) = subst (λ (x : ℕ). In s (out x)) (sym (h .2)) i in
         (h .0 ++ (s ∷ []), walk-join out v (h .0) (s ∷ []) (h .1) (j, tt), end-join out v (h .0) (s ∷ []) ∙ k, omega (arith, length-append (h .0) (s ∷ []), h .3))
 
-    -- along a walk the numbers rise by one a step at most
-    away-rises : (z : ℕ) (r : List Step) → T (within 1 benches z) → 1 ≤ f z → Walk out z r → (1 ≤ f (endOf z r)) × (f (endOf z r) ≤ f z + length r)
-    away-rises z [] u l w = (l, omega arith)
-    away-rises z (s ∷ r) u l w =
-        let o = a .on z s u l (w .0) in
-        let h = away-rises (s .to) r (stays z s (w .0)) (o .0) (w .1) in
+    -- along a walk too short for a number above m the numbers rise by one a step at most
+    away-rises : (z : ℕ) (r : List Step) → T (within 1 benches z) → 1 ≤ f z → f z + length r ≤ m → Walk out z r → (1 ≤ f (endOf z r)) × (f (endOf z r) ≤ f z + length r)
+    away-rises z [] w l u k = (l, omega arith)
+    away-rises z (s ∷ r) w l u k =
+        let o = a .on z s w l (omega arith) (k .0) in
+        let h = away-rises (s .to) r (stays z s (k .0)) (o .0) (omega (arith, o .1)) (k .1) in
         (h .0, omega (arith, h .1, o .1))
 
-    -- such numbers are the distances from v
-    pub numbered-away : Away benches out v f
-    numbered-away =
-        record {
-          walk = λ y n w e. away-walk n y w e;
-          short = λ y r w k e.
-              let h = away-rises v r (a .here .0) (omega (arith, a .here .1)) k in
-              (subst (λ (x : ℕ). 1 ≤ f x) e (h .0), omega (arith, h .1, ap f e, a .here .1));
-        }
+    -- beside the distances g of all benches ..
+    module _ (g : ℕ → ℕ) (all : Away benches out v g) where
+      -- .. a number is of a bench that is reached, and not too low ..
+      pub away-number : (y : ℕ) → T (within 1 benches y) → 1 ≤ f y → (1 ≤ g y) × (g y ≤ f y)
+      away-number y w l = go (f y) refl l
+        where
+          go : (n : ℕ) → f y ≡ n → 1 ≤ n → (1 ≤ g y) × (g y ≤ n)
+          go zero e i = absurd (omega arith)
+          go (suc n) e i =
+              let (r, k, h, j) = away-walk n y w e in
+              let q = all .short y r w k h in
+              (q .0, omega (arith, q .1))
 
-  module _ (t : ℕ) (d : ℕ → ℕ) (a : NumberedTo benches out t d) where
+      -- .. and up to m it is the distance
+      pub away-right : (y : ℕ) → T (within 1 benches y) → 1 ≤ g y → g y ≤ m → f y ≡ g y
+      away-right y w l u = go (g y) refl l u
+        where
+          go : (n : ℕ) → g y ≡ n → 1 ≤ n → n ≤ m → f y ≡ n
+          go zero e i h = absurd (omega arith)
+          go (suc n) e i h =
+              let (r, k, j, q) = all .walk y n w e in
+              let o = away-rises v r (a .here .0) (omega (arith, a .here .1)) (omega (arith, a .here .1)) k in
+              let c = away-number y w (omega (arith, o .0, ap f j)) in
+              omega (arith, o .1, ap f j, a .here .1, c .1)
+
+  module _ (m t : ℕ) (d : ℕ → ℕ) (a : NumberedTo benches out m t d) where
+    -- from a bench with a number t is reached with one step less
     to-walk : (n x : ℕ) → T (within 1 benches x) → d x ≡ suc n → (r : List Step) × Walk out x r × (endOf x r ≡ t) × (length r ≡ n)
     to-walk zero x w e = ([], tt, a .only x w e, refl)
     to-walk (suc n) x w e =
@@ -70,16 +87,52 @@ module _ (benches : ℕ) (out : ℕ → List Step) (stays : Stays benches out) w
         let h = to-walk n (s .to) (stays x s i) k in
         (s ∷ h .0, (i, h .1), h .2, ap suc (h .3))
 
-    to-short : (x : ℕ) (r : List Step) → T (within 1 benches x) → Walk out x r → endOf x r ≡ t → (1 ≤ d x) × (d x ≤ suc (length r))
-    to-short x [] w k e = (omega (arith, ap d e, a .here), omega (arith, ap d e, a .here))
-    to-short x (s ∷ r) w k e =
-        let h = to-short (s .to) r (stays x s (k .0)) (k .1) e in
-        let o = a .on x s w (k .0) (h .0) in
+    -- back from t along such a walk the numbers rise by one a step at most
+    to-rises : (x : ℕ) (r : List Step) → T (within 1 benches x) → suc (length r) ≤ m → Walk out x r → endOf x r ≡ t → (1 ≤ d x) × (d x ≤ suc (length r))
+    to-rises x [] w u k e = (omega (arith, ap d e, a .here), omega (arith, ap d e, a .here))
+    to-rises x (s ∷ r) w u k e =
+        let h = to-rises (s .to) r (stays x s (k .0)) (omega arith) (k .1) e in
+        let o = a .on x s w (k .0) (h .0) (omega (arith, h .1)) in
         (o .0, omega (arith, o .1, h .1))
 
-    -- such numbers are the distances to t
-    pub numbered-to : To benches out t d
-    numbered-to = record { walk = λ x n w e. to-walk n x w e; short = to-short }
+    module _ (g : ℕ → ℕ) (all : To benches out t g) where
+      -- the same of numbers towards t
+      pub to-number : (x : ℕ) → T (within 1 benches x) → 1 ≤ d x → (1 ≤ g x) × (g x ≤ d x)
+      to-number x w l = go (d x) refl l
+        where
+          go : (n : ℕ) → d x ≡ n → 1 ≤ n → (1 ≤ g x) × (g x ≤ n)
+          go zero e i = absurd (omega arith)
+          go (suc n) e i =
+              let (r, k, h, j) = to-walk n x w e in
+              let q = all .short x r w k h in
+              (q .0, omega (arith, q .1))
+
+      pub to-right : (x : ℕ) → T (within 1 benches x) → 1 ≤ g x → g x ≤ m → d x ≡ g x
+      to-right x w l u = go (g x) refl l u
+        where
+          go : (n : ℕ) → g x ≡ n → 1 ≤ n → n ≤ m → d x ≡ n
+          go zero e i h = absurd (omega arith)
+          go (suc n) e i h =
+              let (r, k, j, q) = all .walk x n w e in
+              let o = to-rises x r w (omega arith) k j in
+              omega (arith, o .1, (to-number x w (o .0)) .1)
+
+      -- so the greedy route by the numbers, from a bench with a number up to m, is the one by the distances
+      pub greedy-right : (x : ℕ) (r : List Step) → T (within 1 benches x) → 1 ≤ d x → d x ≤ m → Greedy benches out d x r → Greedy benches out g x r
+      greedy-right x [] w l u h = tt
+      greedy-right x (s ∷ r) w l u h =
+          let e = same x w l u in
+          let i = stays x s (h .0 .0) in
+          let c = same (s .to) i (h .0 .1) (omega (arith, h .0 .2)) in
+          ((h .0 .0, omega (arith, h .0 .1), omega (arith, h .0 .2)), λ q n. h .1 q (back e q n), greedy-right (s .to) r i (h .0 .1) (omega (arith, h .0 .2)) (h .2))
+        where
+          -- a number up to m is the distance
+          same : (y : ℕ) → T (within 1 benches y) → 1 ≤ d y → d y ≤ m → d y ≡ g y
+          same y w l u = let c = to-number y w l in to-right y w (c .0) (omega (arith, c .1))
+
+          -- a step that leads nearer by the distances does by the numbers
+          back : d x ≡ g x → (q : Step) → Nearer benches out g x q → Nearer benches out d x q
+          back e q (i, j, k) = let c = to-right (q .to) (stays x q i) j (omega arith) in (i, omega arith, omega arith)
 
 module _ (b : Board) (v : Valid b) where
   stays-here : Stays (b .benches) (steps b)

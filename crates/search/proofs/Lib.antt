@@ -1,3 +1,4 @@
--- Lists by key, breadth-first search.
+-- Lists by key, keys, breadth-first search.
+pub mod Keying
 pub mod Listing
 pub mod Widening

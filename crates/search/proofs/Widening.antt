@@ -17,6 +17,7 @@ use Rattle.basics.proofs.Counting.{bit-le, total-most, total-but-one}
 use Rattle.size.specs.Sizes.{Limits, BenchIn}
 use Rattle.size.specs.declared.Size.{Size}
 use Rattle.search.specs.Arrays.{at, Arcs, Leads, Reached, here, step}
+use Rattle.search.specs.Keys.{QueuedIn}
 use Rattle.search.specs.Lists.{On, head, Joins, Ways, ListedBy}
 use Rattle.search.specs.Spread.{Queued, FoundOne, Widened, Stays, Spread, Distances}
 use Rattle.search.proofs.Listing.{array-at, array-long, on-some, on-next, Rises, on-above, on-most, on-split, left, left-less, joins-leads}
@@ -112,7 +113,7 @@ stays-kept {n} {v} {Joined} {dist} {dist'} s h bench only comes = record { most 
     ]
 
 -- .. as those do that a search finds
-pub spread-stays : {n v found : ℕ} {Joined : ℕ → ℕ → Type 0} {dist : List ℕ} {found' : ℕ} {queue' dist' : List ℕ} → Stays n Joined dist → v ≤ n → Spread Joined v found dist found' queue' dist' → Stays n Joined dist'
+pub spread-stays : {n v found : ℕ} {Joined : ℕ → ℕ → Type 0} {Wanted : ℕ → Type 0} {dist : List ℕ} {found' : ℕ} {queue' dist' : List ℕ} → Stays n Joined dist → v ≤ n → Spread Joined Wanted v found dist found' queue' dist' → Stays n Joined dist'
 spread-stays s h p = stays-kept s h (p .bench) (p .only) (p .comes)
 
 -- one number written
@@ -241,6 +242,13 @@ module _ {Brought : ℕ → Type 0} {k found : ℕ} {queue dist : List ℕ} {fou
     before = w .before;
     new = w .new;
     listed = w .listed;
+  }
+
+  -- the benches found stand in the queue
+  pub widened-places : Widened Brought k found queue dist found' queue' dist' → QueuedIn queue' found found'
+  widened-places w = record {
+    most = queued-few (w .queued);
+    bench = λ i l h. let n = w .new i l h in within-high 1 mostBenches (at queue' i) (w .only (at queue' i) (n .0) (n .1) .0);
   }
 
 -- nothing is brought
@@ -402,6 +410,14 @@ spread-start {Joined} {v} {found} {queue} {dist} {end} {queue'} {dist'} q bench 
     one : (i : ℕ) → found ≤ i → i < end → at dist' (at queue' i) ≡ 1
     one i l h = let n = w .new i l h in w .only (at queue' i) (n .0) (n .1) .2
 
+-- `stop` is the number of a wanted bench found since the search began, or one that no bench has
+abbrev pub Stops : (ℕ → Type 0) → List ℕ → List ℕ → ℕ → Type 0
+Stops Wanted dist dist' stop = (stop ≡ mostBenches + 1) ⊎ ((w : ℕ) × (at dist w ≡ 0) × (1 ≤ at dist' w) × (at dist' w ≡ stop) × Wanted w)
+
+-- a wanted bench found since the search began has a number that is not above x's
+abbrev pub Stopped : (ℕ → Type 0) → List ℕ → List ℕ → ℕ → Type 0
+Stopped Wanted dist dist' x = (w : ℕ) × (at dist w ≡ 0) × (1 ≤ at dist' w) × (at dist' w ≤ at dist' x) × Wanted w
+
 module _ {Joined : ℕ → ℕ → Type 0} {v found : ℕ} {queue dist : List ℕ} {end : ℕ} {queue₁ dist₁ : List ℕ} {done : ℕ} (s : Spreading Joined v found queue dist end queue₁ dist₁ done) where
   -- the queue is no longer than there are benches
   pub spread-few : end ≤ mostBenches
@@ -505,9 +521,27 @@ module _ {Joined : ℕ → ℕ → Type 0} {v found : ℕ} {queue dist : List �
                 (omega (arith, r .0), λ e. omega (arith, r .1 e))
           ]
 
-  -- all in the queue are done, or all benches are found
-  pub spread-end : {n : ℕ} → Stays n Joined dist → v ≤ n → ((x y : ℕ) → T (within 1 mostBenches x) → Joined x y → 1 ≤ y) → (end ≤ done) ⊎ (n ≤ end) → Spread Joined v found dist end queue₁ dist₁
-  spread-end {n} stays within-n leads exit =
+  module _ {Wanted : ℕ → Type 0} {end₂ : ℕ} {queue₂ dist₂ : List ℕ} (w : Widened (Joined (at queue₁ done)) (suc (at dist₁ (at queue₁ done))) end queue₁ dist₁ end₂ queue₂ dist₂) where
+    -- where it brings in no wanted one, the search stops at the same number ..
+    pub stop-kept : {stop : ℕ} → Stops Wanted dist dist₁ stop → Stops Wanted dist dist₂ stop
+    stop-kept (inl e) = inl e
+    stop-kept (inr (x, e, l, f, r)) = let k = w .kept x l in inr (x, e, omega arith, k ∙ f, r)
+
+    -- .. and else at the number of those that it brings in
+    pub stop-found : (i : ℕ) × (end ≤ i) × (i < end₂) × Wanted (at queue₂ i) → Stops Wanted dist dist₂ (at dist₁ (at queue₁ done) + 1)
+    stop-found (i, l, h, r) =
+        let n = w .new i l h in
+        let e = grown-more (s .grown) (widened-grown w) .new i (omega (arith, s .grown .more)) h in
+        inr (at queue₂ i, e .0, e .1, omega (arith, w .only (at queue₂ i) (n .0) (n .1) .2), r)
+
+  -- no bench has a number above the count of benches, so the search stops only at a wanted one's
+  pub spread-stopped : {Wanted : ℕ → Type 0} {stop : ℕ} → Stops Wanted dist dist₁ stop → stop ≤ at dist₁ (at queue₁ done) → Stopped Wanted dist dist₁ (at queue₁ done)
+  spread-stopped (inl e) h = absurd (omega (arith, s .grown .queued .most (at queue₁ done), spread-few))
+  spread-stopped (inr (w, e, l, f, r)) h = (w, e, l, omega arith, r)
+
+  -- all in the queue are done, or all benches are found, or the next place has a number that is not below a wanted bench's
+  pub spread-end : {Wanted : ℕ → Type 0} {n : ℕ} → Stays n Joined dist → v ≤ n → ((x y : ℕ) → T (within 1 mostBenches x) → Joined x y → 1 ≤ y) → (end ≤ done) ⊎ (n ≤ end) ⊎ Stopped Wanted dist dist₁ (at queue₁ done) → Spread Joined Wanted v found dist end queue₁ dist₁
+  spread-end {Wanted} {n} stays within-n leads exit =
       record {
         queued = g .queued;
         more = g .more;
@@ -543,8 +577,14 @@ module _ {Joined : ℕ → ℕ → Type 0} {v found : ℕ} {queue dist : List �
       every h x y t j =
           all-found (g .queued) (stays-kept stays within-n (g .bench) (s .only) (s .comes)) h y (leads x y t j) (stays .joined x y t j)
 
-      on : (z y : ℕ) → at dist z ≡ 0 → 1 ≤ at dist₁ z → Joined z y → (1 ≤ at dist₁ y) × (at dist y ≡ 0 → at dist₁ y ≤ suc (at dist₁ z))
-      on z y e l j =
+      -- where a bench that is nearer than every wanted one is not done, all benches are found
+      all : (z i : ℕ) → ((w : ℕ) → at dist w ≡ 0 → 1 ≤ at dist₁ w → Wanted w → at dist₁ z < at dist₁ w) → done ≤ i → i < end → at dist₁ (at queue₁ i) ≡ at dist₁ z → (end ≤ done) ⊎ (n ≤ end) ⊎ Stopped Wanted dist dist₁ (at queue₁ done) → n ≤ end
+      all z i near l h e (inl k) = absurd (omega arith)
+      all z i near l h e (inr (inl k)) = k
+      all z i near l h e (inr (inr (w, f, m, k, r))) = absurd (omega (arith, near w f m r, s .order done i (s .begun) l h))
+
+      on : (z y : ℕ) → at dist z ≡ 0 → 1 ≤ at dist₁ z → ((w : ℕ) → at dist w ≡ 0 → 1 ≤ at dist₁ w → Wanted w → at dist₁ z < at dist₁ w) → Joined z y → (1 ≤ at dist₁ y) × (at dist y ≡ 0 → at dist₁ y ≤ suc (at dist₁ z))
+      on z y e l near j =
           let p = g .listed z e l in
           let same = ap (at dist₁) (p .3) in
           elim (decLt (p .0) done) [
@@ -552,7 +592,7 @@ module _ {Joined : ℕ → ℕ → Type 0} {v found : ℕ} {queue dist : List �
                 let r = s .expanded (p .0) y (p .1) h (subst (λ (z : ℕ). Joined z y) (sym (p .3)) j) in
                 (r .0, λ b. omega (arith, r .1 b))
             | no h ↦
-                let m = every (⊎-elim (λ k. absurd (omega (arith, p .2))) (λ k. k) exit) z y (g .bench z e l) j in
+                let m = every (all z (p .0) near (omega arith) (p .2) same exit) z y (g .bench z e l) j in
                 (m, λ b. omega (arith, late (p .0) y (omega arith) (p .2) m b))
           ]
 
@@ -567,7 +607,7 @@ pub bench-within : (s : Size) (x : ℕ) → Limits s → BenchIn s x → T (with
 bench-within s x l b = within-both 1 mostBenches x (b .least) (omega arith)
 
 -- a search that starts with no bench numbered gives the distances
-blank-distances : {s : Size} {from to first next : List ℕ} → Limits s → Arcs s from to → ListedBy (mostBenches + 1) (s .jobs) from first next → {v : ℕ} → BenchIn s v → {found : ℕ} {queue dist₀ dist : List ℕ} → ((y : ℕ) → at dist₀ y ≡ 0) → Spread (Joins first next to) v 0 dist₀ found queue dist → Distances s from to v dist
+blank-distances : {s : Size} {from to first next : List ℕ} → Limits s → Arcs s from to → ListedBy (mostBenches + 1) (s .jobs) from first next → {v : ℕ} → BenchIn s v → {found : ℕ} {Wanted : ℕ → Type 0} {queue dist₀ dist : List ℕ} → ((y : ℕ) → at dist₀ y ≡ 0) → Spread (Joins first next to) Wanted v 0 dist₀ found queue dist → Distances s from to Wanted v dist
 blank-distances {s} {from} {to} l r e {v} b {dist = dist} blank p =
     record {
       bench = λ y h. bench y (at dist y) refl h;
@@ -575,7 +615,7 @@ blank-distances {s} {from} {to} l r e {v} b {dist = dist} blank p =
       here = p .first (blank v);
       only = λ y. p .only y (blank y);
       comes = comes;
-      on = λ z y h j. let q = p .on z y (blank z) h ((joins-leads l r e z y) .1 j) in (q .0, q .1 (blank y));
+      on = λ z y h near j. let q = p .on z y (blank z) h (λ w _. near w) ((joins-leads l r e z y) .1 j) in (q .0, q .1 (blank y));
     }
   where
     comes : (y n : ℕ) → at dist y ≡ suc (suc n) → (z : ℕ) × (at dist z ≡ suc n) × Leads (s .jobs) from to z y
@@ -594,7 +634,7 @@ blank-distances {s} {from} {to} l r e {v} b {dist = dist} blank p =
         subst (BenchIn s) (a .3) (r .leads (a .0) (a .1) (omega (arith, a .2)))
 
 -- a search that starts with nothing found gives the distances
-pub spread-distances : {s : Size} {from to first next : List ℕ} → Limits s → Arcs s from to → ListedBy (mostBenches + 1) (s .jobs) from first next → {v : ℕ} → BenchIn s v → {found : ℕ} {queue dist : List ℕ} → Spread (Joins first next to) v 0 (replicate (mostBenches + 1) 0) found queue dist → Distances s from to v dist
+pub spread-distances : {s : Size} {from to first next : List ℕ} → Limits s → Arcs s from to → ListedBy (mostBenches + 1) (s .jobs) from first next → {v : ℕ} → BenchIn s v → {found : ℕ} {Wanted : ℕ → Type 0} {queue dist : List ℕ} → Spread (Joins first next to) Wanted v 0 (replicate (mostBenches + 1) 0) found queue dist → Distances s from to Wanted v dist
 spread-distances l r e b p = blank-distances l r e b (array-at (mostBenches + 1) refl) p
 
 -- what is reached by one relation's steps is reached by another's, if that has the same steps

@@ -9,23 +9,22 @@ use Rattle.layout.specs.Table.{mostBenches, mostJobs}
 use Rattle.search.specs.Arrays.{at, Reached}
 use Rattle.search.specs.Lists.{LeastFrom}
 use Rattle.search.specs.Spread.{Queued, Stays}
+use Rattle.size.specs.Sizes.{BenchIn}
+use Rattle.size.specs.declared.Size.{Size}
+use Rattle.start.specs.declared.Range.{Range}
 use Rattle.start.specs.declared.Search.{Search}
 
--- places `begin` to `end` of the queue hold benches, whose loads are those of jobs
-pub record QueuedIn (queue : List ℕ) (begin end : ℕ) (loads : List ℕ) : Type 0 where
-  pub most : end ≤ mostBenches
-  pub bench : (i : ℕ) → begin ≤ i → i < end → at queue i ≤ mostBenches
-  pub few : (i : ℕ) → begin ≤ i → i < end → at loads (at queue i) ≤ mostJobs
-
--- one of them has a load that is below `load` by two or more
-abbrev pub LowIn : List ℕ → ℕ → ℕ → List ℕ → ℕ → Type 0
-LowIn queue begin end loads load = (i : ℕ) × (begin ≤ i) × (i < end) × (at loads (at queue i) + 2 ≤ load)
+-- every load of benches 1 to B is from `low` to `high`
+pub record Between (s : Size) (loads : List ℕ) (r : Range) : Type 0 where
+  pub least : (x : ℕ) → BenchIn s x → r .low ≤ at loads x
+  pub most : (x : ℕ) → BenchIn s x → at loads x ≤ r .high
+  pub few : r .high ≤ mostJobs
 
 -- the benches of this load, from x on, all of 1 to n: x is the least, and `after` has the next ones; no load is above the number of jobs
 pub record AsHeavy (n : ℕ) (loads after : List ℕ) (load x : ℕ) : Type 0 where
   pub bench : (y : ℕ) → at loads y ≡ load → y ≤ n
   pub few : (y : ℕ) → T (within 1 mostBenches y) → at loads y ≤ mostJobs
-  pub least : 1 ≤ load
+  pub least : 2 ≤ load
   pub head : LeastFrom loads mostBenches 1 load x
   pub later : (y : ℕ) → T (within 1 mostBenches y) → at loads y ≡ load → LeastFrom loads mostBenches (suc y) load (at after y)
 

@@ -1,13 +1,20 @@
 // The first bench of the path that levelling turns: of the benches that start an improving path the one with the greatest load, then the
 // lowest. Loads go down and numbers up; what a bench reached need not be searched again from a lighter one.
 ghost use Rattle.size.specs.Sizes.{Limits};
-ghost use Rattle.search.specs.Arrays.{Leads, Arcs, LoadsIn, Tells};
+ghost use Rattle.search.specs.Arrays.{Leads, Arcs, LoadsIn};
 ghost use Rattle.search.specs.Lists.{Ways, Joins};
-ghost use Rattle.start.specs.Start.{QueuedIn, LowIn, AsHeavy, Searching, Searched, StartOf};
+ghost use Rattle.start.specs.Start.{Between, AsHeavy, Searching, Searched, StartOf};
+use search::keys;
 use search::lists;
 use search::scratch;
 use search::spread;
 use size::Size;
+
+// The least and the greatest load.
+pub struct Range {
+    pub low: usize,
+    pub high: usize,
+}
 
 // The first bench that starts an improving path, 0 for none; how many benches are found.
 struct Search {
@@ -15,26 +22,17 @@ struct Search {
     found: usize,
 }
 
-// Whether a bench in the queue from place `begin` to `end` has a load that is lower by two or more.
-fn low_among(
-    queue: &[u16; Size::MOST_BENCHES + 1],
-    begin: usize,
-    end: usize,
-    loads: &[u16; Size::MOST_BENCHES + 1],
-    load: usize,
-) -> bool
-    requires { ⌜ QueuedIn (now queue) begin end (now loads) ⌝ }
-    ensures { λ r. ⌜ Tells (LowIn (now (queue .entry)) begin end (now (loads .entry)) load) r ⌝ }
+// The least and the greatest load of benches 1 to B. Where they differ by less than two, no bench starts an improving path.
+pub fn range_of(s: Size, loads: &[u16; Size::MOST_BENCHES + 1]) -> Range
+    requires { ⌜ Limits s ⌝ }
+    requires { ⌜ LoadsIn s (now loads) ⌝ }
+    ensures { λ r. ⌜ Between s (now (loads .entry)) r ⌝ }
 {
-    let mut i = begin;
-    while i < end {
-        let other = loads[queue[i] as usize] as usize;
-        if other + 2 <= load {
-            return true;
-        }
-        i += 1;
-    }
-    false
+    let low = keys::least(s, loads) as usize;
+    let mut other = scratch::benches();
+    keys::reverse(s, loads, &mut other);
+    let high = Size::MOST_JOBS - keys::least(s, &other) as usize;
+    Range { low, high }
 }
 
 // Searches from the benches of this load, from x on, until one reaches a load that is lower by two or more.
@@ -59,8 +57,20 @@ fn start_among(
     let mut found = found;
     let mut x = x;
     while x != 0 {
-        let end = spread::spread(first, next, to, benches, x, found, queue, dist);
-        if low_among(queue, found, end, loads, load) {
+        let limit = (load - 2) as u16;
+        let end = spread::spread(
+            first,
+            next,
+            to,
+            benches,
+            loads,
+            limit,
+            x,
+            found,
+            queue,
+            dist,
+        );
+        if keys::wanted_among(queue, found, end, loads, limit) {
             return Search {
                 start: x,
                 found: end,
@@ -72,16 +82,19 @@ fn start_among(
     Search { start: 0, found }
 }
 
-// The bench of greatest load, then lowest number, among those that start an improving path; 0 where none does.
+// The bench of greatest load, then lowest number, among those that start an improving path; 0 where none does. No bench with the least load
+// or one more does.
 pub fn first_start(
     s: Size,
     from: &[u16; Size::MOST_JOBS + 1],
     to: &[u16; Size::MOST_JOBS + 1],
     loads: &[u16; Size::MOST_BENCHES + 1],
+    r: Range,
 ) -> usize
     requires { ⌜ Limits s ⌝ }
     requires { ⌜ Arcs s (now from) (now to) ⌝ }
     requires { ⌜ LoadsIn s (now loads) ⌝ }
+    requires { ⌜ Between s (now loads) r ⌝ }
     ensures { λ r. ⌜ StartOf (Leads (s .jobs) (now (from .entry)) (now (to .entry))) (now (loads .entry)) r ⌝ }
 {
     let mut first = scratch::benches();
@@ -94,10 +107,10 @@ pub fn first_start(
     let mut queue = scratch::benches();
     let mut dist = scratch::benches();
     let mut found = 0;
-    let mut load = s.jobs();
-    while 1 < load {
+    let mut load = r.high;
+    while r.low + 1 < load {
         let x = heavy[load] as usize;
-        let r = start_among(
+        let searched = start_among(
             &first,
             &next,
             to,
@@ -110,10 +123,10 @@ pub fn first_start(
             &mut queue,
             &mut dist,
         );
-        if r.start != 0 {
-            return r.start;
+        if searched.start != 0 {
+            return searched.start;
         }
-        found = r.found;
+        found = searched.found;
         load -= 1;
     }
     0

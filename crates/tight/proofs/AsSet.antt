@@ -6,20 +6,21 @@ use mathlib.Core.Logic.{_↔_}
 use mathlib.Core.Bool.{Bool, true, false, cond, not, false≢true}
 use mathlib.Core.List.{List, [], _∷_, _++_, append-nil}
 use lib.Dec.{T, eqb}
-use lib.ListN.{length, getD, drop, replicate, length-append}
+use lib.ListN.{length, getD, set, drop, replicate, length-append}
+use lib.Seq.{getD-set-same, getD-set-other}
 use Rattle.basics.specs.Lists.{bit, within, count, member, rising, total, keep, In}
 use Rattle.layout.specs.Board.{Board, Valid, load, Shares}
 use Rattle.rules.specs.Paths.{Step, stepBy, steps}
 use Rattle.rules.specs.Sharing.{tightSet, inside}
 use Rattle.layout.specs.Table.{mostBenches, mostJobs, decode, bytesOf}
-use Rattle.basics.proofs.Basics.{false→not, never→false, Compared, same, other, compared, T-eqb, within-low, within-both, in-each, keep-in, member-in, Member, is-in, not-in, membered, member-marked, length-keep, length-rising}
+use Rattle.basics.proofs.Basics.{true→T, false→not, never→false, Compared, same, other, compared, T-eqb, within-low, within-both, in-each, keep-in, member-in, Member, is-in, not-in, membered, member-marked, length-keep, length-rising}
 use Rattle.layout.proofs.Named.{length-shares}
 use Rattle.basics.proofs.Counting.{bit-other, total-same, total-count, keep-counts}
 use Rattle.rules.proofs.Paths.{is-step}
 use Rattle.rules.proofs.Sets.{inside-skips, inside-counts}
 use Rattle.layout.proofs.Sound.{two-more, two-more-high}
 use Rattle.rules.proofs.TightSet.{tight-marked, tight-bench, tight-reached}
-use Rattle.rules.proofs.Walks.{Reach, reach-more, reach-all}
+use Rattle.rules.proofs.Walks.{Reach, reach-here, reach-more, reach-all}
 use Rattle.words.specs.Bytes.{setWord}
 use Rattle.size.specs.Sizes.{Limits, BenchIn}
 use Rattle.size.specs.declared.Size.{Size}
@@ -27,13 +28,15 @@ use Rattle.words.proofs.Bytes.{length-setWord}
 use Rattle.size.proofs.Sizes.{board-bench}
 use Rattle.store.specs.View.{Kept, Loaded}
 use Rattle.search.specs.Arrays.{at, Leads, LoadsIn}
+use Rattle.search.specs.Keys.{LeastKey}
 use Rattle.search.specs.Lists.{ListedBy, Joins}
 use Rattle.search.proofs.Listing.{array-at, joins-leads}
 use Rattle.search.proofs.Widening.{reached-same}
 use Rattle.paths.specs.Arcs.{ArcsOf}
 use Rattle.paths.proofs.AsArcs.{on-board, load-at, arcs-forth, step-arc, arcs-reach}
-use Rattle.tight.specs.Marks.{mark, Brings, marked, Measured, TightSet}
+use Rattle.tight.specs.Marks.{mark, Marks, Brings, AllMarked, marked, Measured, TightSet}
 use Rattle.tight.specs.declared.set.Extent.{Extent}
+use Rattle.tight.proofs.Visiting.{marks-set}
 
 -- what is marked of the benches 1 to n
 
@@ -252,9 +255,54 @@ tight-inside b v h =
     inside-held set (λ i. let l = within-low 1 (b .benches) 0 (tight-bench b h 0 i) in omega arith) (b .named) (b .holders) (v .shares) (tight-row b v h)
     ∙ sym (loads-held (b .benches) (λ x. member x set) (b .holders) (λ x t. tight-bench b h x (member-in x set t)))
 
+-- marking all
+
+-- the benches before x are marked
+pub record Marking (marks : List Bool) (x : ℕ) : Type 0 where
+  pub long : Marks marks
+  pub before : (y : ℕ) → 1 ≤ y → y < x → T (mark marks y)
+
+-- no bench is marked yet
+pub mark-start : (marks : List Bool) → Marks marks → Marking marks 1
+mark-start marks l = record { long = l; before = λ y h u. absurd (omega arith) }
+
+-- bench x is marked too
+pub mark-turn : {marks : List Bool} {x : ℕ} → Marking marks x → x ≤ mostBenches → Marking (set marks x true) (x + 1)
+mark-turn {marks} {x} m l =
+    record { long = marks-set marks x (m .long); before = λ y h u. go y h u (compared y x) }
+  where
+    go : (y : ℕ) → 1 ≤ y → y < x + 1 → {z : Bool} → Compared y x z → T (mark (set marks x true) y)
+    go y h u (same e) =
+        rw e (true→T (mark (set marks x true) x) (getD-set-same marks x true false (omega (arith, m .long .long))))
+    go y h u (other d) = rw (getD-set-other marks x y true false d) (m .before y h (omega arith))
+
+-- all benches are marked
+pub mark-end : {marks : List Bool} {x : ℕ} (s : Size) → Marking marks x → s .benches < x → AllMarked s marks
+mark-end s m u = record { bench = λ y b. m .before y (b .least) (omega (arith, b .most)) }
+
 -- the tight set as marks
 
--- what `tight_set` has when its benches are marked
+-- bench y is reached from one with load h or more
+abbrev FromHeavy : Board → ℕ → ℕ → Type 0
+FromHeavy b h y = (x : ℕ) × T (within 1 (b .benches) x) × (h ≤ load (b .holders) x) × Reach (steps b) x y
+
+-- marks at exactly these benches of 1 to B are the tight set
+marks-tight : {t : List ℕ} {s : Size} (h : ℕ) (marks : List Bool) → Kept t s → ((y : ℕ) → T (within 1 ((decode t) .benches) y) → T (mark marks y) ↔ FromHeavy (decode t) h y) → marked s marks ≡ tightSet (decode t) h
+marks-tight {t} {s} h marks k f =
+    ap (λ (n : ℕ). keep (mark marks) (rising 1 n)) (sym (k .size .board-benches))
+    ∙ sym (tight-marked (decode t) (k .storable .valid) h (mark marks) f)
+
+-- where every bench has load h or more, all benches are the tight set
+pub all-tight : {t : List ℕ} {s : Size} {h r : ℕ} {loads : List ℕ} {marks : List Bool} → Kept t s → Loaded (decode t) loads → LeastKey s loads r → h ≤ r → AllMarked s marks → marked s marks ≡ tightSet (decode t) h
+all-tight {t} {s} {h} {r} {loads} {marks} k l m u a =
+    marks-tight h marks k (λ y w. (λ i. own y w, λ i. a .bench y (board-bench y (k .size) w)))
+  where
+    own : (y : ℕ) → T (within 1 ((decode t) .benches) y) → FromHeavy (decode t) h y
+    own y w =
+        let b = board-bench y (k .size) w in
+        (y, w, omega (arith, m .least y b, load-at k l b), reach-here (steps (decode t)) y)
+
+-- what `mark_brought` has when its benches are marked
 pub record Found (t : List ℕ) (s : Size) (h : ℕ) (from to first next loads : List ℕ) (marks₀ marks : List Bool) : Type 0 where
   pub kept : Kept t s
   pub arcs : ArcsOf (decode t) s from to
@@ -277,15 +325,15 @@ module _ {t : List ℕ} {s : Size} {h : ℕ} {from to first next loads : List �
   step-joined x q i = let r = step-arc (f .kept) (f .arcs) x q i in (joined x (q .to)) .1 (q .job, r .0, r .1, r .2)
 
   -- a marked bench is reached from one with load h or more ..
-  marked-reached : (y : ℕ) → T (mark marks y) → (x : ℕ) × T (within 1 ((decode t) .benches) x) × (h ≤ load ((decode t) .holders) x) × Reach (steps (decode t)) x y
+  marked-reached : (y : ℕ) → T (mark marks y) → FromHeavy (decode t) h y
   marked-reached y m =
       let (x, (b, l), r) = f .brought .only y (new y) m in
       let q = arcs-reach (f .kept) (f .arcs) x y (b .least) (reached-same (λ x y. (joined x y) .0) x y r) in
       (x, on-board (f .kept) b, omega (arith, load-at (f .kept) (f .loaded) b), q)
 
   -- .. and each that is reached is marked
-  reached-marked : (x y : ℕ) → T (within 1 ((decode t) .benches) x) → h ≤ load ((decode t) .holders) x → Reach (steps (decode t)) x y → T (mark marks y)
-  reached-marked x y w l r = reach-all (steps (decode t)) (λ z. T (mark marks z)) on x y start r
+  reached-marked : (y : ℕ) → FromHeavy (decode t) h y → T (mark marks y)
+  reached-marked y (x, w, l, r) = reach-all (steps (decode t)) (λ z. T (mark marks z)) on x y start r
     where
       on : (z : ℕ) (q : Step) → T (mark marks z) → In q (steps (decode t) z) → T (mark marks (q .to))
       on z q m i = f .brought .shut z (q .to) (new z) m (step-joined z q i)
@@ -293,30 +341,29 @@ module _ {t : List ℕ} {s : Size} {h : ℕ} {from to first next loads : List �
       start : T (mark marks x)
       start = let b = board-bench x (f .kept .size) w in f .brought .every x (b, omega (arith, load-at (f .kept) (f .loaded) b))
 
-  -- the marked benches are the tight set ..
-  marked-tight : marked s marks ≡ tightSet (decode t) h
-  marked-tight =
-      let e = tight-marked (decode t) (f .kept .storable .valid) h (mark marks) (λ y w. (marked-reached y, λ (x, u, l, r). reached-marked x y u l r)) in
-      ap (λ (n : ℕ). keep (mark marks) (rising 1 n)) (sym (f .kept .size .board-benches)) ∙ sym e
+  -- so the marked benches are the tight set
+  pub found-tight : marked s marks ≡ tightSet (decode t) h
+  found-tight = marks-tight h marks (f .kept) (λ y w. (marked-reached y, reached-marked y))
 
-  -- .. and their loads the jobs inside it
+module _ {t : List ℕ} {s : Size} {loads : List ℕ} (h : ℕ) (marks : List Bool) (k : Kept t s) (l : Loaded (decode t) loads) (tight : marked s marks ≡ tightSet (decode t) h) where
+  -- the loads of the marked benches are the jobs inside the tight set ..
   marked-inside : total (s .benches) (markedLoad loads marks) ≡ inside (tightSet (decode t) h) ((decode t) .named)
   marked-inside =
-      ap (λ (n : ℕ). total n (markedLoad loads marks)) (sym (f .kept .size .board-benches))
+      ap (λ (n : ℕ). total n (markedLoad loads marks)) (sym (k .size .board-benches))
       ∙ total-same ((decode t) .benches) (markedLoad loads marks) (λ x. cond (member x (tightSet (decode t) h)) (load ((decode t) .holders) x) 0) each
-      ∙ sym (tight-inside (decode t) (f .kept .storable .valid) h)
+      ∙ sym (tight-inside (decode t) (k .storable .valid) h)
     where
       each : (x : ℕ) → 1 ≤ x → x ≤ (decode t) .benches → markedLoad loads marks x ≡ cond (member x (tightSet (decode t) h)) (load ((decode t) .holders) x) 0
-      each x l u =
-          let b = board-bench x (f .kept .size) (within-both 1 ((decode t) .benches) x l u) in
-          let e : member x (tightSet (decode t) h) ≡ mark marks x = ap (member x) (sym marked-tight) ∙ member-marked (s .benches) (mark marks) x (within-both 1 (s .benches) x (b .least) (b .most)) in
-          rw (e, load-at (f .kept) (f .loaded) b) refl
+      each x i u =
+          let b = board-bench x (k .size) (within-both 1 ((decode t) .benches) x i u) in
+          let e : member x (tightSet (decode t) h) ≡ mark marks x = ap (member x) (sym tight) ∙ member-marked (s .benches) (mark marks) x (within-both 1 (s .benches) x (b .least) (b .most)) in
+          rw (e, load-at k l b) refl
 
-  -- so what is measured is the tight set's
-  pub found-tight : {r : Extent} → Measured s loads marks r → TightSet (decode t) s h marks r
-  found-tight m =
+  -- .. so what is measured is the tight set's
+  pub measured-tight : {r : Extent} → Measured s loads marks r → TightSet (decode t) s h marks r
+  measured-tight m =
       record {
-        set = marked-tight;
-        benches = m .benches ∙ ap length marked-tight;
+        set = tight;
+        benches = m .benches ∙ ap length tight;
         jobs = m .jobs ∙ marked-inside;
       }

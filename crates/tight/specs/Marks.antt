@@ -10,6 +10,7 @@ use Rattle.basics.specs.Lists.{within, rising, keep, total}
 use Rattle.layout.specs.Board.{Board}
 use Rattle.rules.specs.Sharing.{tightSet, inside}
 use Rattle.layout.specs.Table.{mostBenches}
+use Rattle.size.specs.Sizes.{BenchIn}
 use Rattle.size.specs.declared.Size.{Size}
 use Rattle.search.specs.Arrays.{at, Reached}
 use Rattle.search.specs.Lists.{On}
@@ -39,6 +40,10 @@ pub record Brings (Joined : ℕ → ℕ → Type 0) (Brought : ℕ → Type 0) (
   pub every : (y : ℕ) → Brought y → T (mark marks' y)
   pub only : (y : ℕ) → T (not (mark marks y)) → T (mark marks' y) → (x : ℕ) × Brought x × Reached Joined x y
   pub shut : (z y : ℕ) → T (not (mark marks z)) → T (mark marks' z) → Joined z y → T (mark marks' y)
+
+-- every bench of 1 to B is marked
+pub record AllMarked (s : Size) (marks : List Bool) : Type 0 where
+  pub bench : (x : ℕ) → BenchIn s x → T (mark marks x)
 
 -- the marked benches of 1 to B, rising
 abbrev pub marked : Size → List Bool → List ℕ

@@ -5,12 +5,14 @@ ghost use mathlib.Core.List.{_++_};
 ghost use Prim.Native.Nat.{_≤_, _+_, _*_};
 ghost use lib.ListN.{length, drop, replicate};
 ghost use Rattle.layout.specs.Table.{mostBenches, decode, bytesOf};
+ghost use Rattle.rules.specs.Sharing.{tightSet};
 ghost use Rattle.size.specs.Sizes.{Limits};
-ghost use Rattle.store.specs.View.{Kept};
+ghost use Rattle.store.specs.View.{Kept, Loaded};
 ghost use Rattle.search.specs.Arrays.{LoadsIn};
-ghost use Rattle.tight.specs.Marks.{marked, Measured, TightSet};
+ghost use Rattle.tight.specs.Marks.{Marks, AllMarked, marked, Measured, TightSet};
 use crate::visits;
 use paths::arcs;
+use search::keys;
 use search::lists;
 use search::scratch;
 use size::Size;
@@ -56,22 +58,57 @@ fn measure(
     }
 }
 
-// The tight set of height h, marked: the number of its benches and of the jobs inside. A job inside is held inside, and a job that
-// a bench of the set holds is inside, so the loads are counted and not the jobs.
+// Every bench of 1 to B marked.
+fn mark_all(s: Size, marks: &mut [bool; Size::MOST_BENCHES + 1])
+    requires { ⌜ Limits s ⌝ }
+    requires { ⌜ Marks (now marks) ⌝ }
+    ensures { λ _. ⌜ AllMarked s (now (marks .exit)) ⌝ }
+{
+    let benches = s.benches();
+    let mut x = 1;
+    while x <= benches {
+        marks[x] = true;
+        x += 1;
+    }
+}
+
+// The benches with load h or more, and what they bring in, marked.
+fn mark_brought(
+    t: &[u8],
+    s: Size,
+    loads: &[u16; Size::MOST_BENCHES + 1],
+    h: usize,
+    marks: &mut [bool; Size::MOST_BENCHES + 1],
+)
+    requires { ⌜ Kept (now t) s ⌝ }
+    requires { ⌜ Loaded (decode (now t)) (now loads) ⌝ }
+    requires { ⌜ now marks ≡ replicate (mostBenches + 1) false ⌝ }
+    ensures { λ _. ⌜ marked s (now (marks .exit)) ≡ tightSet (decode (now (t .entry))) h ⌝ }
+{
+    let mut from = scratch::jobs();
+    let mut to = scratch::jobs();
+    arcs::fill(t, s, &mut from, &mut to);
+    let mut first = scratch::benches();
+    let mut next = scratch::jobs();
+    lists::list_by(s.jobs(), &from, &mut first, &mut next);
+    visits::visit_heavy(s, &first, &next, &to, loads, h, marks);
+}
+
+// The tight set of height h, marked: the number of its benches and of the jobs inside. Where every bench has load h or more, it is all
+// benches, and no search is made. A job inside is held inside, and a job that a bench of the set holds is inside, so the loads are
+// counted and not the jobs.
 pub fn tight_set(t: &[u8], s: Size, h: usize, marks: &mut [bool; Size::MOST_BENCHES + 1]) -> Extent
     requires { ⌜ Kept (now t) s ⌝ }
     requires { ⌜ now marks ≡ replicate (mostBenches + 1) false ⌝ }
     ensures { λ r. ⌜ TightSet (decode (now (t .entry))) s h (now (marks .exit)) r ⌝ }
 {
-    let mut from = scratch::jobs();
-    let mut to = scratch::jobs();
-    arcs::fill(t, s, &mut from, &mut to);
     let mut load = scratch::benches();
     loads::loads(t, s, &mut load);
-    let mut first = scratch::benches();
-    let mut next = scratch::jobs();
-    lists::list_by(s.jobs(), &from, &mut first, &mut next);
-    visits::visit_heavy(s, &first, &next, &to, &load, h, marks);
+    if h <= keys::least(s, &load) as usize {
+        mark_all(s, marks);
+    } else {
+        mark_brought(t, s, &load, h, marks);
+    }
     measure(s, &load, marks)
 }
 

@@ -2,14 +2,14 @@
 -- jobs that may still be on the chain.
 use Prim.Native.Nat.{_-_}
 use native.Mathlib.Omega.{arith}
-use mathlib.Core.Path.{_≡_, sym, ap, _∙_}
+use mathlib.Core.Path.{_≡_, refl, sym, ap, _∙_}
 use mathlib.Core.Logic.{⊎-elim}
 use lib.Dec.{eqb}
 use borrow.Author.Needs.{needs}
 use borrow.Author.Tests.{eq-eqb, ne-eqb, ltb-true, ltb-false}
 use Rattle.basics.specs.Lists.{nth}
+use Rattle.layout.specs.Table.{Entry, vacant}
 use Rattle.words.specs.Bytes.{laid}
-use Rattle.records.specs.Records.{entryOf}
 use Rattle.form.specs.Check.{onlyIf, walked}
 use Rattle.size.proofs.Sizes.{entries-long}
 use Rattle.form.proofs.Passes.{walk-end, walk-full, walk-step, walk-above}
@@ -46,29 +46,28 @@ returns c =
     (λ w. walk-above es (a .x) (l .left) (l .j) (omega arith) (omega (arith, ltb-true)) ∙ l .inv)
     (c .if1 .came)
 
-read-record-requires : tie.Need-read-record-requires Inv-loop μ-loop
-read-record-requires c κs = (search needs, omega (arith, ltb-false))
+holder-at-requires : tie.Need-holder-at-requires Inv-loop μ-loop
+holder-at-requires c κs = (search needs, omega (arith, ltb-false))
 
-holder-bench-requires : tie.Need-holder-bench-requires Inv-loop μ-loop
-holder-bench-requires c κs = search needs
-
--- what is left of the walk after job j's record is read
-turn : (c : tie.After-holder-bench Inv-loop μ-loop) → let a = c .before .before .before .before .before .before .before .before .before .args in let l = c .before .before .before .before .before .loop in let es = (laid (a .t .now)) .entries in walked es (a .x) (a .left) (nth ((laid (a .t .now)) .heads) (a .x) 0) ≡ onlyIf (eqb (c .holder-bench .result) (a .x)) (walked es (a .x) (l .left - 1) (c .before .read-record .result .next))
+-- what is left of the walk after job j's holder is read
+turn : (c : tie.After-holder-at Inv-loop μ-loop) → let a = c .before .before .before .before .before .before .before .before .args in let l = c .before .before .before .before .loop in let es = (laid (a .t .now)) .entries in walked es (a .x) (a .left) (nth ((laid (a .t .now)) .heads) (a .x) 0) ≡ onlyIf (eqb (c .holder-at .result) (a .x)) (walked es (a .x) (l .left - 1) ((nth es (l .j) vacant) .next))
 turn c =
-    let a = c .before .before .before .before .before .before .before .before .before .args in
-    let l = c .before .before .before .before .before .loop in
+    let a = c .before .before .before .before .before .before .before .before .args in
+    let l = c .before .before .before .before .loop in
     let es = (laid (a .t .now)) .entries in
-    let r = c .before .read-record in
-    let step = walk-step es (a .x) (l .left) (l .j) (entryOf (r .result)) (r .ensures .entry) (omega arith) (omega arith) in
-    rw (c .holder-bench .ensures) (sym (l .inv) ∙ step)
+    let step = walk-step es (a .x) (l .left) (l .j) (nth es (l .j) vacant) refl (omega arith) (omega arith) in
+    rw (c .holder-at .ensures) (sym (l .inv) ∙ step)
 
 returns-2 : tie.Need-returns-2 Inv-loop μ-loop
 returns-2 c =
-    let a = c .before .before .before .before .before .before .before .before .before .before .args in
-    sym (rw (ne-eqb (c .before .holder-bench .result) (a .x) (c .if3 .taken)) at (turn (c .before)))
+    let a = c .before .before .before .before .before .before .before .before .before .args in
+    sym (rw (ne-eqb (c .before .holder-at .result) (a .x) (c .if3 .taken)) at (turn (c .before)))
 
 sub-left : tie.Need-sub-left Inv-loop μ-loop
 sub-left c = search needs
+
+read-record-requires : tie.Need-read-record-requires Inv-loop μ-loop
+read-record-requires c κs = (search needs, omega (arith, ltb-false))
 
 loop-less : tie.Need-loop-less Inv-loop μ-loop
 loop-less c = search needs
@@ -76,7 +75,9 @@ loop-less c = search needs
 loop-again : tie.Need-loop-again Inv-loop μ-loop
 loop-again c =
     let a = c .before .before .before .before .before .before .before .before .before .before .args in
-    sym (rw (eq-eqb (c .before .holder-bench .result) (a .x) (c .if3 .left)) at (turn (c .before)))
+    let l = c .before .before .before .before .before .before .loop in
+    let es = (laid (a .t .now)) .entries in
+    ap (λ (e : Entry). walked es (a .x) (l .left - 1) (e .next)) (c .read-record .ensures .entry) ∙ sym (rw (eq-eqb (c .before .before .holder-at .result) (a .x) (c .before .if3 .left)) at (turn (c .before .before)))
 
 returns-3 : tie.Need-returns-3 Inv-loop μ-loop
 returns-3 c =
@@ -94,10 +95,10 @@ walk-spec =
     head-requires
     loop-holds
     returns
-    read-record-requires
-    holder-bench-requires
+    holder-at-requires
     returns-2
     sub-left
+    read-record-requires
     loop-less
     loop-again
     returns-3)

@@ -10,7 +10,7 @@ use Rattle.layout.specs.Table.{mostBenches}
 use Rattle.basics.proofs.Basics.{within-low, within-high, within-both}
 use Rattle.search.specs.Lists.{LeastFrom, Joins}
 use Rattle.search.proofs.Listing.{least-some, left, left-less}
-use Rattle.start.proofs.Starting.{Among, among-start, among-first, among-turn, among-end, searched-first, spread-queued, least-most}
+use Rattle.start.proofs.Starting.{Among, among-start, among-few, among-first, among-turn, among-end, searched-first, spread-queued, least-most}
 use Rattle.start.proofs.start_among.Statement.{statement}
 use Rattle.start.proofs.start_among.Tie as tie
 
@@ -23,6 +23,12 @@ abbrev μ-loop : tie.MeasureT-loop
 loop-holds : tie.Need-loop-holds Inv-loop μ-loop
 loop-holds c = among-start (c .pre .1 .0) (c .pre .1 .1)
 
+sub-limit : tie.Need-sub-limit Inv-loop μ-loop
+sub-limit c = omega (arith, c .before .before .pre .1 .0 .least)
+
+cast-limit : tie.Need-cast-limit Inv-loop μ-loop
+cast-limit c = omega (arith, among-few (c .before .before .pre .1 .0) (c .before .loop .inv) (c .loop-test .taken))
+
 spread-requires : tie.Need-spread-requires Inv-loop μ-loop
 spread-requires c κs =
     let start = c .before .before .before .before in
@@ -30,15 +36,14 @@ spread-requires c κs =
     let (t, e) = l .inv .next (c .before .before .loop-test .taken) in
     (start .pre .0, (within-both 1 (start .args .benches) (l .x) (within-low 1 mostBenches (l .x) t) (start .pre .1 .0 .bench (l .x) e), (l .inv .searching .queued, l .inv .searching .stays)))
 
-low-among-requires : tie.Need-low-among-requires Inv-loop μ-loop
-low-among-requires c κs =
-    spread-queued (c .before .spread .ensures) (c .before .before .before .before .before .before .pre .1 .0 .few)
+wanted-among-requires : tie.Need-wanted-among-requires Inv-loop μ-loop
+wanted-among-requires c κs = spread-queued (c .before .spread .ensures)
 
 returns : tie.Need-returns Inv-loop μ-loop
 returns c =
     let l = c .before .before .before .before .before .before .before .loop in
     let d = c .before .before .before .before .before .before .loop-test .taken in
-    searched-first d (among-first (l .inv) d (c .before .before .before .spread .ensures) (rw (c .if1 .taken) at (c .before .low-among .ensures)))
+    searched-first d (among-first (l .inv) d (c .before .before .before .before .before .before .before .before .pre .1 .0 .least) (c .before .before .before .spread .ensures) (rw (c .if1 .taken) at (c .before .wanted-among .ensures)))
 
 -- x is a bench of this load ..
 bench : (c : tie.Else1 Inv-loop μ-loop) → let x = c .before .before .before .before .before .before .before .loop .x in T (within 1 mostBenches x) × (getD (c .before .before .before .before .before .before .before .before .args .loads .now) x 0 ≡ c .before .before .before .before .before .before .before .before .args .load)
@@ -75,7 +80,7 @@ loop-again : tie.Need-loop-again Inv-loop μ-loop
 loop-again c =
     let l = c .before .before .before .before .before .before .before .before .loop in
     let d = c .before .before .before .before .before .before .before .loop-test .taken in
-    among-turn (l .inv) d (c .before .before .before .before .spread .ensures) (rw (c .before .if1 .left) at (c .before .before .low-among .ensures)) (c .before .before .before .before .before .before .before .before .before .pre .1 .0)
+    among-turn (l .inv) d (c .before .before .before .before .before .before .before .before .before .pre .1 .0 .least) (c .before .before .before .before .spread .ensures) (rw (c .before .if1 .left) at (c .before .before .wanted-among .ensures)) (c .before .before .before .before .before .before .before .before .before .pre .1 .0)
 
 returns-2 : tie.Need-returns-2 Inv-loop μ-loop
 returns-2 c = among-end (c .before .loop .inv) (c .loop-test .left) (c .before .before .pre .1 .0 .least)
@@ -87,8 +92,10 @@ start-among-spec =
     Inv-loop
     μ-loop
     loop-holds
+    sub-limit
+    cast-limit
     spread-requires
-    low-among-requires
+    wanted-among-requires
     returns
     mul-x
     element-copy-out-x

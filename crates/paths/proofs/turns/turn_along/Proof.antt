@@ -13,16 +13,16 @@ benches-requires c κs = search needs
 
 route-requires : tie.Need-route-requires
 route-requires c κs =
-    let (kept, (arcs, (falls, reached))) = c .before .before .before .pre in
-    (kept .size .limits, (arcs-forth kept arcs, (falls, (reached, array-long 0 (c .before .benches .ensures)))))
+    let (kept, (arcs, (listed, (falls, reached)))) = c .before .before .before .pre in
+    (kept .size .limits, (arcs-forth kept arcs, (listed, (falls, (reached, array-long 0 (c .before .benches .ensures))))))
 
 hand-over-requires : tie.Need-hand-over-requires
 hand-over-requires c κs =
     let start = c .before .before .before .before .before .before in
     let a = start .args in
-    let (kept, (arcs, (falls, reached))) = start .pre in
+    let (kept, (arcs, (listed, (falls, reached)))) = start .pre in
     let r = c .before .before .route in
-    (kept, (r .ensures .short, (r .ensures .room, follows-handable kept arcs (a .near .now) (falls .bench) (a .x) (take (r .result) (r .last .1 .1 .1 .1 .1 .0)) (r .ensures .follows))))
+    (kept, (r .ensures .short, (r .ensures .room, follows-handable kept arcs (a .near .now) (falls .bench) (a .x) (take (r .result) (r .last .1 .1 .1 .1 .1 .1 .1 .0)) (r .ensures .follows))))
 
 same-length : tie.Need-same-length
 same-length c = search needs
@@ -32,7 +32,7 @@ returns c =
     let a = c .before .before .before .before .before .before .before .before .before .args in
     let r = c .before .before .before .before .before .route in
     let h = c .before .before .hand-over in
-    routed-along (decode (a .t .now)) (h .last .0) (a .s) (a .from .now) (a .to .now) (a .near .now) (r .last .1 .1 .1 .1 .1 .0) (a .x) (r .result) (r .ensures) (h .ensures)
+    routed-along (decode (a .t .now)) (h .last .0) (a .s) (a .from .now) (a .to .now) (a .near .now) (r .last .1 .1 .1 .1 .1 .1 .1 .0) (a .x) (r .result) (r .ensures) (h .ensures)
 
 pub turn-along-spec : {M : Type 1} → statement M
 turn-along-spec =

@@ -10,10 +10,10 @@ use Rattle.routes.proofs.ends.choose.Statement.{statement}
 use Rattle.routes.proofs.ends.choose.Tie as tie
 
 abbrev Inv-loop : tie.InvT-loop
-Inv-loop greatest s loads dist x benches best₀ y₀ best y = Sofar greatest s loads dist x y best
+Inv-loop s weights dist x benches best₀ y₀ best y = Sofar s weights dist x y best
 
 abbrev μ-loop : tie.MeasureT-loop
-μ-loop greatest s loads dist x benches best₀ y₀ best y = benches + 1 - y
+μ-loop s weights dist x benches best₀ y₀ best y = benches + 1 - y
 
 benches-requires : tie.Need-benches-requires Inv-loop μ-loop
 benches-requires c κs = search needs
@@ -32,7 +32,7 @@ before-requires : tie.Need-before-requires Inv-loop μ-loop
 before-requires c κs =
     let p = c .before .before .before .before .before .before .pre in
     let l = c .before .before .before .before .loop .inv .some (c .if2 .left) in
-    (p .0, (p .1 .0, (here (c .before .before .before), l .is .bench)))
+    (p .0, (here (c .before .before .before), l .is .bench))
 
 add-y : tie.Need-add-y Inv-loop μ-loop
 add-y c = search needs

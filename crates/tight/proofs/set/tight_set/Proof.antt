@@ -1,25 +1,16 @@
--- The arcs are the board's jobs, the lists are of its arcs, and the marks are what the benches of the height bring in.
-use Prim.Native.Nat.{_+_}
+-- The marked benches are the tight set: all benches where the least load is h or more, and else what was brought in.
+use mathlib.Core.Path.{_≡_}
+use mathlib.Core.Logic.{⊎-elim}
 use mathlib.Core.Bool.{false}
 use borrow.Author.Needs.{needs}
-use Rattle.layout.specs.Table.{mostBenches}
-use Rattle.search.specs.Arrays.{Arcs, LoadsIn}
-use Rattle.search.specs.Lists.{ListedBy}
-use Rattle.search.proofs.Listing.{array-long, listable-arcs, listed-below, listed-ways}
-use Rattle.paths.proofs.AsArcs.{loads-in, arcs-forth}
-use Rattle.tight.proofs.AsSet.{found-tight}
+use Rattle.layout.specs.Table.{decode}
+use Rattle.rules.specs.Sharing.{tightSet}
+use Rattle.search.proofs.Listing.{array-long}
+use Rattle.paths.proofs.AsArcs.{loads-in}
+use Rattle.tight.specs.Marks.{marked}
+use Rattle.tight.proofs.AsSet.{all-tight, measured-tight}
 use Rattle.tight.proofs.set.tight_set.Statement.{statement}
 use Rattle.tight.proofs.set.tight_set.Tie as tie
-
-jobs-requires : tie.Need-jobs-requires
-jobs-requires c κs = search needs
-
-jobs-requires-2 : tie.Need-jobs-requires-2
-jobs-requires-2 c κs = search needs
-
-fill-requires : tie.Need-fill-requires
-fill-requires c κs =
-    (c .before .before .before .before .before .pre .0, (array-long 0 (c .before .before .before .jobs .ensures), array-long 0 (c .before .before .jobs2 .ensures)))
 
 benches-requires : tie.Need-benches-requires
 benches-requires c κs = search needs
@@ -27,78 +18,55 @@ benches-requires c κs = search needs
 loads-requires : tie.Need-loads-requires
 loads-requires c κs = search needs
 
-benches-requires-2 : tie.Need-benches-requires-2
-benches-requires-2 c κs = search needs
+least-requires : tie.Need-least-requires
+least-requires c κs = c .before .before .before .before .before .pre .0 .size .limits
 
-jobs-requires-3 : tie.Need-jobs-requires-3
-jobs-requires-3 c κs = search needs
+cast-if1 : tie.Need-cast-if1
+cast-if1 c = search needs
 
-jobs-requires-4 : tie.Need-jobs-requires-4
-jobs-requires-4 c κs = search needs
+mark-all-requires : tie.Need-mark-all-requires
+mark-all-requires c κs =
+    let b = c .before .before .before .before .before .before .before .before in
+    (b .pre .0 .size .limits, record { long = array-long false (b .pre .1) })
 
-slice-aggregate-list-by : tie.Need-slice-aggregate-list-by
-slice-aggregate-list-by c = search needs
-
-slice-aggregate-list-by-2 : tie.Need-slice-aggregate-list-by-2
-slice-aggregate-list-by-2 c = search needs
-
-slice-aggregate-list-by-3 : tie.Need-slice-aggregate-list-by-3
-slice-aggregate-list-by-3 c = search needs
-
--- the jobs are arcs
-arcs : (c : tie.After-fill) → let a = c .before .before .before .before .before .before .args in Arcs (a .s) (c .fill .last .1 .1 .0) (c .fill .last .1 .1 .1 .0)
-arcs c = arcs-forth (c .before .before .before .before .before .before .pre .0) (c .fill .ensures)
-
-list-by-requires : tie.Need-list-by-requires
-list-by-requires c κs =
-    let f = c .before .before .before .before .before .before .before .before .before in
-    listable-arcs (f .before .before .before .before .before .before .pre .0 .size .limits) (arcs f) (c .before .before .before .before .before .benches2 .ensures) (c .before .before .before .before .jobs3 .ensures) (c .before .before .before .jobs4 .ensures)
-
--- the arcs are listed
-listed : (c : tie.After-list-by) → let f = c .before .before .before .before .before .before .before .before .before .before in ListedBy (mostBenches + 1) (f .before .before .before .before .before .before .args .s .jobs) (f .fill .last .1 .1 .0) (c .list-by .last .1 .1 .0) (c .list-by .last .1 .1 .1 .0)
-listed c = listed-below (c .before .before .before .before .before .before .benches2 .ensures) (c .before .before .before .before .jobs4 .ensures) (c .list-by .ensures)
-
--- the loads are those of the benches
-small : (c : tie.After-loads) → LoadsIn (c .before .before .before .before .before .before .before .before .before .args .s) (c .loads .last .1 .1 .0)
-small c = loads-in (c .before .before .before .before .before .before .before .before .before .pre .0) (c .loads .ensures)
-
-visit-heavy-requires : tie.Need-visit-heavy-requires
-visit-heavy-requires c κs =
-    let l = c .before .before .before .before .before .before .before in
-    let f = l .before .before .before .before .before .before .before .before .before .before in
-    let b = f .before .before .before .before .before .before in
-    let limits = b .pre .0 .size .limits in
-    let ways = listed-ways limits (arcs f) (listed l) in
-    (limits, (ways, (record { long = array-long false (b .pre .1) }, small (l .before .before .before .before .before .before .before))))
+mark-brought-requires : tie.Need-mark-brought-requires
+mark-brought-requires c κs =
+    let l = c .before .before .before .before .before in
+    let b = l .before .before .before .before in
+    (b .pre .0, (l .loads .ensures, b .pre .1))
 
 measure-requires : tie.Need-measure-requires
 measure-requires c κs =
-    let l = c .before .before .before .before .before .before .before .before .before .before .before .before .before .before .before .before .before in
-    (l .before .before .before .before .before .before .before .before .before .pre .0 .size .limits, small l)
+    let l = c .before .before .before .before .before in
+    let b = l .before .before .before .before in
+    (b .pre .0 .size .limits, loads-in (b .pre .0) (l .loads .ensures))
+
+-- the marked benches are the tight set
+tight : (c : tie.Joined1) → let b = c .before .before .before .before .before .before .before in marked (b .args .s) (c .if1 .marks) ≡ tightSet (decode (b .args .t .now)) (b .args .h)
+tight c =
+    let l = c .before .before .before in
+    let b = l .before .before .before .before in
+    ⊎-elim
+    (λ w. rw (w .3) (all-tight (b .pre .0) (l .loads .ensures) (c .before .least .ensures) (w .0 .taken) (w .2 .ensures)))
+    (λ w. rw (w .4) (w .3 .ensures))
+    (c .if1 .came)
 
 returns : tie.Need-returns
 returns c =
-    let l = c .before .before .before .before .before .before .before .before .before .before .before in
-    let f = l .before .before .before .before .before .before .before .before .before .before in
-    let b = f .before .before .before .before .before .before in
-    found-tight (record { kept = b .pre .0; arcs = f .fill .ensures; listed = listed l; loaded = l .before .before .before .before .before .before .before .loads .ensures; blank = b .pre .1; brought = c .before .before .before .visit-heavy .ensures }) (c .measure .ensures)
+    let i = c .before .before .before in
+    let l = i .before .before .before in
+    let b = l .before .before .before .before in
+    measured-tight (b .args .h) (i .if1 .marks) (b .pre .0) (l .loads .ensures) (tight i) (c .measure .ensures)
 
 pub tight-set-spec : {M : Type 1} → statement M
 tight-set-spec =
     tie.close
     (tie.spec
-    jobs-requires
-    jobs-requires-2
-    fill-requires
     benches-requires
     loads-requires
-    benches-requires-2
-    jobs-requires-3
-    jobs-requires-4
-    slice-aggregate-list-by
-    slice-aggregate-list-by-2
-    slice-aggregate-list-by-3
-    list-by-requires
-    visit-heavy-requires
+    least-requires
+    cast-if1
+    mark-all-requires
+    mark-brought-requires
     measure-requires
     returns)

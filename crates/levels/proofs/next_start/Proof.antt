@@ -1,0 +1,51 @@
+-- Where loads are even the board is level; else the search for a first bench tells.
+use native.Mathlib.Omega.{arith}
+use Rattle.paths.proofs.AsArcs.{loads-in, arcs-forth}
+use Rattle.levels.proofs.Turning.{low-most, next-even, next-found}
+use Rattle.levels.proofs.next_start.Statement.{statement}
+use Rattle.levels.proofs.next_start.Tie as tie
+
+loads-requires : tie.Need-loads-requires
+loads-requires c κs = c .before .before .pre .0
+
+range-of-requires : tie.Need-range-of-requires
+range-of-requires c κs =
+    let kept = c .before .before .before .before .pre .0 in
+    (kept .size .limits, loads-in kept (c .before .loads .ensures))
+
+add-if1 : tie.Need-add-if1
+add-if1 c =
+    omega (arith, low-most (c .before .before .before .before .before .before .pre .0 .size .limits) (c .before .range-of .ensures))
+
+returns : tie.Need-returns
+returns c =
+    let counted = c .before .before .before .before .before in
+    let pre = counted .before .before .before .pre in
+    next-even (pre .0) (counted .loads .ensures) (c .before .before .before .range-of .ensures) (c .if1 .taken) (pre .1 .0) (pre .1 .1)
+
+fill-requires : tie.Need-fill-requires
+fill-requires c κs = c .before .before .before .before .before .before .before .before .before .before .pre
+
+first-start-requires : tie.Need-first-start-requires
+first-start-requires c κs =
+    let ranged = c .before .before .before .before .before .before .before .before .before in
+    let counted = ranged .before .before in
+    let kept = counted .before .before .before .pre .0 in
+    (kept .size .limits, (arcs-forth kept (c .before .before .before .fill .ensures), (loads-in kept (counted .loads .ensures), ranged .range-of .ensures)))
+
+returns-2 : tie.Need-returns-2
+returns-2 c =
+    let counted = c .before .before .before .before .before .before .before .before .before .before .before .before in
+    next-found (counted .before .before .before .pre .0) (counted .loads .ensures) (c .before .before .before .before .fill .ensures) (c .first-start .ensures)
+
+pub next-start-spec : {M : Type 1} → statement M
+next-start-spec =
+    tie.close
+    (tie.spec
+    loads-requires
+    range-of-requires
+    add-if1
+    returns
+    fill-requires
+    first-start-requires
+    returns-2)
