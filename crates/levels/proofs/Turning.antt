@@ -20,10 +20,10 @@ use Rattle.size.specs.Sizes.{Limits, BenchIn, SoundTable}
 use Rattle.size.specs.declared.Size.{Size}
 use Rattle.store.specs.View.{Kept, Holds, Loaded}
 use Rattle.chains.specs.Chains.{Settled}
-use Rattle.search.specs.Arrays.{at, Leads}
+use Rattle.arrays.specs.Arrays.{at, Leads}
 use Rattle.start.specs.Start.{Between, StartsLow, StartOf}
 use Rattle.start.specs.declared.Range.{Range}
-use Rattle.paths.specs.Arcs.{ArcsOf}
+use Rattle.arcs.specs.Arcs.{ArcsOf}
 use Rattle.paths.specs.Turns.{turnedBy}
 use Rattle.levels.specs.Levels.{Levels, LevellingOf, NextStart}
 use Rattle.levels.specs.declared.Levelling.{Levelling}
@@ -36,7 +36,7 @@ use Rattle.rules.proofs.Levelling.{turns-more, turns-relevel}
 use Rattle.size.proofs.Sizes.{board-bench}
 use Rattle.store.proofs.Boards.{sound-kept}
 use Rattle.search.proofs.Widening.{bench-within}
-use Rattle.paths.proofs.AsArcs.{loads-in, load-at, arcs-reach, steps-reach}
+use Rattle.arcs.proofs.AsArcs.{loads-in, load-at, arcs-reach, steps-reach}
 
 -- a bench that starts an improving path has one that an arrival there would turn
 starts-choice : (b : Board) → Valid b → (x : ℕ) → StartsOne b x → (p : BenchPath) × (arrivalChoice b x ≡ some p)

@@ -10,9 +10,9 @@ use Rattle.layout.specs.Board.{Board}
 use Rattle.layout.specs.Table.{mostJobs, decode, encode}
 use Rattle.size.specs.declared.Size.{Size}
 use Rattle.store.specs.View.{Loaded}
-use Rattle.search.specs.Arrays.{Leads}
+use Rattle.arrays.specs.Arrays.{Leads}
 use Rattle.start.specs.Start.{StartOf}
-use Rattle.paths.specs.Arcs.{ArcsOf}
+use Rattle.arcs.specs.Arcs.{ArcsOf}
 use Rattle.levels.specs.declared.Levelling.{Levelling}
 
 -- r and the table u are those of the levelling l

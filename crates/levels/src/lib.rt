@@ -7,9 +7,7 @@ ghost use Rattle.layout.specs.Table.{mostJobs, decode};
 ghost use Rattle.size.specs.Sizes.{SoundTable};
 ghost use Rattle.store.specs.View.{Kept};
 ghost use Rattle.levels.specs.Levels.{NextStart, LevellingOf};
-use paths::arcs;
-use paths::turns;
-use search::scratch;
+use arrays::scratch;
 use size::Size;
 use store::loads;
 
@@ -64,7 +62,7 @@ pub fn relevel(t: &mut [u8], s: Size, allowance: u32) -> Levelling
     let mut paths = 0;
     let mut x = next_start(t, s, &mut from, &mut to, &mut load);
     while x != 0 && paths < allowance {
-        turns::turn_from(t, s, &from, &to, &load, x);
+        paths_from::turn_from(t, s, &from, &to, &load, x);
         paths += 1;
         x = next_start(t, s, &mut from, &mut to, &mut load);
     }

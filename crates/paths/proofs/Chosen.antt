@@ -23,15 +23,15 @@ use Rattle.size.specs.Sizes.{BenchIn}
 use Rattle.size.specs.declared.Size.{Size}
 use Rattle.size.proofs.Sizes.{job-in, board-bench}
 use Rattle.store.specs.View.{Kept, Holds, Loaded}
-use Rattle.search.specs.Arrays.{at}
-use Rattle.search.specs.Keys.{LeastKey, Reversed, Wanted}
+use Rattle.arrays.specs.Arrays.{at}
+use Rattle.arrays.specs.Keys.{LeastKey, Reversed, Wanted}
 use Rattle.search.specs.Spread.{Distances}
 use Rattle.routes.specs.Ends.{Chosen}
 use Rattle.routes.specs.Route.{Follows, Routed}
-use Rattle.paths.specs.Arcs.{ArcsOf}
+use Rattle.arcs.specs.Arcs.{ArcsOf}
 use Rattle.paths.specs.Turns.{stepsBy, Handable, handedBy, Along, lastOf, startOf, Turned}
 use Rattle.rules.proofs.Far.{distance, distance-to, distance-away}
-use Rattle.paths.proofs.AsArcs.{loads-keys, on-board, load-at, arc-step, step-arc, distances-away, distances-to}
+use Rattle.arcs.proofs.AsArcs.{loads-keys, on-board, load-at, arc-step, step-arc, distances-away, distances-to}
 use Rattle.paths.proofs.Stopping.{Beside, nearest-right, only-goal, goal-right, Lighter, Lightest, none-lighter, best-nearest, best-lightest}
 
 -- where each weight and its load add up to m, the weights come in the other order

@@ -17,7 +17,7 @@ use Rattle.size.specs.Sizes.{JobIn}
 use Rattle.size.specs.declared.Size.{Size}
 use Rattle.size.proofs.Sizes.{board-bench}
 use Rattle.store.specs.View.{Kept, Holds}
-use Rattle.search.specs.Arrays.{at}
+use Rattle.arrays.specs.Arrays.{at}
 use Rattle.paths.specs.Turns.{stepsBy, Handable, handedBy}
 
 -- one job more is one more change of holders

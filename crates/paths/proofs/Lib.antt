@@ -1,5 +1,4 @@
--- Jobs as arcs, and the path that the rule names.
-pub mod AsArcs
+-- The path that the rule names.
 pub mod Handing
 pub mod Stopping
 pub mod Chosen

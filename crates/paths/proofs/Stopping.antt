@@ -10,8 +10,8 @@ use lib.Seq.{getD-set-other}
 use Rattle.layout.specs.Table.{mostJobs}
 use Rattle.size.specs.Sizes.{BenchIn}
 use Rattle.size.specs.declared.Size.{Size}
-use Rattle.search.specs.Arrays.{at}
-use Rattle.search.specs.Keys.{KeysIn, LeastKey, Reversed, Wanted}
+use Rattle.arrays.specs.Arrays.{at}
+use Rattle.arrays.specs.Keys.{KeysIn, LeastKey, Reversed, Wanted}
 use Rattle.routes.specs.Ends.{Candidate, Best}
 
 -- keys

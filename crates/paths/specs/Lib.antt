@@ -1,3 +1,2 @@
--- What the searches on a board promise.
-pub mod Arcs
+-- What turning a path does.
 pub mod Turns

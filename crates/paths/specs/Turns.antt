@@ -12,7 +12,7 @@ use Rattle.rules.specs.Paths.{Step, BenchPath, stepBy, last, handOver, flip}
 use Rattle.size.specs.Sizes.{JobIn}
 use Rattle.size.specs.declared.Size.{Size}
 use Rattle.store.specs.View.{Holds}
-use Rattle.search.specs.Arrays.{at}
+use Rattle.arrays.specs.Arrays.{at}
 use Rattle.routes.specs.Route.{Follows}
 use Rattle.paths.specs.declared.turns.Turn.{Turn}
 

@@ -1,3 +1,2 @@
-// The path that a rule names, found and turned: the board's jobs as arcs, searches along them, and the path's jobs handed over.
-pub mod arcs;
+// What the paths that a rule names have in common: how one is turned, and why what a search found is enough.
 pub mod turns;

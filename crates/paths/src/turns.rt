@@ -2,21 +2,15 @@
 ghost use Prim.Native.Nat.{_+_, _≤_};
 ghost use mathlib.Core.Path.{_≡_};
 ghost use lib.ListN.{length, take};
-ghost use Rattle.rules.specs.Sharing.{arrivalChoice, closingChoice};
 ghost use Rattle.layout.specs.Table.{mostBenches, decode};
-ghost use Rattle.size.specs.Sizes.{BenchIn};
-ghost use Rattle.store.specs.View.{Kept, Holds, Loaded};
-ghost use Rattle.search.specs.Arrays.{at};
-ghost use Rattle.search.specs.Lists.{ListedBy};
+ghost use Rattle.store.specs.View.{Kept, Holds};
+ghost use Rattle.arrays.specs.Arrays.{at};
+ghost use Rattle.arrays.specs.Lists.{ListedBy};
 ghost use Rattle.routes.specs.Route.{Falls};
-ghost use Rattle.paths.specs.Arcs.{ArcsOf};
-ghost use Rattle.paths.specs.Turns.{Handable, handedBy, Along, lastOf, startOf, Turned};
-use routes::ends;
+ghost use Rattle.arcs.specs.Arcs.{ArcsOf};
+ghost use Rattle.paths.specs.Turns.{Handable, handedBy, Along};
+use arrays::scratch;
 use routes::route;
-use search::keys;
-use search::lists;
-use search::scratch;
-use search::spread;
 use size::Size;
 use store::jobs;
 
@@ -49,7 +43,7 @@ fn hand_over(
 }
 
 // The first list from x, by the distances `near` to the path's last bench, is handed over; how many jobs it has.
-fn turn_along(
+pub fn turn_along(
     t: &mut [u8],
     s: Size,
     from: &[u16; Size::MOST_JOBS + 1],
@@ -70,74 +64,4 @@ fn turn_along(
     let n = route::route(s, from, to, first, next, near, x, &mut path);
     hand_over(t, s, to, &path, n);
     n
-}
-
-// Of the improving paths from x the one that the arrival's order names is turned: its last bench and its jobs; x and 0 where there is none.
-// No bench has a lower load than the lightest: a search need go no farther than the nearest of those.
-pub fn turn_from(
-    t: &mut [u8],
-    s: Size,
-    from: &[u16; Size::MOST_JOBS + 1],
-    to: &[u16; Size::MOST_JOBS + 1],
-    loads: &[u16; Size::MOST_BENCHES + 1],
-    x: usize,
-) -> Turn
-    requires { ⌜ Kept (now t) s ⌝ }
-    requires { ⌜ ArcsOf (decode (now t)) s (now from) (now to) ⌝ }
-    requires { ⌜ Loaded (decode (now t)) (now loads) ⌝ }
-    requires { ⌜ BenchIn s x ⌝ }
-    ensures { λ r. ⌜ Turned (now (t .entry)) (now (t .exit)) s (arrivalChoice (decode (now (t .entry))) x) (lastOf x (arrivalChoice (decode (now (t .entry))) x)) r ⌝ }
-{
-    let low = keys::least(s, loads);
-    if loads[x] < low + 2 {
-        return Turn { bench: x, jobs: 0 };
-    }
-    let mut first = scratch::benches();
-    let mut next = scratch::jobs();
-    lists::list_by(s.jobs(), from, &mut first, &mut next);
-    let mut away = scratch::benches();
-    spread::distances_along(s, from, to, &first, &next, loads, low, x, &mut away);
-    let y = ends::choose(s, loads, &away, x);
-    if y == 0 {
-        return Turn { bench: x, jobs: 0 };
-    }
-    let mut near = scratch::benches();
-    let goal = scratch::all_but(x);
-    spread::distances(s, to, from, &goal, 0, y, &mut near);
-    let jobs = turn_along(t, s, from, to, &first, &next, &near, x);
-    Turn { bench: y, jobs }
-}
-
-// Of the improving paths to x the one that the closing's order names is turned: its first bench and its jobs; x and 0 where there is none.
-pub fn turn_to(
-    t: &mut [u8],
-    s: Size,
-    from: &[u16; Size::MOST_JOBS + 1],
-    to: &[u16; Size::MOST_JOBS + 1],
-    loads: &[u16; Size::MOST_BENCHES + 1],
-    x: usize,
-) -> Turn
-    requires { ⌜ Kept (now t) s ⌝ }
-    requires { ⌜ ArcsOf (decode (now t)) s (now from) (now to) ⌝ }
-    requires { ⌜ Loaded (decode (now t)) (now loads) ⌝ }
-    requires { ⌜ BenchIn s x ⌝ }
-    ensures { λ r. ⌜ Turned (now (t .entry)) (now (t .exit)) s (closingChoice (decode (now (t .entry))) x) (startOf x (closingChoice (decode (now (t .entry))) x)) r ⌝ }
-{
-    let mut weights = scratch::benches();
-    keys::reverse(s, loads, &mut weights);
-    let low = keys::least(s, &weights);
-    if weights[x] < low + 2 {
-        return Turn { bench: x, jobs: 0 };
-    }
-    let mut near = scratch::benches();
-    spread::distances(s, to, from, &weights, low, x, &mut near);
-    let z = ends::choose(s, &weights, &near, x);
-    if z == 0 {
-        return Turn { bench: x, jobs: 0 };
-    }
-    let mut first = scratch::benches();
-    let mut next = scratch::jobs();
-    lists::list_by(s.jobs(), from, &mut first, &mut next);
-    let jobs = turn_along(t, s, from, to, &first, &next, &near, z);
-    Turn { bench: z, jobs }
 }

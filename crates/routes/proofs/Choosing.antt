@@ -11,7 +11,7 @@ use borrow.Author.Count.{below-more}
 use borrow.Author.Tests.{leb-true, leb-false, ltb-true, ltb-false}
 use Rattle.size.specs.Sizes.{BenchIn}
 use Rattle.size.specs.declared.Size.{Size}
-use Rattle.search.specs.Arrays.{at, Tells}
+use Rattle.arrays.specs.Arrays.{at, Tells}
 use Rattle.routes.specs.Ends.{Candidate, Before, Chosen}
 
 -- comparisons

@@ -12,11 +12,11 @@ use Rattle.basics.specs.Lists.{within}
 use Rattle.layout.specs.Table.{mostBenches, mostJobs}
 use Rattle.size.specs.Sizes.{Limits}
 use Rattle.size.specs.declared.Size.{Size}
-use Rattle.search.specs.Arrays.{at, Leads}
-use Rattle.search.specs.Lists.{ListedBy, On, head, tail, Ways}
+use Rattle.arrays.specs.Arrays.{at, Leads}
+use Rattle.arrays.specs.Lists.{ListedBy, On, head, tail, Ways}
 use Rattle.search.specs.Spread.{Distances}
 use Rattle.routes.specs.Route.{FirstNearer, Falls, Follows, Routed}
-use Rattle.search.proofs.Listing.{on-some, on-rest, on-above, on-listed}
+use Rattle.arrays.proofs.Listing.{on-some, on-rest, on-above, on-listed}
 use Rattle.search.proofs.Widening.{bench-within}
 
 -- distances to v, by arcs taken backwards, fall along arcs

@@ -6,7 +6,7 @@ use mathlib.Core.Logic.{_⊎_, _≢_}
 use mathlib.Core.List.{List}
 use Rattle.size.specs.Sizes.{BenchIn}
 use Rattle.size.specs.declared.Size.{Size}
-use Rattle.search.specs.Arrays.{at}
+use Rattle.arrays.specs.Arrays.{at}
 
 module _ (s : Size) (weights dist : List ℕ) where
   -- y is found: it has a number in `dist`; and its weight is less than that of x by two or more

@@ -9,8 +9,8 @@ use Rattle.basics.specs.Lists.{within}
 use Rattle.layout.specs.Table.{mostBenches}
 use Rattle.size.specs.Sizes.{BenchIn}
 use Rattle.size.specs.declared.Size.{Size}
-use Rattle.search.specs.Arrays.{at, Leads}
-use Rattle.search.specs.Lists.{On}
+use Rattle.arrays.specs.Arrays.{at, Leads}
+use Rattle.arrays.specs.Lists.{On}
 
 -- r is the smallest arc from x to a bench that is one nearer, 0 where there is none
 pub record FirstNearer (first next to dist : List ℕ) (x r : ℕ) : Type 0 where

@@ -1,8 +1,8 @@
 // The other end of an improving path, by the rule's order: of the benches that a search found the one with the least weight, then the nearest,
 // then the lowest.
 ghost use Rattle.size.specs.Sizes.{Limits, BenchIn};
-ghost use Rattle.search.specs.Arrays.{Tells};
-ghost use Rattle.search.specs.Keys.{KeysIn};
+ghost use Rattle.arrays.specs.Arrays.{Tells};
+ghost use Rattle.arrays.specs.Keys.{KeysIn};
 ghost use Rattle.routes.specs.Ends.{Candidate, Before, Chosen};
 use size::Size;
 

@@ -6,8 +6,8 @@ ghost use lib.ListN.{length};
 ghost use Rattle.basics.specs.Lists.{within};
 ghost use Rattle.layout.specs.Table.{mostBenches};
 ghost use Rattle.size.specs.Sizes.{Limits};
-ghost use Rattle.search.specs.Arrays.{at, Arcs};
-ghost use Rattle.search.specs.Lists.{ListedBy, Ways};
+ghost use Rattle.arrays.specs.Arrays.{at, Arcs};
+ghost use Rattle.arrays.specs.Lists.{ListedBy, Ways};
 ghost use Rattle.routes.specs.Route.{FirstNearer, Falls, Routed};
 use size::Size;
 

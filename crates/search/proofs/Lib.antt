@@ -1,4 +1,2 @@
--- Lists by key, keys, breadth-first search.
-pub mod Keying
-pub mod Listing
+-- Breadth-first search.
 pub mod Widening

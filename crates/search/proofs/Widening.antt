@@ -16,11 +16,11 @@ use Rattle.basics.proofs.Basics.{Compared, same, other, compared, within-low, w
 use Rattle.basics.proofs.Counting.{bit-le, total-most, total-but-one}
 use Rattle.size.specs.Sizes.{Limits, BenchIn}
 use Rattle.size.specs.declared.Size.{Size}
-use Rattle.search.specs.Arrays.{at, Arcs, Leads, Reached, here, step}
-use Rattle.search.specs.Keys.{QueuedIn}
-use Rattle.search.specs.Lists.{On, head, Joins, Ways, ListedBy}
+use Rattle.arrays.specs.Arrays.{at, Arcs, Leads, Reached, here, step}
+use Rattle.arrays.specs.Keys.{QueuedIn}
+use Rattle.arrays.specs.Lists.{On, head, Joins, Ways, ListedBy}
 use Rattle.search.specs.Spread.{Queued, FoundOne, Widened, Stays, Spread, Distances}
-use Rattle.search.proofs.Listing.{array-at, array-long, on-some, on-next, Rises, on-above, on-most, on-split, left, left-less, joins-leads}
+use Rattle.arrays.proofs.Listing.{array-at, array-long, on-some, on-next, Rises, on-above, on-most, on-split, left, left-less, joins-leads}
 
 -- the count of found benches
 

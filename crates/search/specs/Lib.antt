@@ -1,5 +1,2 @@
--- What the searches promise.
-pub mod Arrays
-pub mod Keys
-pub mod Lists
+-- What the search promises.
 pub mod Spread

@@ -9,7 +9,7 @@ use Rattle.basics.specs.Lists.{bit, within, total}
 use Rattle.layout.specs.Table.{mostBenches}
 use Rattle.size.specs.Sizes.{BenchIn}
 use Rattle.size.specs.declared.Size.{Size}
-use Rattle.search.specs.Arrays.{at, Leads}
+use Rattle.arrays.specs.Arrays.{at, Leads}
 
 -- `found` benches have a number in `dist`; no number is more than they are
 pub record Queued (found : ℕ) (queue dist : List ℕ) : Type 0 where

@@ -1,5 +1,159 @@
-// Searches over arcs, in arrays of fixed length: which benches are reached and how far they are. Nothing here knows a table.
-pub mod keys;
-pub mod lists;
-pub mod scratch;
-pub mod spread;
+// Breadth-first search. What is found stands in a queue, in the order of finding; each found bench has a number in `dist`, which is
+// one more than its distance, and 0 means "not found". What earlier searches found stays, and is not searched again.
+ghost use Prim.Native.Nat.{suc, _≤_, _+_};
+ghost use mathlib.Core.Path.{_≡_};
+ghost use lib.Dec.{T};
+ghost use lib.ListN.{replicate};
+ghost use Rattle.basics.specs.Lists.{within};
+ghost use Rattle.layout.specs.Table.{mostBenches};
+ghost use Rattle.size.specs.Sizes.{Limits, BenchIn};
+ghost use Rattle.arrays.specs.Arrays.{at, Arcs};
+ghost use Rattle.arrays.specs.Keys.{Wanted};
+ghost use Rattle.arrays.specs.Lists.{ListedBy, Ways, Joins};
+ghost use Rattle.search.specs.Spread.{Queued, FoundOne, Widened, Stays, Spread, Distances};
+use arrays::keys;
+use arrays::lists;
+use arrays::scratch;
+use size::Size;
+
+// Bench y with number k at the end of the queue, unless it was found before; how many are found then.
+fn find(
+    y: usize,
+    k: u16,
+    found: usize,
+    queue: &mut [u16; Size::MOST_BENCHES + 1],
+    dist: &mut [u16; Size::MOST_BENCHES + 1],
+) -> usize
+    requires { ⌜ y ≤ mostBenches ⌝ }
+    requires { ⌜ found ≤ mostBenches ⌝ }
+    ensures { λ r. ⌜ FoundOne y k found (now (queue .entry)) (now (dist .entry)) r (now (queue .exit)) (now (dist .exit)) ⌝ }
+{
+    if dist[y] != 0 {
+        return found;
+    }
+    dist[y] = k;
+    queue[found] = y as u16;
+    found + 1
+}
+
+// Every bench that an arc from x leads to is found, at latest one farther than x.
+fn expand(
+    first: &[u16; Size::MOST_BENCHES + 1],
+    next: &[u16; Size::MOST_JOBS + 1],
+    to: &[u16; Size::MOST_JOBS + 1],
+    x: usize,
+    found: usize,
+    queue: &mut [u16; Size::MOST_BENCHES + 1],
+    dist: &mut [u16; Size::MOST_BENCHES + 1],
+) -> usize
+    requires { ⌜ Ways (now first) (now next) (now to) ⌝ }
+    requires { ⌜ T (within 1 mostBenches x) ⌝ }
+    requires { ⌜ Queued found (now queue) (now dist) ⌝ }
+    ensures { λ r. ⌜ Widened (Joins (now (first .entry)) (now (next .entry)) (now (to .entry)) x) (suc (at (now (dist .entry)) x)) found (now (queue .entry)) (now (dist .entry)) r (now (queue .exit)) (now (dist .exit)) ⌝ }
+{
+    let k = dist[x] + 1;
+    let mut found = found;
+    let mut a = first[x] as usize;
+    while a != 0 {
+        found = find(to[a] as usize, k, found, queue, dist);
+        a = next[a] as usize;
+    }
+    found
+}
+
+// Every bench that v reaches, other than through benches found before, is found, up to those as near as the nearest wanted one: one with a key
+// of at most `limit`. How many are found then. Where all benches are found, the rest of the queue has nothing to add.
+pub fn spread(
+    first: &[u16; Size::MOST_BENCHES + 1],
+    next: &[u16; Size::MOST_JOBS + 1],
+    to: &[u16; Size::MOST_JOBS + 1],
+    benches: usize,
+    key: &[u16; Size::MOST_BENCHES + 1],
+    limit: u16,
+    v: usize,
+    found: usize,
+    queue: &mut [u16; Size::MOST_BENCHES + 1],
+    dist: &mut [u16; Size::MOST_BENCHES + 1],
+) -> usize
+    requires { ⌜ Ways (now first) (now next) (now to) ⌝ }
+    requires { ⌜ T (within 1 benches v) ⌝ }
+    requires { ⌜ Queued found (now queue) (now dist) ⌝ }
+    requires { ⌜ Stays benches (Joins (now first) (now next) (now to)) (now dist) ⌝ }
+    ensures { λ r. ⌜ Spread (Joins (now (first .entry)) (now (next .entry)) (now (to .entry))) (Wanted (now (key .entry)) limit) v found (now (dist .entry)) r (now (queue .exit)) (now (dist .exit)) ⌝ }
+{
+    let mut end = find(v, 1, found, queue, dist);
+    let mut done = found;
+    // The number of the nearest wanted bench other than v; while none is found, one that no bench has.
+    let mut stop = Size::MOST_BENCHES as u16 + 1;
+    while done < end && end < benches {
+        let x = queue[done] as usize;
+        let number = dist[x];
+        if stop <= number {
+            return end;
+        }
+        let more = expand(first, next, to, x, end, queue, dist);
+        if keys::wanted_among(queue, end, more, key, limit) {
+            stop = number + 1;
+        }
+        end = more;
+        done += 1;
+    }
+    end
+}
+
+// The distances from v along arcs, each and one, up to the nearest wanted bench: one with a key of at most `limit`; 0 where v does not reach,
+// or beyond. The lists are those of the arcs by the bench that they leave; of `from`, what they leave, only the contract speaks.
+pub fn distances_along(
+    s: Size,
+    from: &[u16; Size::MOST_JOBS + 1],
+    to: &[u16; Size::MOST_JOBS + 1],
+    first: &[u16; Size::MOST_BENCHES + 1],
+    next: &[u16; Size::MOST_JOBS + 1],
+    key: &[u16; Size::MOST_BENCHES + 1],
+    limit: u16,
+    v: usize,
+    dist: &mut [u16; Size::MOST_BENCHES + 1],
+)
+    requires { ⌜ Limits s ⌝ }
+    requires { ⌜ Arcs s (now from) (now to) ⌝ }
+    requires { ⌜ ListedBy (mostBenches + 1) (s .jobs) (now from) (now first) (now next) ⌝ }
+    requires { ⌜ BenchIn s v ⌝ }
+    requires { ⌜ now dist ≡ replicate (mostBenches + 1) 0 ⌝ }
+    ensures { λ _. ⌜ Distances s (now (from .entry)) (now (to .entry)) (Wanted (now (key .entry)) limit) v (now (dist .exit)) ⌝ }
+{
+    let mut queue = scratch::benches();
+    spread(
+        first,
+        next,
+        to,
+        s.benches(),
+        key,
+        limit,
+        v,
+        0,
+        &mut queue,
+        dist,
+    );
+}
+
+// The same, with the lists made first. With `from` and `to` exchanged, the distances to v.
+pub fn distances(
+    s: Size,
+    from: &[u16; Size::MOST_JOBS + 1],
+    to: &[u16; Size::MOST_JOBS + 1],
+    key: &[u16; Size::MOST_BENCHES + 1],
+    limit: u16,
+    v: usize,
+    dist: &mut [u16; Size::MOST_BENCHES + 1],
+)
+    requires { ⌜ Limits s ⌝ }
+    requires { ⌜ Arcs s (now from) (now to) ⌝ }
+    requires { ⌜ BenchIn s v ⌝ }
+    requires { ⌜ now dist ≡ replicate (mostBenches + 1) 0 ⌝ }
+    ensures { λ _. ⌜ Distances s (now (from .entry)) (now (to .entry)) (Wanted (now (key .entry)) limit) v (now (dist .exit)) ⌝ }
+{
+    let mut first = scratch::benches();
+    let mut next = scratch::jobs();
+    lists::list_by(s.jobs(), from, &mut first, &mut next);
+    distances_along(s, from, to, &first, &next, key, limit, v, dist);
+}

@@ -11,10 +11,8 @@ ghost use Rattle.store.specs.View.{Kept};
 ghost use Rattle.paths.specs.Turns.{lastOf, startOf, Turned};
 ghost use Rattle.sharing.specs.Changes.{ArrivalOf, ClosingOf};
 use crate::counts;
-use paths::arcs;
-use paths::turns;
+use arrays::scratch;
 use paths::turns::Turn;
-use search::scratch;
 use size::Size;
 use store::jobs;
 use store::loads;
@@ -51,7 +49,7 @@ fn improve_from(t: &mut [u8], s: Size, x: usize) -> Turn
     arcs::fill(t, s, &mut from, &mut to);
     let mut load = scratch::benches();
     loads::loads(t, s, &mut load);
-    turns::turn_from(t, s, &from, &to, &load, x)
+    paths_from::turn_from(t, s, &from, &to, &load, x)
 }
 
 // Of the improving paths to x the closing's is turned.
@@ -65,7 +63,7 @@ fn improve_to(t: &mut [u8], s: Size, x: usize) -> Turn
     arcs::fill(t, s, &mut from, &mut to);
     let mut load = scratch::benches();
     loads::loads(t, s, &mut load);
-    turns::turn_to(t, s, &from, &to, &load, x)
+    paths_to::turn_to(t, s, &from, &to, &load, x)
 }
 
 // Arrival of job j for two benches.

@@ -12,13 +12,13 @@ use Rattle.layout.specs.Table.{mostBenches, mostJobs}
 use Rattle.basics.proofs.Basics.{within-low, within-high, within-both}
 use Rattle.size.specs.Sizes.{Limits, BenchIn}
 use Rattle.size.specs.declared.Size.{Size}
-use Rattle.search.specs.Arrays.{at, Leads, Reached, here, step, Arcs, LoadsIn}
-use Rattle.search.specs.Keys.{KeysIn, LeastKey, Reversed, Wanted, QueuedIn, WantedIn}
-use Rattle.search.specs.Lists.{LeastFrom, ListedBy, Joins, Ways}
+use Rattle.arrays.specs.Arrays.{at, Leads, Reached, here, step, Arcs, LoadsIn}
+use Rattle.arrays.specs.Keys.{KeysIn, LeastKey, Reversed, Wanted, QueuedIn, WantedIn}
+use Rattle.arrays.specs.Lists.{LeastFrom, ListedBy, Joins, Ways}
 use Rattle.search.specs.Spread.{Spread}
 use Rattle.start.specs.Start.{Between, AsHeavy, StartsLow, FirstStart, StartOf, Searching, Searched}
 use Rattle.start.specs.declared.Range.{Range}
-use Rattle.search.proofs.Listing.{array-at, least-some, listed-ways, joins-leads}
+use Rattle.arrays.proofs.Listing.{array-at, least-some, listed-ways, joins-leads}
 use Rattle.search.proofs.Widening.{reached-same, queued-few, none-queued, none-stays, spread-stays}
 
 -- the least and the greatest load

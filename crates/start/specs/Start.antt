@@ -6,8 +6,8 @@ use mathlib.Core.List.{List}
 use lib.Dec.{T}
 use Rattle.basics.specs.Lists.{within}
 use Rattle.layout.specs.Table.{mostBenches, mostJobs}
-use Rattle.search.specs.Arrays.{at, Reached}
-use Rattle.search.specs.Lists.{LeastFrom}
+use Rattle.arrays.specs.Arrays.{at, Reached}
+use Rattle.arrays.specs.Lists.{LeastFrom}
 use Rattle.search.specs.Spread.{Queued, Stays}
 use Rattle.size.specs.Sizes.{BenchIn}
 use Rattle.size.specs.declared.Size.{Size}

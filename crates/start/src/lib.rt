@@ -1,13 +1,12 @@
 // The first bench of the path that levelling turns: of the benches that start an improving path the one with the greatest load, then the
 // lowest. Loads go down and numbers up; what a bench reached need not be searched again from a lighter one.
 ghost use Rattle.size.specs.Sizes.{Limits};
-ghost use Rattle.search.specs.Arrays.{Leads, Arcs, LoadsIn};
-ghost use Rattle.search.specs.Lists.{Ways, Joins};
+ghost use Rattle.arrays.specs.Arrays.{Leads, Arcs, LoadsIn};
+ghost use Rattle.arrays.specs.Lists.{Ways, Joins};
 ghost use Rattle.start.specs.Start.{Between, AsHeavy, Searching, Searched, StartOf};
-use search::keys;
-use search::lists;
-use search::scratch;
-use search::spread;
+use arrays::keys;
+use arrays::lists;
+use arrays::scratch;
 use size::Size;
 
 // The least and the greatest load.
@@ -58,7 +57,7 @@ fn start_among(
     let mut x = x;
     while x != 0 {
         let limit = (load - 2) as u16;
-        let end = spread::spread(
+        let end = search::spread(
             first,
             next,
             to,

@@ -27,13 +27,13 @@ use Rattle.size.specs.declared.Size.{Size}
 use Rattle.words.proofs.Bytes.{length-setWord}
 use Rattle.size.proofs.Sizes.{board-bench}
 use Rattle.store.specs.View.{Kept, Loaded}
-use Rattle.search.specs.Arrays.{at, Leads, LoadsIn}
-use Rattle.search.specs.Keys.{LeastKey}
-use Rattle.search.specs.Lists.{ListedBy, Joins}
-use Rattle.search.proofs.Listing.{array-at, joins-leads}
+use Rattle.arrays.specs.Arrays.{at, Leads, LoadsIn}
+use Rattle.arrays.specs.Keys.{LeastKey}
+use Rattle.arrays.specs.Lists.{ListedBy, Joins}
+use Rattle.arrays.proofs.Listing.{array-at, joins-leads}
 use Rattle.search.proofs.Widening.{reached-same}
-use Rattle.paths.specs.Arcs.{ArcsOf}
-use Rattle.paths.proofs.AsArcs.{on-board, load-at, arcs-forth, step-arc, arcs-reach}
+use Rattle.arcs.specs.Arcs.{ArcsOf}
+use Rattle.arcs.proofs.AsArcs.{on-board, load-at, arcs-forth, step-arc, arcs-reach}
 use Rattle.tight.specs.Marks.{mark, Marks, Brings, AllMarked, marked, Measured, TightSet}
 use Rattle.tight.specs.declared.set.Extent.{Extent}
 use Rattle.tight.proofs.Visiting.{marks-set}

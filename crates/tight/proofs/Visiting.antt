@@ -15,9 +15,9 @@ use Rattle.basics.proofs.Basics.{true→T, T→true, false→not, within-low, w
 use Rattle.basics.proofs.Counting.{total-le, total-but-one}
 use Rattle.size.specs.Sizes.{BenchIn}
 use Rattle.size.specs.declared.Size.{Size}
-use Rattle.search.specs.Arrays.{at, Reached, here, step}
-use Rattle.search.specs.Lists.{On, head, tail, Joins, Ways}
-use Rattle.search.proofs.Listing.{on-some, on-next, on-most, left, left-less}
+use Rattle.arrays.specs.Arrays.{at, Reached, here, step}
+use Rattle.arrays.specs.Lists.{On, head, tail, Joins, Ways}
+use Rattle.arrays.proofs.Listing.{on-some, on-next, on-most, left, left-less}
 use Rattle.tight.specs.Marks.{mark, Marks, OnChain, FromList, Brings}
 
 -- chains

@@ -12,8 +12,8 @@ use Rattle.rules.specs.Sharing.{tightSet, inside}
 use Rattle.layout.specs.Table.{mostBenches}
 use Rattle.size.specs.Sizes.{BenchIn}
 use Rattle.size.specs.declared.Size.{Size}
-use Rattle.search.specs.Arrays.{at, Reached}
-use Rattle.search.specs.Lists.{On}
+use Rattle.arrays.specs.Arrays.{at, Reached}
+use Rattle.arrays.specs.Lists.{On}
 use Rattle.tight.specs.declared.set.Extent.{Extent}
 
 -- whether bench y is marked

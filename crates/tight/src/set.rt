@@ -8,13 +8,12 @@ ghost use Rattle.layout.specs.Table.{mostBenches, decode, bytesOf};
 ghost use Rattle.rules.specs.Sharing.{tightSet};
 ghost use Rattle.size.specs.Sizes.{Limits};
 ghost use Rattle.store.specs.View.{Kept, Loaded};
-ghost use Rattle.search.specs.Arrays.{LoadsIn};
+ghost use Rattle.arrays.specs.Arrays.{LoadsIn};
 ghost use Rattle.tight.specs.Marks.{Marks, AllMarked, marked, Measured, TightSet};
 use crate::visits;
-use paths::arcs;
-use search::keys;
-use search::lists;
-use search::scratch;
+use arrays::keys;
+use arrays::lists;
+use arrays::scratch;
 use size::Size;
 use store::loads;
 

@@ -6,8 +6,8 @@ ghost use lib.Dec.{T};
 ghost use Rattle.basics.specs.Lists.{within};
 ghost use Rattle.layout.specs.Table.{mostBenches};
 ghost use Rattle.size.specs.Sizes.{Limits, BenchIn};
-ghost use Rattle.search.specs.Arrays.{at, LoadsIn};
-ghost use Rattle.search.specs.Lists.{Ways, Joins};
+ghost use Rattle.arrays.specs.Arrays.{at, LoadsIn};
+ghost use Rattle.arrays.specs.Lists.{Ways, Joins};
 ghost use Rattle.tight.specs.Marks.{Marks, OnChain, FromList, Brings};
 use size::Size;
 

@@ -1,6 +1,6 @@
 -- Whether there is no next path.
 use borrow.Author.Needs.{needs}
-use Rattle.search.proofs.Listing.{array-long}
+use Rattle.arrays.proofs.Listing.{array-long}
 use Rattle.levels.proofs.Turning.{zero-level}
 use Rattle.levels.proofs.is_level.Statement.{statement}
 use Rattle.levels.proofs.is_level.Tie as tie

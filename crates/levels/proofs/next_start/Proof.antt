@@ -1,6 +1,6 @@
 -- Where loads are even the board is level; else the search for a first bench tells.
 use native.Mathlib.Omega.{arith}
-use Rattle.paths.proofs.AsArcs.{loads-in, arcs-forth}
+use Rattle.arcs.proofs.AsArcs.{loads-in, arcs-forth}
 use Rattle.levels.proofs.Turning.{low-most, next-even, next-found}
 use Rattle.levels.proofs.next_start.Statement.{statement}
 use Rattle.levels.proofs.next_start.Tie as tie

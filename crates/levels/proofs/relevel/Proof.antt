@@ -6,7 +6,7 @@ use mathlib.Core.Logic.{⊎-elim}
 use borrow.Author.Needs.{needs}
 use borrow.Author.Tests.{ltb-true, ltb-false}
 use Rattle.store.proofs.Boards.{sound-kept}
-use Rattle.search.proofs.Listing.{array-long}
+use Rattle.arrays.proofs.Listing.{array-long}
 use Rattle.levels.proofs.Turning.{Turning, turning-start, turning-ready, turning-turn, turning-end}
 use Rattle.levels.proofs.relevel.Statement.{statement}
 use Rattle.levels.proofs.relevel.Tie as tie

@@ -6,8 +6,8 @@ use mir.Syntax.{w64}
 use mir.Val.{Fits}
 use borrow.Author.Needs.{needs}
 use Rattle.layout.specs.Table.{mostBenches, mostJobs}
-use Rattle.search.specs.Lists.{ListedBy}
-use Rattle.search.proofs.Listing.{listable-arcs, listable-loads, listed-below}
+use Rattle.arrays.specs.Lists.{ListedBy}
+use Rattle.arrays.proofs.Listing.{listable-arcs, listable-loads, listed-below}
 use Rattle.start.proofs.Starting.{Falling, falling-start, falling-some, falling-none, falling-turn, falling-heavy, least-most, load-less, low-few}
 use Rattle.start.proofs.first_start.Statement.{statement}
 use Rattle.start.proofs.first_start.Tie as tie

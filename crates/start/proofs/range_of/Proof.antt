@@ -1,5 +1,5 @@
 use borrow.Author.Needs.{needs}
-use Rattle.search.proofs.Listing.{array-long}
+use Rattle.arrays.proofs.Listing.{array-long}
 use Rattle.start.proofs.Starting.{loads-keys, other-few, least-between}
 use Rattle.start.proofs.range_of.Statement.{statement}
 use Rattle.start.proofs.range_of.Tie as tie

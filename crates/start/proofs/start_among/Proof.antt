@@ -8,8 +8,8 @@ use lib.ListN.{getD}
 use Rattle.basics.specs.Lists.{within}
 use Rattle.layout.specs.Table.{mostBenches}
 use Rattle.basics.proofs.Basics.{within-low, within-high, within-both}
-use Rattle.search.specs.Lists.{LeastFrom, Joins}
-use Rattle.search.proofs.Listing.{least-some, left, left-less}
+use Rattle.arrays.specs.Lists.{LeastFrom, Joins}
+use Rattle.arrays.proofs.Listing.{least-some, left, left-less}
 use Rattle.start.proofs.Starting.{Among, among-start, among-few, among-first, among-turn, among-end, searched-first, spread-queued, least-most}
 use Rattle.start.proofs.start_among.Statement.{statement}
 use Rattle.start.proofs.start_among.Tie as tie

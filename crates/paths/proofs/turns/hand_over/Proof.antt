@@ -6,7 +6,7 @@ use mathlib.Core.Path.{sym, _∙_}
 use lib.ListN.{length}
 use borrow.Author.Needs.{needs}
 use Rattle.layout.specs.Table.{decode}
-use Rattle.search.specs.Arrays.{at}
+use Rattle.arrays.specs.Arrays.{at}
 use Rattle.paths.proofs.Handing.{Handing, Next, handing-start, handing-next, handing-turn, handing-end}
 use Rattle.paths.proofs.turns.hand_over.Statement.{statement}
 use Rattle.paths.proofs.turns.hand_over.Tie as tie

@@ -2,8 +2,8 @@
 use lib.ListN.{take}
 use borrow.Author.Needs.{needs}
 use Rattle.layout.specs.Table.{decode}
-use Rattle.search.proofs.Listing.{array-long}
-use Rattle.paths.proofs.AsArcs.{arcs-forth}
+use Rattle.arrays.proofs.Listing.{array-long}
+use Rattle.arcs.proofs.AsArcs.{arcs-forth}
 use Rattle.paths.proofs.Chosen.{follows-handable, routed-along}
 use Rattle.paths.proofs.turns.turn_along.Statement.{statement}
 use Rattle.paths.proofs.turns.turn_along.Tie as tie

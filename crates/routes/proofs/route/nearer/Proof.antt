@@ -5,9 +5,9 @@ use mathlib.Core.Path.{_≡_}
 use borrow.Author.Needs.{needs}
 use Rattle.layout.specs.Table.{mostBenches, mostJobs}
 use Rattle.basics.proofs.Basics.{within-high}
-use Rattle.search.specs.Arrays.{at}
-use Rattle.search.specs.Lists.{head}
-use Rattle.search.proofs.Listing.{left, left-less}
+use Rattle.arrays.specs.Arrays.{at}
+use Rattle.arrays.specs.Lists.{head}
+use Rattle.arrays.proofs.Listing.{left, left-less}
 use Rattle.routes.proofs.Routing.{Seeking, seeking-start, seeking-rises, seeking-turn, seeking-found, seeking-none}
 use Rattle.routes.proofs.route.nearer.Statement.{statement}
 use Rattle.routes.proofs.route.nearer.Tie as tie

@@ -7,8 +7,8 @@ use Rattle.basics.specs.Lists.{within}
 use Rattle.layout.specs.Table.{mostBenches, mostJobs}
 use Rattle.basics.proofs.Basics.{within-high}
 use Rattle.size.specs.declared.Size.{Size}
-use Rattle.search.specs.Arrays.{at}
-use Rattle.search.proofs.Listing.{listed-ways}
+use Rattle.arrays.specs.Arrays.{at}
+use Rattle.arrays.proofs.Listing.{listed-ways}
 use Rattle.routes.proofs.Routing.{Nearest, Fallen, nearest, Routing, routing-start, routing-bench, routing-room, routing-turn, routing-end}
 use Rattle.routes.proofs.route.route.Statement.{statement}
 use Rattle.routes.proofs.route.route.Tie as tie

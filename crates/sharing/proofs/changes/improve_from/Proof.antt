@@ -1,6 +1,6 @@
 -- The arcs are the board's, the loads its benches', and the path is turned along them: the board stays as it was until then.
 use borrow.Author.Needs.{needs}
-use Rattle.search.proofs.Listing.{array-long}
+use Rattle.arrays.proofs.Listing.{array-long}
 use Rattle.sharing.proofs.changes.improve_from.Statement.{statement}
 use Rattle.sharing.proofs.changes.improve_from.Tie as tie
 

@@ -3,10 +3,10 @@ use Prim.Native.Nat.{_+_}
 use mathlib.Core.Bool.{false}
 use borrow.Author.Needs.{needs}
 use Rattle.layout.specs.Table.{mostBenches}
-use Rattle.search.specs.Arrays.{Arcs}
-use Rattle.search.specs.Lists.{ListedBy}
-use Rattle.search.proofs.Listing.{array-long, listable-arcs, listed-below, listed-ways}
-use Rattle.paths.proofs.AsArcs.{loads-in, arcs-forth}
+use Rattle.arrays.specs.Arrays.{Arcs}
+use Rattle.arrays.specs.Lists.{ListedBy}
+use Rattle.arrays.proofs.Listing.{array-long, listable-arcs, listed-below, listed-ways}
+use Rattle.arcs.proofs.AsArcs.{loads-in, arcs-forth}
 use Rattle.tight.proofs.AsSet.{found-tight}
 use Rattle.tight.proofs.set.mark_brought.Statement.{statement}
 use Rattle.tight.proofs.set.mark_brought.Tie as tie

@@ -7,7 +7,7 @@ use mathlib.Core.Logic.{⊎-elim}
 use borrow.Author.Needs.{needs}
 use Rattle.basics.specs.Lists.{bit}
 use Rattle.layout.specs.Table.{mostJobs}
-use Rattle.search.specs.Arrays.{at}
+use Rattle.arrays.specs.Arrays.{at}
 use Rattle.tight.specs.Marks.{mark}
 use Rattle.tight.proofs.AsSet.{kept-few, Measuring, markedLoad, measure-start, measure-turn, measure-room, measure-end}
 use Rattle.tight.proofs.set.measure.Statement.{statement}

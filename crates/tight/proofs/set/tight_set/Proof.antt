@@ -5,8 +5,8 @@ use mathlib.Core.Bool.{false}
 use borrow.Author.Needs.{needs}
 use Rattle.layout.specs.Table.{decode}
 use Rattle.rules.specs.Sharing.{tightSet}
-use Rattle.search.proofs.Listing.{array-long}
-use Rattle.paths.proofs.AsArcs.{loads-in}
+use Rattle.arrays.proofs.Listing.{array-long}
+use Rattle.arcs.proofs.AsArcs.{loads-in}
 use Rattle.tight.specs.Marks.{marked}
 use Rattle.tight.proofs.AsSet.{all-tight, measured-tight}
 use Rattle.tight.proofs.set.tight_set.Statement.{statement}

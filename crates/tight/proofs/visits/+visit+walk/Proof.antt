@@ -6,7 +6,7 @@ use borrow.Fn.Kinds.{In}
 use borrow.Fn.PlainCycle.{Measures, is, falls, and}
 use Rattle.layout.specs.Table.{mostBenches, mostJobs}
 use Rattle.basics.proofs.Basics.{within-high}
-use Rattle.search.specs.Arrays.{at}
+use Rattle.arrays.specs.Arrays.{at}
 use Rattle.tight.proofs.Visiting.{falling, falls-marked, falls-visit, falls-walk, chain-first, chain-most, chain-leads, chain-next, marks-set, brings-marked, brings-chain, brings-end, brings-job}
 use Rattle.tight.proofs.visits.visit.Reads as visit
 use Rattle.tight.proofs.visits.visit.Kinds as visit-kinds

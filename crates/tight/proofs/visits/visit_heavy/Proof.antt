@@ -6,7 +6,7 @@ use mathlib.Core.Logic.{⊎-elim}
 use borrow.Author.Needs.{needs}
 use Rattle.layout.specs.Table.{mostBenches}
 use Rattle.basics.proofs.Basics.{within-both}
-use Rattle.search.specs.Lists.{Joins}
+use Rattle.arrays.specs.Lists.{Joins}
 use Rattle.tight.proofs.Visiting.{Heavy, heavy-start, heavy-visit, heavy-pass, heavy-end}
 use Rattle.tight.proofs.visits.visit_heavy.Statement.{statement}
 use Rattle.tight.proofs.visits.visit_heavy.Tie as tie

@@ -1,0 +1,2 @@
+-- Arcs are steps, numbers are distances.
+pub mod AsArcs

@@ -1,0 +1,33 @@
+-- A board's jobs as arcs.
+use Prim.Native.Nat.{ℕ, _+_, _≤_}
+use mathlib.Core.Path.{_≡_}
+use mathlib.Core.Bool.{cond}
+use mathlib.Core.List.{List, [], _∷_}
+use lib.Dec.{T, eqb}
+use lib.ListN.{length}
+use Rattle.basics.specs.Lists.{within}
+use Rattle.layout.specs.Board.{Board, namesOf, holderOf}
+use Rattle.layout.specs.Table.{mostJobs}
+use Rattle.size.specs.declared.Size.{Size}
+use Rattle.arrays.specs.Arrays.{at}
+
+-- the first-named bench other than h, 0 where there is none
+abbrev pub otherThan : ℕ → List ℕ → ℕ
+otherThan h [] = 0
+otherThan h (x ∷ names) = let r = otherThan h names in cond (eqb x h) r x
+
+-- the bench that job j leads to from the one that holds it, 0 where it does not stand
+abbrev pub otherOf : Board → ℕ → ℕ
+otherOf b j = otherThan (holderOf b j) (namesOf b j)
+
+-- y is that bench
+pub record OtherOf (b : Board) (s : Size) (j y : ℕ) : Type 0 where
+  pub value : y ≡ otherOf b j
+  pub most : y ≤ s .benches
+
+-- arc j is job j
+pub record ArcsOf (b : Board) (s : Size) (from to : List ℕ) : Type 0 where
+  pub holders : (j : ℕ) → T (within 1 (s .jobs) j) → at from j ≡ holderOf b j
+  pub others : (j : ℕ) → T (within 1 (s .jobs) j) → at to j ≡ otherOf b j
+  pub from-long : length from ≡ mostJobs + 1
+  pub to-long : length to ≡ mostJobs + 1

@@ -1,0 +1,2 @@
+-- Arcs.
+pub mod Arcs

@@ -1,0 +1,3 @@
+-- Lists by key, keys of benches.
+pub mod Listing
+pub mod Keying

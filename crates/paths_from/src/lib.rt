@@ -1,0 +1,51 @@
+// The arrival's path, which levelling turns too.
+ghost use Prim.Native.Nat.{_+_};
+ghost use Rattle.rules.specs.Sharing.{arrivalChoice};
+ghost use Rattle.layout.specs.Table.{decode};
+ghost use Rattle.size.specs.Sizes.{BenchIn};
+ghost use Rattle.store.specs.View.{Kept, Loaded};
+ghost use Rattle.arcs.specs.Arcs.{ArcsOf};
+ghost use Rattle.paths.specs.Turns.{lastOf, Turned};
+use arrays::keys;
+use arrays::lists;
+use arrays::scratch;
+use paths::turns;
+use paths::turns::Turn;
+use routes::ends;
+use size::Size;
+
+// Of the improving paths from x the one that the arrival's order names is turned: its last bench and its jobs; x and 0 where there is none.
+// No bench has a lower load than the lightest: a search need go no farther than the nearest of those.
+pub fn turn_from(
+    t: &mut [u8],
+    s: Size,
+    from: &[u16; Size::MOST_JOBS + 1],
+    to: &[u16; Size::MOST_JOBS + 1],
+    loads: &[u16; Size::MOST_BENCHES + 1],
+    x: usize,
+) -> Turn
+    requires { ⌜ Kept (now t) s ⌝ }
+    requires { ⌜ ArcsOf (decode (now t)) s (now from) (now to) ⌝ }
+    requires { ⌜ Loaded (decode (now t)) (now loads) ⌝ }
+    requires { ⌜ BenchIn s x ⌝ }
+    ensures { λ r. ⌜ Turned (now (t .entry)) (now (t .exit)) s (arrivalChoice (decode (now (t .entry))) x) (lastOf x (arrivalChoice (decode (now (t .entry))) x)) r ⌝ }
+{
+    let low = keys::least(s, loads);
+    if loads[x] < low + 2 {
+        return Turn { bench: x, jobs: 0 };
+    }
+    let mut first = scratch::benches();
+    let mut next = scratch::jobs();
+    lists::list_by(s.jobs(), from, &mut first, &mut next);
+    let mut away = scratch::benches();
+    search::distances_along(s, from, to, &first, &next, loads, low, x, &mut away);
+    let y = ends::choose(s, loads, &away, x);
+    if y == 0 {
+        return Turn { bench: x, jobs: 0 };
+    }
+    let mut near = scratch::benches();
+    let goal = scratch::all_but(x);
+    search::distances(s, to, from, &goal, 0, y, &mut near);
+    let jobs = turns::turn_along(t, s, from, to, &first, &next, &near, x);
+    Turn { bench: y, jobs }
+}
