@@ -21,6 +21,7 @@ pub fn blank(t: &mut [u8], benches: usize, jobs: usize) -> Answer
     }
 }
 
+// An arrival on a sound table: refusals 3, 4 and 5 in this order, else the job arrives.
 fn arrival_on(t: &mut [u8], s: Size, job: usize, first: usize, second: usize) -> Answer
     requires { ⌜ SoundTable (now t) s ⌝ }
     ensures { λ r. ⌜ Leaves (outcome (arrival job first second) (now (t .entry))) r (now (t .exit)) [] ⌝ }
@@ -49,6 +50,7 @@ pub fn arrival(t: &mut [u8], job: usize, first: usize, second: usize) -> Answer
     }
 }
 
+// A closing on a sound table: refusals 3 and 6 in this order, else the job closes.
 fn closing_on(t: &mut [u8], s: Size, job: usize) -> Answer
     requires { ⌜ SoundTable (now t) s ⌝ }
     ensures { λ r. ⌜ Leaves (outcome (closing job) (now (t .entry))) r (now (t .exit)) [] ⌝ }

@@ -1,4 +1,4 @@
-// The path that the rule names is found and turned. A change of holders leaves the chains as they were: see chains::settle.
+// A path that was found is turned. A change of holders leaves the chains as they were: see chains::settle.
 ghost use Prim.Native.Nat.{_+_, _≤_};
 ghost use mathlib.Core.Path.{_≡_};
 ghost use lib.ListN.{length, take};
@@ -14,7 +14,7 @@ use routes::route;
 use size::Size;
 use store::jobs;
 
-// What turning a path did: the bench whose load changed beside the one that was asked for, or this one, and the jobs handed over.
+// What turning a path did: the path's other end, and how many jobs were handed over; where there is no path, the bench asked for, and 0.
 pub struct Turn {
     pub bench: usize,
     pub jobs: usize,

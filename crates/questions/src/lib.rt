@@ -66,6 +66,7 @@ pub fn heaviest(t: &[u8]) -> Answer
     }
 }
 
+// The tight set on a sound table: refusals 7 and 8 in this order, else its benches are listed.
 fn tight_set_on(t: &[u8], s: Size, height: usize, list: &mut [u8]) -> Answer
     requires { ⌜ SoundTable (now t) s ⌝ }
     ensures { λ r. ⌜ Leaves (outcome (tightSetOf height (now (list .entry))) (now (t .entry))) r (now (t .entry)) (now (list .exit)) ⌝ }
