@@ -245,14 +245,19 @@ cut-line (c ∷ l) = let r = cut-line l in go (r .0) (r .1) (r .2) (r .3) (compa
     go f fs p e (same d) = ([], f ∷ fs, ap (λ (r : List (List ℕ)). [] ∷ r) p, ap₂ (λ (b : ℕ) (k : List ℕ). b ∷ k) d e)
     go f fs p e (other d) = (c ∷ f, fs, ap (onto c) p, ap (λ (k : List ℕ). c ∷ k) e)
 
-before-space : (f l : List ℕ) (fs : List (List ℕ)) → Each (λ c. c ≢ space) f → pieces space l ≡ [] ∷ fs → pieces space (f ++ l) ≡ f ∷ fs
-before-space [] l fs h e = e
-before-space (c ∷ f) l fs h e = rw (ne-eqb c space (h .0), before-space f l fs (h .1) e)
+-- what stands before a piece joins it
+pub before-piece : (sep : ℕ) (f l g : List ℕ) (fs : List (List ℕ)) → Each (λ c. c ≢ sep) f → pieces sep l ≡ g ∷ fs → pieces sep (f ++ l) ≡ (f ++ g) ∷ fs
+before-piece sep [] l g fs h e = e
+before-piece sep (c ∷ f) l g fs h e = rw (ne-eqb c sep (h .0), before-piece sep f l g fs (h .1) e)
+
+-- fields before a separator
+before-sep : (sep : ℕ) (f l : List ℕ) (fs : List (List ℕ)) → Each (λ c. c ≢ sep) f → pieces sep l ≡ [] ∷ fs → pieces sep (f ++ l) ≡ f ∷ fs
+before-sep sep f l fs h e = before-piece sep f l [] fs h e ∙ ap (λ (g : List ℕ). g ∷ fs) (append-nil f)
 
 -- fields without a space are found again
 spaced-again : (fs : List (List ℕ)) → Each (Each (λ c. c ≢ space)) fs → pieces space (spaced fs) ≡ [] ∷ fs
 spaced-again [] h = refl
-spaced-again (f ∷ fs) h = ap (λ (r : List (List ℕ)). [] ∷ r) (before-space f (spaced fs) fs (h .0) (spaced-again fs (h .1)))
+spaced-again (f ∷ fs) h = ap (λ (r : List (List ℕ)). [] ∷ r) (before-sep space f (spaced fs) fs (h .0) (spaced-again fs (h .1)))
 
 no-space : (l : List ℕ) → T (all digit l) → Each (λ c. c ≢ space) l
 no-space [] t = tt
@@ -381,7 +386,7 @@ command-fields line c = (forth (leb (length line) 40), λ p. ap command (p .1) �
         let ns = numbersOf c in
         let fs = fieldsOf ns in
         let without = each-map (Each (λ (c : ℕ). c ≢ space)) (λ (n : ℕ). digits n n) ns (λ n i. no-space (digits n n) ((written n n (omega arith)) .only)) in
-        let again = before-space (letterOf c ∷ []) (spaced fs) fs (letter c, tt) (spaced-again fs without) in
+        let again = before-sep space (letterOf c ∷ []) (spaced fs) fs (letter c, tt) (spaced-again fs without) in
         let short = line-short c h in
         rw (le-leb (length (letterOf c ∷ spaced fs)) 40 (omega arith), again) (rw (fieldsCommand, are-numbers ns h) (is-command c))
 

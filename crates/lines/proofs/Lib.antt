@@ -1,3 +1,4 @@
 -- What is proved of the lines.
 pub mod Counter
 pub mod CounterRun
+pub mod Stream

@@ -1,0 +1,47 @@
+-- The counter program's input as it comes in: piece by piece, cut anywhere.
+use Prim.Native.Nat.{ℕ}
+use mathlib.Core.Path.{_≡_}
+use mathlib.Core.Logic.{_≢_}
+use mathlib.Core.Bool.{cond}
+use mathlib.Core.List.{List, [], _∷_, _++_}
+use mathlib.Core.Option.{none, some}
+use Rattle.basics.specs.Lists.{Each, empty}
+use Rattle.lines.specs.Counter.{Counter, lineFeed, pieces, command, lineFor, done, after, unreadableLine, prints, atFirst}
+
+-- what is printed for a line
+unfoldable pub lineText : Counter → List ℕ → List ℕ
+lineText s line = elim (command line) [ none ↦ unreadableLine | some c ↦ lineFor c (done c (s .table)) ]
+
+-- the state after a line
+unfoldable pub lineAfter : Counter → List ℕ → Counter
+lineAfter s line = elim (command line) [ none ↦ s | some c ↦ after c s (done c (s .table)) ]
+
+-- a place in the input: the program's state, and the line as far as it was read
+pub record Place : Type 0 where
+  pub counter : Counter
+  pub line : List ℕ
+
+-- before the first byte
+abbrev pub beginning : Place
+beginning = record { counter = atFirst; line = [] }
+
+-- the line has not ended yet
+abbrev pub Unended : List ℕ → Type 0
+Unended line = Each (λ c. c ≢ lineFeed) line
+
+-- what is still printed from a place on, where `rest` is all that is still to be read
+unfoldable pub still : Place → List ℕ → List ℕ
+still p rest = prints (p .counter) (pieces lineFeed (p .line ++ rest))
+
+-- from a to b these bytes are read and this text is printed, whatever comes after them
+pub record Goes (a b : Place) (heard text : List ℕ) : Type 0 where
+  pub whole : (rest : List ℕ) → still a (heard ++ rest) ≡ text ++ still b rest
+
+-- pieces of the input read one after the other from a to b, and what is printed for each
+pub data Run (b : Place) : Place → List (List ℕ) → List (List ℕ) → Type 0 where
+  ended : Run b b [] []
+  then : {a c : Place} {heard text : List ℕ} {heards texts : List (List ℕ)} → Goes a c heard text → Run b c heards texts → Run b a (heard ∷ heards) (text ∷ texts)
+
+-- what is printed where the input ends: a line that has begun is one without a line feed
+abbrev pub atEnd : List ℕ → List ℕ
+atEnd line = cond (empty line) [] unreadableLine
