@@ -35,7 +35,8 @@ abbrev plain : List ℕ → Bool
 plain [] = false
 plain (c ∷ l) = empty l || not (eqb c (code "0"))
 
-digits-one : (k n : ℕ) → n < 10 → digits k n ≡ (code "0" + n) ∷ []
+-- a number below ten is one digit
+pub digits-one : (k n : ℕ) → n < 10 → digits k n ≡ (code "0" + n) ∷ []
 digits-one zero n h = refl
 digits-one (suc k) n h = rw (digits, lt-ltb n 10 h)
 
@@ -53,7 +54,7 @@ digits-fuel (suc k) (suc m) n h g =
     ]
 
 -- a digit more is written behind
-digits-next : (n d : ℕ) → 1 ≤ n → d < 10 → digits (10 * n + d) (10 * n + d) ≡ digits n n ++ ((code "0" + d) ∷ [])
+pub digits-next : (n d : ℕ) → 1 ≤ n → d < 10 → digits (10 * n + d) (10 * n + d) ≡ digits n n ++ ((code "0" + d) ∷ [])
 digits-next n d h g =
     let m : ℕ = 10 * n + d in
     let k : ℕ = m - 1 in
@@ -338,7 +339,8 @@ fields-are (letter ∷ []) fs c e = go (numbers fs) refl e
         let r = numbers-are fs ns q in
         (ap (λ (i : ℕ). i ∷ []) (is .0), r .1 ∙ ap fieldsOf (is .1), subst (Each (λ (n : ℕ). n < 2 ^ 16)) (is .1) (r .0))
 
-digits-short : (m k n : ℕ) → n < 10 ^ suc m → length (digits k n) ≤ suc m
+-- a number below a power of ten has at most as many digits as that power has zeros
+pub digits-short : (m k n : ℕ) → n < 10 ^ suc m → length (digits k n) ≤ suc m
 digits-short m zero n h = omega arith
 digits-short zero (suc k) n h = omega (arith, ap length (digits-one (suc k) n h))
 digits-short (suc m) (suc k) n h =
