@@ -1,0 +1,2 @@
+-- What is read of a line.
+pub mod Read
