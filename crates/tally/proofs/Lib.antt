@@ -1,0 +1,3 @@
+-- Noting an answer, and what the walks by hand share.
+pub mod Noting
+pub mod Machine

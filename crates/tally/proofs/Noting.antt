@@ -1,0 +1,111 @@
+-- Room in a count, and the tally that is handed back.
+use Prim.Native.Nat.{ℕ, _+_, _-_, _≤_}
+use native.Mathlib.Omega.{arith}
+use mathlib.Core.Path.{_≡_, refl, sym, subst, _∙_}
+use mathlib.Core.Bool.{Bool, true, false, not, _&&_, false≢true}
+use mathlib.Core.Logic.{inl, inr}
+use mathlib.Core.List.{List, [], _∷_}
+use lib.Dec.{T, leb}
+use types.Run.{OneOf}
+use denote.Enum.Declared.{tagOf}
+use Rattle.basics.specs.Lists.{member, In}
+use Rattle.basics.proofs.Basics.{tests-same, not-false, not→false, true→T, T→true, T-leb, leb-T, in-member}
+use Rattle.calls.specs.Tally.{mostCount, countsFit, raised, noted}
+use Rattle.calls.proofs.Tally.{Fits32, counts-fit, isChange, other-noted}
+use Rattle.answers.specs.Answered.{answerOf}
+use Rattle.answers.specs.declared.Answer.{Answer}
+use Rattle.answers.proofs.Answer as told
+use Rattle.answers.specs.declared.Answer.the-variants.{Refused, Blanked, Arrived, Closed, Load, Heaviest, TightSet, Sound, Level, NotLevel, Levelled, Stopped}
+use Rattle.tally.specs.Counts.{tallyOf, more, NotedAs}
+use Rattle.tally.specs.declared.Tally.{Tally}
+use Rattle.tally.specs.declared.Noted.{Noted}
+use Rattle.tally.specs.declared.Note.the-variants.{Counted, Full}
+
+-- what is left up to the most is room
+pub room-is : (n k : ℕ) → n ≤ mostCount → leb k (mostCount - n) ≡ leb (n + k) mostCount
+room-is n k h =
+    tests-same (leb k (mostCount - n)) (leb (n + k) mostCount) (
+      λ p. leb-T (n + k) mostCount (omega (arith, h, T-leb k (mostCount - n) p)),
+      λ p. leb-T k (mostCount - n) (omega (arith, h, T-leb (n + k) mostCount p)),
+    )
+
+-- the first count has no room ..
+pub first-full : (x y z r : Bool) → r ≡ x → not r ≡ true → false ≡ (x && y && z)
+first-full x y z false e h = λ i. e i && y && z
+first-full x y z true e h = absurd (false≢true h)
+
+-- .. or the second ..
+pub second-full : (x y z r s : Bool) → r ≡ x → not r ≡ false → s ≡ y → not s ≡ true → false ≡ (x && y && z)
+second-full x y z true false e h f g = λ i. e i && f i && z
+second-full x y z true true e h f g = absurd (false≢true g)
+second-full x y z false s e h f g = absurd (false≢true (sym h))
+
+-- .. or it is as the third says
+pub third-tells : (x y z r s u : Bool) → r ≡ x → not r ≡ false → s ≡ y → not s ≡ false → u ≡ z → u ≡ (x && y && z)
+third-tells x y z true true u e h f g k = λ i. e i && f i && k i
+third-tells x y z false s u e h f g k = absurd (false≢true (sym h))
+third-tells x y z true false u e h f g k = absurd (false≢true (sym g))
+
+module _ (t : Tally) (arrivals closings moved : ℕ) (fit : Bool) (e : fit ≡ countsFit (more t arrivals closings moved)) where
+  -- the raised counts have 32 bits
+  pub raises-fit : not fit ≡ false → Fits32 (more t arrivals closings moved)
+  raises-fit h = (counts-fit (more t arrivals closings moved)) .0 (subst T e (not-false fit h))
+
+  -- all three are raised ..
+  pub counted-noted : not fit ≡ false → NotedAs (raised (tallyOf t) (more t arrivals closings moved)) (record { tally = record { arrivals = t .arrivals + arrivals; closings = t .closings + closings; moved = t .moved + moved }; note = Counted })
+  counted-noted h =
+      let f : countsFit (more t arrivals closings moved) ≡ true = sym e ∙ T→true fit (not-false fit h) in
+      record { tally = rw f; refusal = rw f }
+
+  -- .. or it is 9, and the tally is left
+  pub full-noted : not fit ≡ true → NotedAs (raised (tallyOf t) (more t arrivals closings moved)) (record { tally = t; note = Full })
+  full-noted h =
+      let f : countsFit (more t arrivals closings moved) ≡ false = sym e ∙ not→false fit (true→T (not fit) h) in
+      record { tally = rw f; refusal = rw f }
+
+-- a tag of an arm is in its list
+of-arm : (x : ℕ) (ks : List ℕ) → OneOf ks x → In x ks
+of-arm x [] h = absurd h
+of-arm x (k ∷ []) e = inl e
+of-arm x (k ∷ l ∷ ks) (inl e) = inl e
+of-arm x (k ∷ l ∷ ks) (inr h) = inr (of-arm x (l ∷ ks) h)
+
+-- the tags of all answers but an arrival's and a closing's
+abbrev others : List ℕ
+others = 0 ∷ 1 ∷ 4 ∷ 5 ∷ 6 ∷ 7 ∷ 8 ∷ 9 ∷ 10 ∷ 11 ∷ []
+
+-- none of those is an arrival's or a closing's
+no-change : (a : Answer) → T (member (tagOf told.the-type a) others) → isChange (answerOf a) ≡ false
+no-change (Refused r) h = refl
+no-change Blanked h = refl
+no-change (Arrived holder rose moved) h = absurd h
+no-change (Closed fell moved) h = absurd h
+no-change (Load n) h = refl
+no-change (Heaviest n) h = refl
+no-change (TightSet benches inside) h = refl
+no-change Sound h = refl
+no-change Level h = refl
+no-change NotLevel h = refl
+no-change (Levelled paths) h = refl
+no-change (Stopped paths) h = refl
+
+-- an arrival's answer raises its own count and the jobs moved ..
+pub arrival-told : (t : Tally) {a : Answer} {holder rose moved : ℕ} {o : Noted} → a ≡ Arrived holder rose moved → NotedAs (raised (tallyOf t) (more t 1 0 moved)) o → NotedAs (noted (tallyOf t) (answerOf a)) o
+unfolding noted
+arrival-told t {a} {holder} {rose} {moved} {o} e n =
+    let z : t .closings + 0 ≡ t .closings = omega arith in
+    subst (λ a. NotedAs (noted (tallyOf t) (answerOf a)) o) (sym e) (rw z at n)
+
+-- .. so does a closing's ..
+pub closing-told : (t : Tally) {a : Answer} {fell moved : ℕ} {o : Noted} → a ≡ Closed fell moved → NotedAs (raised (tallyOf t) (more t 0 1 moved)) o → NotedAs (noted (tallyOf t) (answerOf a)) o
+unfolding noted
+closing-told t {a} {fell} {moved} {o} e n =
+    let z : t .arrivals + 0 ≡ t .arrivals = omega arith in
+    subst (λ a. NotedAs (noted (tallyOf t) (answerOf a)) o) (sym e) (rw z at n)
+
+-- .. and any other changes none
+pub other-told : (t : Tally) (a : Answer) → OneOf others (tagOf told.the-type a) → NotedAs (noted (tallyOf t) (answerOf a)) (record { tally = t; note = Counted })
+other-told t a h =
+    let x = tagOf told.the-type a in
+    let e = other-noted (tallyOf t) (answerOf a) (no-change a (in-member x others (of-arm x others h))) in
+    record { tally = rw e; refusal = rw e }

@@ -1,0 +1,34 @@
+-- The tally in code as document 01's, and each case of what noting answers as its refusal or none.
+use Prim.Native.Nat.{ℕ, _+_}
+use mathlib.Core.Path.{_≡_}
+use mathlib.Core.Option.{Option, none, some}
+use Rattle.calls.specs.Answers.{Refusal, countFull, refusalNumber}
+use Rattle.calls.specs.Tally as paper
+use Rattle.tally.specs.declared.Tally.{Tally}
+use Rattle.tally.specs.declared.Note.{Note}
+use Rattle.tally.specs.declared.Note.the-variants.{Counted, Full}
+use Rattle.tally.specs.declared.Noted.{Noted}
+
+-- the tally
+abbrev pub tallyOf : Tally → paper.Tally
+tallyOf t = record { arrivals = t .arrivals; closings = t .closings; moved = t .moved }
+
+-- the refusal 9, or none
+abbrev pub noteOf : Note → Option Refusal
+noteOf Counted = none
+noteOf Full = some countFull
+
+-- the number returned: the refusal's, 0 for none
+abbrev pub numberOf : Option Refusal → ℕ
+numberOf none = 0
+numberOf (some r) = refusalNumber r
+
+-- the tally with so many more of each
+abbrev pub more : Tally → ℕ → ℕ → ℕ → paper.Tally
+more t arrivals closings moved =
+    record { arrivals = t .arrivals + arrivals; closings = t .closings + closings; moved = t .moved + moved }
+
+-- what noting handed back is what the definition gives
+pub record NotedAs (o : paper.Noted) (r : Noted) : Type 0 where
+  pub tally : tallyOf (r .tally) ≡ o .tally
+  pub refusal : noteOf (r .note) ≡ o .refusal

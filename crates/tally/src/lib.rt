@@ -1,0 +1,126 @@
+// The tally of arrivals, closings and jobs moved.
+ghost use Prim.Native.Nat.{_+_};
+ghost use mathlib.Core.Path.{_≡_};
+ghost use lib.Dec.{leb};
+ghost use Rattle.calls.specs.Tally.{mostCount, zeroTally, countsFit, raised, noted};
+ghost use Rattle.answers.specs.Answered.{answerOf};
+ghost use Rattle.tally.specs.Counts.{tallyOf, noteOf, numberOf, more, NotedAs};
+use answers::Answer;
+
+// Three 32-bit counts.
+pub struct Tally {
+    pub arrivals: u32,
+    pub closings: u32,
+    pub moved: u32,
+}
+
+// What noting answers: counted, or refusal 9.
+pub enum Note {
+    Counted,
+    Full,
+}
+
+impl Note {
+    // The number that is returned for it, 0 for counted.
+    pub fn number(self) -> u32
+        ensures { λ r. ⌜ r ≡ numberOf (noteOf self) ⌝ }
+    {
+        match self {
+            Note::Counted => 0,
+            Note::Full => 9,
+        }
+    }
+}
+
+// The tally handed back, and what noting answers.
+pub struct Noted {
+    pub tally: Tally,
+    pub note: Note,
+}
+
+// Whether a count can be raised by so many.
+fn has_room(count: u32, raise: usize) -> bool
+    ensures { λ r. ⌜ r ≡ leb (count + raise) mostCount ⌝ }
+{
+    raise <= (Tally::MOST_COUNT - count) as usize
+}
+
+impl Tally {
+    // The most that a count holds.
+    pub const MOST_COUNT: u32 = 4294967295;
+
+    // All counts are zero.
+    pub fn new() -> Tally
+        ensures { λ r. ⌜ tallyOf r ≡ zeroTally ⌝ }
+    {
+        Tally {
+            arrivals: 0,
+            closings: 0,
+            moved: 0,
+        }
+    }
+
+    // Whether all three counts can be raised by so many.
+    fn fits(self, arrivals: usize, closings: usize, moved: usize) -> bool
+        ensures { λ r. ⌜ r ≡ countsFit (more self arrivals closings moved) ⌝ }
+    {
+        if !has_room(self.arrivals, arrivals) {
+            return false;
+        }
+        if !has_room(self.closings, closings) {
+            return false;
+        }
+        has_room(self.moved, moved)
+    }
+
+    // All three counts raised, or none where one would pass the most.
+    fn raised(mut self, arrivals: usize, closings: usize, moved: usize) -> Noted
+        ensures { λ r. ⌜ NotedAs (raised (tallyOf self) (more self arrivals closings moved)) r ⌝ }
+    {
+        if !self.fits(arrivals, closings, moved) {
+            return Noted {
+                tally: self,
+                note: Note::Full,
+            };
+        }
+        self.arrivals += arrivals as u32;
+        self.closings += closings as u32;
+        self.moved += moved as u32;
+        Noted {
+            tally: self,
+            note: Note::Counted,
+        }
+    }
+
+    // The tally with an answer noted.
+    pub fn note(mut self, a: Answer) -> Noted
+        ensures { λ r. ⌜ NotedAs (noted (tallyOf self) (answerOf a)) r ⌝ }
+    {
+        match a {
+            Answer::Arrived(_, _, moved) => self.raised(1, 0, moved),
+            Answer::Closed(_, moved) => self.raised(0, 1, moved),
+            _ => Noted {
+                tally: self,
+                note: Note::Counted,
+            },
+        }
+    }
+}
+
+// The tally raised in place.
+pub fn note_in_place(t: &mut Tally, a: Answer) -> Note
+    ensures { λ r. ⌜ NotedAs (noted (tallyOf (now (t .entry))) (answerOf a)) (record { tally = now (t .exit); note = r }) ⌝ }
+{
+    let n = (*t).note(a);
+    *t = n.tally;
+    n.note
+}
+
+// A copy of the caller's own, raised in place.
+pub fn note_own(t: Tally, a: Answer) -> Noted
+    ensures { λ r. ⌜ NotedAs (noted (tallyOf t) (answerOf a)) r ⌝ }
+{
+    let mut own = t;
+    let note = note_in_place(&mut own, a);
+    Noted { tally: own, note }
+}
