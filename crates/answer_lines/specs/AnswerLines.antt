@@ -1,0 +1,23 @@
+-- The lines that the counter program prints for answers.
+use Prim.Native.Nat.{ℕ, _+_, _*_}
+use Prim.Native.Char.{code}
+use mathlib.Core.Bool.{cond}
+use mathlib.Core.List.{List, [], _∷_, _++_}
+use lib.ListN.{drop}
+use Rattle.layout.specs.Table.{mostBenches}
+use Rattle.calls.specs.Answers.{Answer, isRefused, inNumbers}
+use Rattle.lines.specs.Counter.{printed}
+use Rattle.printing.specs.Wrote.{fieldMost}
+
+-- room for every line: a letter, three numbers of the command, three values, a bench for each of the most benches, a line feed
+abbrev pub lineMost : ℕ
+lineMost = 2 + fieldMost * (6 + mostBenches)
+
+-- "R and the refusal"
+abbrev pub refusalText : ℕ → List ℕ
+refusalText number = printed (code "R") (number ∷ [])
+
+-- an answer's line: "R and the refusal", or a letter, numbers of the command, the answer's values, and what is listed
+abbrev pub answerText : ℕ → List ℕ → Answer → List ℕ → List ℕ
+answerText letter repeated a listed =
+    cond (isRefused a) (printed (code "R") (inNumbers a)) (printed letter (repeated ++ drop 1 (inNumbers a) ++ listed))

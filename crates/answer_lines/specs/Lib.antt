@@ -1,0 +1,2 @@
+-- The lines that the counter program prints.
+pub mod AnswerLines

@@ -1,0 +1,76 @@
+// The lines that the counter program prints for answers, written into a lent buffer behind its first `at` bytes.
+ghost use mathlib.Core.List.{[], _∷_, _++_};
+ghost use Prim.Native.Nat.{_+_, _*_, _≤_};
+ghost use lib.ListN.{length, take, drop};
+ghost use Rattle.basics.specs.Lists.{nth};
+ghost use Rattle.layout.specs.Table.{words, mostBenches};
+ghost use Rattle.calls.specs.Answers.{inNumbers};
+ghost use Rattle.answers.specs.Answered.{answerOf, valuesOf};
+ghost use Rattle.printing.specs.Wrote.{Wrote, fieldMost, spaced};
+ghost use Rattle.answer_lines.specs.AnswerLines.{lineMost, refusalText, answerText};
+use answers::Answer;
+use answers::Values;
+
+// The room that any line fits into: `lineMost`, for those who lend the buffer.
+pub const LINE_MOST: usize = 10628;
+
+// "R and the refusal".
+pub fn refusal(out: &mut [u8], at: usize, number: usize) -> usize
+    requires { ⌜ at + lineMost ≤ length (now out) ⌝ }
+    ensures { λ r. ⌜ Wrote (now (out .entry)) (now (out .exit)) at r (refusalText number) ⌝ }
+    ensures short { λ r. ⌜ r ≤ at + lineMost ⌝ }
+{
+    let letter = printing::byte(out, at, b'R');
+    let told = printing::number(out, letter, number);
+    printing::byte(out, told, b'\n')
+}
+
+// A letter, numbers of the command and the answer's values.
+fn beginning(out: &mut [u8], at: usize, letter: u8, repeated: Values, a: Answer) -> usize
+    requires { ⌜ at + lineMost ≤ length (now out) ⌝ }
+    ensures { λ r. ⌜ Wrote (now (out .entry)) (now (out .exit)) at r (letter ∷ spaced (valuesOf repeated ++ drop 1 (inNumbers (answerOf a)))) ⌝ }
+    ensures short { λ r. ⌜ r ≤ at + 1 + fieldMost * 6 ⌝ }
+{
+    let v = a.values();
+    let named = printing::byte(out, at, letter);
+    let told = printing::values(out, named, repeated);
+    printing::values(out, told, v)
+}
+
+// An answer's line without a list.
+pub fn answer(out: &mut [u8], at: usize, letter: u8, repeated: Values, a: Answer) -> usize
+    requires { ⌜ at + lineMost ≤ length (now out) ⌝ }
+    ensures { λ r. ⌜ Wrote (now (out .entry)) (now (out .exit)) at r (answerText letter (valuesOf repeated) (answerOf a) []) ⌝ }
+    ensures short { λ r. ⌜ r ≤ at + lineMost ⌝ }
+{
+    let number = a.number();
+    if number != 0 {
+        return refusal(out, at, number as usize);
+    }
+    let end = beginning(out, at, letter, repeated, a);
+    printing::byte(out, end, b'\n')
+}
+
+// An answer's line with the words of a list, as many as its first value says; a refusal lists none.
+pub fn listing(
+    out: &mut [u8],
+    at: usize,
+    letter: u8,
+    repeated: Values,
+    a: Answer,
+    list: &[u8],
+) -> usize
+    requires { ⌜ at + lineMost ≤ length (now out) ⌝ }
+    requires { ⌜ 2 * nth (inNumbers (answerOf a)) 2 0 ≤ length (now list) ⌝ }
+    requires { ⌜ length (now list) ≤ 2 * mostBenches ⌝ }
+    ensures { λ r. ⌜ Wrote (now (out .entry)) (now (out .exit)) at r (answerText letter (valuesOf repeated) (answerOf a) (take (nth (inNumbers (answerOf a)) 2 0) (words (now (list .entry))))) ⌝ }
+    ensures short { λ r. ⌜ r ≤ at + lineMost ⌝ }
+{
+    if a.number() != 0 {
+        return answer(out, at, letter, repeated, a);
+    }
+    let told = beginning(out, at, letter, repeated, a);
+    let count = a.values().get(1, 0);
+    let listed = printing::listed(out, told, list, count);
+    printing::byte(out, listed, b'\n')
+}
