@@ -1,0 +1,45 @@
+/* The desk's commands: each is a word and numbers, makes its call and says the answer in sentences. */
+#ifndef COMMANDS_H
+#define COMMANDS_H
+
+#include <stdbool.h>
+#include <stddef.h>
+#include <stdint.h>
+
+#define MOST_NUMBERS 3
+
+/* What a command does to the board's file. */
+enum file_use { ASKS, CHANGES, CREATES, CREATES_ANEW };
+
+/* The answer, in whole lines. The longest one names 4,000 jobs on 500 benches. */
+struct report {
+    size_t used;
+    char text[65536];
+};
+
+struct numbers {
+    int count;
+    uint32_t at[MOST_NUMBERS];
+};
+
+struct command {
+    const char *word;
+    int least, most; /* so many numbers follow */
+    enum file_use use;
+    uint32_t (*run)(uint8_t *table, size_t length, const struct numbers *n, struct report *report); /* gives 0 or the refusal's number */
+    const char *help;
+};
+
+/* The command of that word, NULL if there is none. */
+const struct command *command_of(const char *word);
+
+/* Which jobs other benches hold after a change: somebody has to carry them. A new or closed job is not among them. */
+void say_moves(struct report *report, const uint8_t *before, const uint8_t *after);
+
+/* All commands and what they do, for people. */
+void say_help(struct report *report);
+
+/* What a refusal means. */
+const char *refusal_words(uint32_t refusal);
+
+#endif

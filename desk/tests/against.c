@@ -1,0 +1,267 @@
+/*
+ * Random calls through the archive and through reference.c, on copies of the same table and list: answers, tables and lists must be the
+ * same, byte by byte. Boards are mostly small, now and then 500 benches and 4,000 jobs; level and not; chains in any order; some tables
+ * are damaged, some lengths wrong, some numbers out of range.
+ *
+ * Arguments: the seed, the number of calls.
+ */
+#include "calls.h"
+#include "jobboard.h"
+#include "reference.h"
+#include "support.h"
+
+#include <inttypes.h>
+#include <stdio.h>
+#include <stdlib.h>
+#include <string.h>
+
+static uint64_t seed;
+static uint32_t calls_made;
+static uint32_t returned[11];     /* how often each number was */
+static uint32_t accepted[KINDS];  /* how often each call was accepted */
+static uint32_t handed;           /* arrivals and closings that handed jobs along */
+
+/* The sizes of the next board. */
+static void choose_sizes(struct random *r, uint32_t *benches, uint32_t *jobs)
+{
+    uint32_t kind = random_below(r, 1000);
+    if (kind < 600) {
+        *benches = random_within(r, 1, 6);
+        *jobs = random_within(r, 1, 12);
+    } else if (kind < 960) {
+        *benches = random_within(r, 1, 30);
+        *jobs = random_within(r, 1, 90);
+    } else if (kind < 990) {
+        *benches = random_within(r, 30, 150);
+        *jobs = random_within(r, 90, 1200);
+    } else {
+        *benches = JOBBOARD_MOST_BENCHES;
+        *jobs = JOBBOARD_MOST_JOBS;
+    }
+}
+
+/* A sound table: empty, or with random jobs and holders (heavy ones on few benches), chains rising or in any order. */
+static void make_board(struct table *t, struct random *r)
+{
+    uint32_t benches, jobs;
+    choose_sizes(r, &benches, &jobs);
+    make_empty(t, benches, jobs);
+    if (benches == 1 || random_below(r, 8) == 0)
+        return;
+    uint32_t full = random_within(r, 1, 10), lean = random_below(r, 3), near = random_within(r, 1, benches - 1);
+    for (uint32_t j = 1; j <= jobs; j++) {
+        uint32_t first = random_within(r, 1, benches);
+        uint32_t second = (first - 1 + random_within(r, 1, near)) % benches + 1;
+        uint32_t holder = lean == 0 ? random_within(r, 1, 2) : (first < second) == (lean == 1) ? 1 : 2;
+        if (random_below(r, 10) < full)
+            make_stand(t, j, first, second, holder);
+    }
+    make_chains(t, random_below(r, 2) == 0 ? NULL : r);
+}
+
+/* A number of 1 to `most`, now and then one out of range: 0, the next ones, one that fits after a cut to 16 bits, the greatest. */
+static uint32_t random_number(struct random *r, uint32_t most)
+{
+    uint32_t number = random_within(r, 1, most);
+    switch (random_below(r, 40)) {
+    case 0:
+        return 0;
+    case 1:
+        return most + random_within(r, 1, 2);
+    case 2:
+        return number + 65536 * random_within(r, 1, 65535);
+    case 3:
+        return UINT32_MAX - random_below(r, 2);
+    default:
+        return number;
+    }
+}
+
+/* Levelling a large table to its end takes the reference seconds, so only few of them are. */
+static uint32_t random_allowance(struct random *r, uint32_t benches)
+{
+    uint32_t few = random_below(r, benches <= 30 ? 6 : 60);
+    return few == 5 ? UINT32_MAX - random_below(r, 3) : few % 5;
+}
+
+/* A job number of any kind; three times out of four one that stands, or one that does not. */
+static uint32_t random_job(struct random *r, const struct table *t, bool stands)
+{
+    uint32_t benches = word_at(t->bytes, 0), jobs = word_at(t->bytes, 1), start = random_below(r, jobs);
+    uint32_t tries = random_below(r, 4) > 0 ? jobs : 0;
+    for (uint32_t i = 0; i < tries; i++) {
+        uint32_t job = (start + i) % jobs + 1;
+        bool standing = word_at(t->bytes, 4 + benches + 4 * (size_t)(job - 1)) != 0;
+        if (standing == stands)
+            return job;
+    }
+    return random_number(r, jobs);
+}
+
+/* A bench number of any kind, rather a heavy bench than a light one: from there jobs are handed along. */
+static uint32_t random_bench(struct random *r, const struct table *t)
+{
+    uint32_t benches = word_at(t->bytes, 0), best = random_number(r, benches), most = 0, load;
+    for (int tries = 0; tries < 4; tries++) {
+        uint32_t bench = random_within(r, 1, benches);
+        if (best <= benches && jobboard_load(t->bytes, t->length, bench, &load) == JOBBOARD_OK && load > most) {
+            best = bench;
+            most = load;
+        }
+    }
+    return best;
+}
+
+static struct call random_call(struct random *r, const struct table *t)
+{
+    /* Arrivals and closings are what boards are for. */
+    static const enum kind often[] = {ARRIVAL,     ARRIVAL, ARRIVAL,  CLOSING,   CLOSING,   CLOSING,
+                                      LEVEL_CHECK, LOAD,    HEAVIEST, TIGHT_SET, TIGHT_SET, CHECK};
+    uint32_t benches = word_at(t->bytes, 0), jobs = word_at(t->bytes, 1);
+    struct call call = {often[random_below(r, 12)], {0, 0, 0}, NULL, 0};
+    if (random_below(r, 20) == 0)
+        call.kind = random_below(r, 4) == 0 ? BLANK : LEVELLING;
+    if (call.kind == BLANK) {
+        call.numbers[0] = random_number(r, benches);
+        call.numbers[1] = random_number(r, jobs);
+    } else if (call.kind == LEVELLING) {
+        call.numbers[0] = random_allowance(r, benches);
+    } else if (call.kind == LOAD) {
+        call.numbers[0] = random_number(r, benches);
+    } else if (call.kind == TIGHT_SET) {
+        call.numbers[0] = random_number(r, 1 + jobs / benches);
+        call.list_bytes = random_below(r, 3) == 0 ? random_below(r, 2 * benches + 2) : 2 * benches + random_below(r, 4);
+    } else if (call.kind == ARRIVAL || call.kind == CLOSING) {
+        call.numbers[0] = random_job(r, t, call.kind == CLOSING);
+        call.numbers[1] = random_bench(r, t);
+        call.numbers[2] = random_bench(r, t);
+    }
+    return call;
+}
+
+/* One word of a record gets a number that just fits there, or just does not. */
+static void damage_record(struct table *t, struct random *r, uint32_t benches, uint32_t jobs)
+{
+    uint32_t job = random_within(r, 1, jobs);
+    const uint32_t numbers[] = {0, 1, 2, 3, benches, benches + 1, job, jobs, jobs + 1};
+    size_t i = 4 + benches + 4 * (size_t)(job - 1) + random_below(r, 4);
+    put_word(t->bytes, i, numbers[random_below(r, 9)]);
+}
+
+/* A few words or bits are not what they were, or the length is another. */
+static void damage(struct table *t, struct random *r)
+{
+    uint32_t words = (uint32_t)t->length / 2, benches = word_at(t->bytes, 0), jobs = word_at(t->bytes, 1);
+    for (uint32_t times = random_within(r, 1, 3); times > 0; times--) {
+        /* Sizes, counts and chain heads are few words, and worth as many tries as all records. */
+        size_t i = random_below(r, random_below(r, 2) == 0 ? 4 + benches : words);
+        switch (random_below(r, 6)) {
+        case 0:
+            t->bytes[2 * i] ^= (uint8_t)(1u << random_below(r, 8));
+            break;
+        case 1:
+            put_word(t->bytes, i, random_below(r, jobs + 2));
+            break;
+        case 2: /* a word from elsewhere: a chain that meets another, or itself */
+            put_word(t->bytes, i, word_at(t->bytes, random_below(r, words)));
+            break;
+        case 3:
+            t->length = random_below(r, (uint32_t)t->length + 8);
+            return;
+        default:
+            damage_record(t, r, benches, jobs);
+        }
+    }
+}
+
+static void stop(const struct call *call, struct answer a, struct answer b, const char *what)
+{
+    char text[DESCRIPTION], first[DESCRIPTION], second[DESCRIPTION];
+    describe_call(call, text);
+    describe_answer(a, first);
+    describe_answer(b, second);
+    fail("against: seed %" PRIu64 ", call %u: %s: %s: archive %s, reference %s", seed, (unsigned)calls_made, text, what, first, second);
+}
+
+/* One call through both, on copies of exactly the lent length; t is what the archive left. */
+static void compare(struct call call, struct table *t)
+{
+    uint8_t *lists[2], *table = copy_of(t->bytes, t->length), *other = copy_of(t->bytes, t->length);
+    for (int i = 0; i < 2; i++) {
+        lists[i] = memory(call.list_bytes);
+        memset(lists[i], 0xa5, call.list_bytes);
+    }
+    calls_made++;
+    call.list = lists[0];
+    struct answer a = make_call(&call, table, t->length);
+    call.list = lists[1];
+    struct answer b = reference_call(&call, other, t->length);
+    if (!same_answer(a, b))
+        stop(&call, a, b, "other answer");
+    if (memcmp(table, other, t->length) != 0)
+        stop(&call, a, b, "other table");
+    if (memcmp(lists[0], lists[1], call.list_bytes) != 0)
+        stop(&call, a, b, "other list");
+    memcpy(t->bytes, table, t->length);
+    returned[a.returned]++;
+    accepted[call.kind] += a.returned == JOBBOARD_OK;
+    handed += a.returned == JOBBOARD_OK && ((call.kind == ARRIVAL && a.values[2] > 0) || (call.kind == CLOSING && a.values[1] > 0));
+    free(table);
+    free(other);
+    free(lists[0]);
+    free(lists[1]);
+}
+
+/* A board's life: calls one after the other, some on a damaged copy. */
+static void run_board(struct random *r, uint32_t calls)
+{
+    static struct table t, damaged;
+    make_board(&t, r);
+    if (random_below(r, 3) == 0 && word_at(t.bytes, 0) < 100)
+        compare((struct call){LEVELLING, {UINT32_MAX, 0, 0}, NULL, 0}, &t);
+    for (; calls > 0; calls--) {
+        struct call call = random_call(r, &t);
+        damaged = t;
+        if (random_below(r, 8) == 0) {
+            damage(&damaged, r);
+            compare(call, &damaged);
+        } else {
+            compare(call, &t);
+        }
+    }
+}
+
+/* The largest table, its holders by chance, levelled to the end. */
+static void level_largest(struct random *r)
+{
+    static struct table t;
+    make_empty(&t, JOBBOARD_MOST_BENCHES, JOBBOARD_MOST_JOBS);
+    for (uint32_t j = 1; j <= JOBBOARD_MOST_JOBS; j++) {
+        uint32_t first = random_within(r, 1, JOBBOARD_MOST_BENCHES - 1);
+        uint32_t second = random_within(r, first + 1, JOBBOARD_MOST_BENCHES);
+        make_stand(&t, j, first, second, random_within(r, 1, 2));
+    }
+    make_chains(&t, r);
+    compare((struct call){LEVELLING, {JOBBOARD_ENOUGH_PATHS, 0, 0}, NULL, 0}, &t);
+}
+
+int main(int argc, char **argv)
+{
+    seed = seed_of(argc, argv, 20260101);
+    uint32_t calls = argc > 2 ? (uint32_t)strtoul(argv[2], NULL, 10) : 100000;
+    struct random r = {seed};
+    while (calls_made + 1 < calls)
+        run_board(&r, random_within(&r, 5, 60));
+    level_largest(&r);
+    printf("against: %u calls, same answers, tables and lists; %u handed jobs along; refused", (unsigned)calls_made, (unsigned)handed);
+    for (int n = 1; n <= 8; n++) {
+        printf("%s %u with %d", n == 1 ? "" : ",", (unsigned)returned[n], n);
+        if (returned[n] == 0)
+            fail("against: no call was refused with %d", n);
+    }
+    for (int kind = 0; kind < KINDS; kind++)
+        if (accepted[kind] == 0)
+            fail("against: no call of kind %d was accepted", kind);
+    puts("");
+    return 0;
+}

@@ -1,0 +1,103 @@
+#include "calls.h"
+
+#include "jobboard.h"
+#include "support.h"
+
+#include <stdio.h>
+#include <string.h>
+
+/* How many numbers a call takes and how many results it gives, whether it changes tables, and its refusals in the header's order. */
+static const struct {
+    const char *name;
+    int numbers;
+    int results;
+    bool changes;
+    uint32_t refusals[5]; /* 0 after the last */
+} shapes[KINDS] = {
+    [BLANK] = {"blank", 2, 0, true, {JOBBOARD_SIZES}},
+    [CHECK] = {"check", 0, 0, false, {JOBBOARD_SIZES, JOBBOARD_UNSOUND}},
+    [ARRIVAL] = {"arrival", 3, 3, true,
+                 {JOBBOARD_SIZES, JOBBOARD_UNSOUND, JOBBOARD_JOB_NUMBER, JOBBOARD_BENCH_NUMBER, JOBBOARD_ALREADY_STANDING}},
+    [CLOSING] = {"closing", 1, 2, true, {JOBBOARD_SIZES, JOBBOARD_UNSOUND, JOBBOARD_JOB_NUMBER, JOBBOARD_NOT_STANDING}},
+    [LEVELLING] = {"levelling", 1, 2, true, {JOBBOARD_SIZES, JOBBOARD_UNSOUND}},
+    [LEVEL_CHECK] = {"level_check", 0, 1, false, {JOBBOARD_SIZES, JOBBOARD_UNSOUND}},
+    [LOAD] = {"load", 1, 1, false, {JOBBOARD_SIZES, JOBBOARD_UNSOUND, JOBBOARD_BENCH_NUMBER}},
+    [HEAVIEST] = {"heaviest", 0, 1, false, {JOBBOARD_SIZES, JOBBOARD_UNSOUND}},
+    [TIGHT_SET] = {"tight_set", 1, 2, false, {JOBBOARD_SIZES, JOBBOARD_UNSOUND, JOBBOARD_HEIGHT, JOBBOARD_LIST_TOO_SHORT}},
+};
+
+static uint32_t pass_on(const struct call *call, uint8_t *table, size_t bytes, uint32_t *v)
+{
+    const uint32_t *n = call->numbers;
+    switch (call->kind) {
+    case BLANK:
+        return jobboard_blank(table, bytes, n[0], n[1]);
+    case CHECK:
+        return jobboard_check(table, bytes);
+    case ARRIVAL:
+        return jobboard_arrival(table, bytes, n[0], n[1], n[2], &v[0], &v[1], &v[2]);
+    case CLOSING:
+        return jobboard_closing(table, bytes, n[0], &v[0], &v[1]);
+    case LEVELLING:
+        return jobboard_levelling(table, bytes, n[0], &v[0], &v[1]);
+    case LEVEL_CHECK:
+        return jobboard_level_check(table, bytes, &v[0]);
+    case LOAD:
+        return jobboard_load(table, bytes, n[0], &v[0]);
+    case HEAVIEST:
+        return jobboard_heaviest(table, bytes, &v[0]);
+    case TIGHT_SET:
+        return jobboard_tight_set(table, bytes, n[0], call->list, call->list_bytes, &v[0], &v[1]);
+    default:
+        fail("no such call: %d", (int)call->kind);
+    }
+}
+
+struct answer make_call(const struct call *call, uint8_t *table, size_t bytes)
+{
+    /* One number on each side of the results shows a call that writes beside them. */
+    uint32_t lent[5] = {UNSET, UNSET, UNSET, UNSET, UNSET};
+    struct answer a;
+    a.returned = pass_on(call, table, bytes, lent + 1);
+    memcpy(a.values, lent + 1, sizeof a.values);
+    if (lent[0] != UNSET || lent[4] != UNSET)
+        fail("%s wrote beside its results", shapes[call->kind].name);
+    for (int i = 0; i < 3; i++)
+        if ((a.returned == JOBBOARD_OK && i < shapes[call->kind].results) == (a.values[i] == UNSET))
+            fail("%s returned %u and result %d is %u", shapes[call->kind].name, (unsigned)a.returned, i, (unsigned)a.values[i]);
+    return a;
+}
+
+bool same_answer(struct answer a, struct answer b)
+{
+    return a.returned == b.returned && memcmp(a.values, b.values, sizeof a.values) == 0;
+}
+
+bool changes_table(enum kind kind)
+{
+    return shapes[kind].changes;
+}
+
+bool may_refuse(enum kind kind, uint32_t number)
+{
+    for (int i = 0; i < 5; i++)
+        if (number != JOBBOARD_OK && shapes[kind].refusals[i] == number)
+            return true;
+    return false;
+}
+
+void describe_call(const struct call *call, char text[DESCRIPTION])
+{
+    int used = snprintf(text, DESCRIPTION, "%s", shapes[call->kind].name);
+    for (int i = 0; i < shapes[call->kind].numbers; i++)
+        used += snprintf(text + used, DESCRIPTION - (size_t)used, " %u", (unsigned)call->numbers[i]);
+    if (call->kind == TIGHT_SET)
+        snprintf(text + used, DESCRIPTION - (size_t)used, " (list of %zu bytes)", call->list_bytes);
+}
+
+void describe_answer(struct answer a, char text[DESCRIPTION])
+{
+    int used = snprintf(text, DESCRIPTION, "%u:", (unsigned)a.returned);
+    for (int i = 0; i < 3 && a.values[i] != UNSET; i++)
+        used += snprintf(text + used, DESCRIPTION - (size_t)used, " %u", (unsigned)a.values[i]);
+}

@@ -1,0 +1,44 @@
+/* One shape for the nine calls, so that a test can make any of them, compare its answer and look at what it left. */
+#ifndef CALLS_H
+#define CALLS_H
+
+#include <stdbool.h>
+#include <stddef.h>
+#include <stdint.h>
+
+/* Stands in a result before the call; no call gives it. */
+#define UNSET 0xa5a5a5a5u
+
+enum kind { BLANK, CHECK, ARRIVAL, CLOSING, LEVELLING, LEVEL_CHECK, LOAD, HEAVIEST, TIGHT_SET, KINDS };
+
+struct call {
+    enum kind kind;
+    uint32_t numbers[3]; /* in the order of the call's own */
+    uint8_t *list;       /* lent to a tight set, else not looked at */
+    size_t list_bytes;
+};
+
+struct answer {
+    uint32_t returned;
+    uint32_t values[3]; /* in the order of the call's results, UNSET where there is none */
+};
+
+/* Makes the call through the archive. */
+struct answer make_call(const struct call *call, uint8_t *table, size_t bytes);
+
+bool same_answer(struct answer a, struct answer b);
+
+/* Does this call change tables? The others ask. */
+bool changes_table(enum kind kind);
+
+/* Is this number among the refusals that the header lists for the call? */
+bool may_refuse(enum kind kind, uint32_t number);
+
+/* "arrival 1 2 3" */
+#define DESCRIPTION 80
+void describe_call(const struct call *call, char text[DESCRIPTION]);
+
+/* "0: 1 2 3" */
+void describe_answer(struct answer a, char text[DESCRIPTION]);
+
+#endif

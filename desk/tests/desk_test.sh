@@ -1,0 +1,176 @@
+#!/bin/sh
+# The desk program as a person uses it: what it prints, its exit status, and the bytes of its file.
+# Argument: the program.
+set -u
+program=$(cd "$(dirname "$1")" && pwd)/$(basename "$1")
+folder=$(mktemp -d "$(dirname "$program")/desk_test.XXXXXX")
+trap 'rm -rf "$folder"' EXIT
+cd "$folder" || exit 1
+commands=0
+
+fail() {
+    echo "FAILED: desk_test: $1" >&2
+    exit 1
+}
+
+# expect STATUS OUTPUT WORDS...: runs the desk with these words, from standard input if it is to read commands. Both of its outputs are looked at.
+expect() {
+    status=$1 output=$2
+    shift 2
+    commands=$((commands + 1))
+    printed=$("$program" "$@" 2>&1)
+    got=$?
+    [ "$got" = "$status" ] || fail "$*: status $got, expected $status: $printed"
+    [ "$printed" = "$output" ] || fail "$*: printed
+$printed
+expected
+$output"
+}
+
+# The same, and the board's file must keep its bytes (or its absence).
+expect_kept() {
+    rm -f kept
+    [ ! -e room.board ] || cp room.board kept
+    expect "$@"
+    if [ -e kept ]; then
+        cmp -s room.board kept || fail "$*: the file was changed"
+    else
+        [ ! -e room.board ] || fail "$*: the file was made"
+    fi
+}
+
+sizes="desk: room.board: refused (1): byte length odd or below 8, benches not 1 to 500, jobs not 1 to 4000, or length not that of so many benches and jobs"
+unsound="desk: room.board: refused (2): sizes fit, table not sound"
+missing="desk: room.board: cannot read the file: No such file or directory"
+
+# No file yet.
+for words in "take 1 1 2" "close 1" "load 1" heaviest "tight 1" show check level-check level; do
+    expect_kept 3 "$missing" room.board $words
+done
+expect_kept 1 "$sizes" room.board new 501 4000
+expect_kept 1 "$sizes" room.board new 500 4001
+expect_kept 1 "$sizes" room.board new 4294967295 4294967295
+expect_kept 1 "$sizes" room.board renew 3 0
+
+# The scope's run, each command in a run of its own: the second sees the table of the first.
+expect 0 "The board is new: benches 1 to 3, jobs 1 to 4." room.board new 3 4
+[ "$(wc -c <room.board)" -eq 46 ] || fail "new: the file is not the table"
+expect_kept 3 "desk: room.board: cannot make the file: File exists (renew replaces it)" room.board new 3 4
+expect_kept 0 "The board is sound: benches 1 to 3, jobs 1 to 4, no jobs standing." room.board check
+expect 0 "Job 1 goes to bench 1. Bench 1 has one job more; no other jobs move." room.board take 1 1 2
+expect 0 "Job 2 goes to bench 2. Bench 2 has one job more; no other jobs move." room.board take 2 2 3
+expect 0 "Job 3 goes to bench 1. Bench 3 has one job more; 2 other jobs move.
+Job 1 moves from bench 1 to bench 2.
+Job 2 moves from bench 2 to bench 3." room.board take 3 1 2
+expect_kept 0 "Tight at height 1: 3 benches with 3 jobs among themselves: 1 2 3
+However these jobs are shared, one of these benches holds 1 or more." room.board tight 1
+expect_kept 0 "Bench 1 holds 1 job: 3
+Bench 2 holds 1 job: 1
+Bench 3 holds 1 job: 2" room.board show
+expect 0 "Job 2 is closed. Bench 3 has one job less; no jobs move." room.board close 2
+expect_kept 0 "Bench 3 holds no jobs." room.board show 3
+expect_kept 0 "Bench 2 holds 1 job." room.board load 2
+expect_kept 0 "The heaviest bench holds 1 job." room.board heaviest
+expect_kept 0 "The board is level." room.board level-check
+expect 0 "The board is level; no paths turned." room.board level
+
+# Refused: the words, the number, status 1, and every byte stays.
+expect_kept 1 "desk: room.board: refused (6): closing of a job not standing" room.board close 2
+expect_kept 1 "desk: room.board: refused (3): job number not one of the board's" room.board close 5
+expect_kept 1 "desk: room.board: refused (4): bench not one of the board's, or both benches the same" room.board take 2 2 2
+expect_kept 1 "desk: room.board: refused (4): bench not one of the board's, or both benches the same" room.board load 4
+expect_kept 1 "desk: room.board: refused (4): bench not one of the board's, or both benches the same" room.board show 0
+expect_kept 1 "desk: room.board: refused (5): arrival of a standing job" room.board take 1 1 2
+expect_kept 1 "desk: room.board: refused (7): height 0, or above the heaviest load" room.board tight 2
+
+# Not understood: status 2, and every byte stays.
+expect_kept 2 "desk: room.board: no such command: tke (help lists them)" room.board tke 4 1 2
+expect_kept 2 "desk: room.board: take: wrong number of numbers: take JOB BENCH BENCH  a job arrives that either bench can do" room.board take 4 1
+expect_kept 2 "desk: room.board: check: wrong number of numbers: check                 whether the board is sound" room.board check 1
+for number in -1 +1 1x 0x1 "" " 1" 1.0 4294967296 18446744073709551617; do
+    expect_kept 2 "desk: room.board: close: not a number of 0 to 4294967295: $number" room.board close "$number"
+done
+
+# Commands from standard input: the worst status is the run's, and the others are done.
+expect 2 "Job 4 goes to bench 3. Bench 3 has one job more; no other jobs move.
+desk: room.board: line 2: refused (5): arrival of a standing job
+desk: room.board: line 4: no such command: nonsense (help lists them)
+Job 2 goes to bench 2. Bench 2 has one job more; no other jobs move." room.board <<END
+take 4 2 3
+take 4 2 3
+
+nonsense
+  take	2  2 3
+END
+expect_kept 0 "The heaviest bench holds 2 jobs." room.board heaviest
+expect_kept 0 "" room.board </dev/null
+expect_kept 2 "desk: room.board: line 1: line too long, or not text
+Bench 1 holds 1 job." room.board <<END
+$(printf '%0300d' 0)
+load 1
+END
+expect_kept 0 "Bench 1 holds 1 job." room.board <<END
+$(printf 'load 1')
+END
+
+# A damaged file is refused by every command but renew, with the refusal's words, and never written.
+damaged() {
+    for words in "take 1 1 2" "close 1" "load 1" heaviest "tight 1" show "show 1" check level-check level "level 0"; do
+        expect_kept 1 "$1" room.board $words
+    done
+    expect_kept 3 "desk: room.board: cannot make the file: File exists (renew replaces it)" room.board new 3 4
+}
+cp room.board whole
+printf '\377' | dd of=room.board bs=1 seek=8 conv=notrunc 2>/dev/null
+damaged "$unsound"
+head -c 45 whole >room.board
+damaged "$sizes"
+: >room.board
+damaged "$sizes"
+head -c 40000 /dev/zero >room.board
+damaged "$sizes"
+printf 'Dear all, this is not a board.\n' >room.board
+damaged "$sizes"
+
+# A table of another's making that is not level, its chain in no order: bench 1 holds three jobs that name 1 and 2.
+printf '\002\000\003\000\003\000\000\000\002\000\000\000\001\000\002\000\001\000\000\000\001\000\002\000\001\000\003\000\001\000\002\000\001\000\001\000' >room.board
+expect_kept 0 "The board is not level." room.board level-check
+expect_kept 0 "Bench 1 holds 3 jobs: 1 2 3
+Bench 2 holds no jobs." room.board show
+expect 0 "The board is not level yet; no paths turned." room.board level 0
+expect 0 "The board is level; 1 path turned.
+Job 1 moves from bench 1 to bench 2." room.board level
+expect 0 "Job 2 is closed. Bench 1 has one job less; no jobs move." room.board close 2
+expect_kept 0 "Tight at height 1: 2 benches with 2 jobs among themselves: 1 2
+However these jobs are shared, one of these benches holds 1 or more." room.board tight 1
+
+# A new board in place of the file; its permissions and a link to it stay.
+chmod 640 room.board
+ln -s room.board link.board
+expect 0 "The board is new: benches 1 to 500, jobs 1 to 4000." link.board renew 500 4000
+expect 0 "Job 4000 goes to bench 500. Bench 500 has one job more; no other jobs move." link.board take 4000 500 1
+[ -L link.board ] || fail "a link became a file"
+[ "$(ls -l room.board | cut -c1-10)" = "-rw-r-----" ] || fail "the file's permissions changed"
+expect_kept 0 "Bench 500 holds 1 job: 4000" room.board show 500
+
+# Twenty desks at once: none loses another's job.
+job=1
+while [ "$job" -le 20 ]; do
+    "$program" room.board take "$job" "$job" "$((job + 1))" >/dev/null &
+    job=$((job + 1))
+done
+wait
+expect_kept 0 "The board is sound: benches 1 to 500, jobs 1 to 4000, 21 jobs standing." room.board check
+
+# An answer that nobody can read is no success; the change stays.
+if [ -e /dev/full ]; then
+    "$program" room.board close 4000 >/dev/full 2>printed && fail "an answer that was not written counts as done"
+    [ "$(cat printed)" = "desk: room.board: the answer cannot be written" ] || fail "lost answer: $(cat printed)"
+    rm printed
+    expect_kept 0 "Bench 500 holds no jobs." room.board show 500
+fi
+
+# Nothing is left beside the file.
+rm -f kept whole link.board
+[ "$(ls)" = room.board ] || fail "files were left: $(ls)"
+echo "desk_test: $commands runs of $(basename "$program"), as expected"

@@ -1,0 +1,214 @@
+/*
+ * The tables of crates/table_files/data and what another implementation of the scope answered on them: data/index has for each table
+ * its form check, level check, heaviest load and a hash of its loads; data/calls has calls, each on a fresh copy, with the answer and two
+ * hashes of what is left: of the table with rising chains (for a refused call and a load: of the bytes as they were), and of the
+ * same with chain heads and next words zero. For a tight set both are of its list, filled with a5 before.
+ *
+ * Arguments: the folder of tables, the folder of `index` and `calls`.
+ */
+#include "calls.h"
+#include "jobboard.h"
+#include "support.h"
+
+#include <inttypes.h>
+#include <stdio.h>
+#include <stdlib.h>
+#include <string.h>
+
+#define LINE 200
+
+/* A table as it is in its file. */
+struct file {
+    char name[LINE];
+    uint8_t bytes[JOBBOARD_MOST_TABLE_BYTES + 1024];
+    size_t length;
+};
+
+static FILE *open_in(const char *folder, const char *name)
+{
+    char path[1000];
+    if (snprintf(path, sizeof path, "%s/%s", folder, name) >= (int)sizeof path)
+        fail("vectors: name too long: %s/%s", folder, name);
+    FILE *file = fopen(path, "rb");
+    if (file == NULL)
+        fail("vectors: cannot open %s", path);
+    return file;
+}
+
+static void read_table(struct file *f, const char *folder, const char *name)
+{
+    FILE *file = open_in(folder, name);
+    f->length = fread(f->bytes, 1, sizeof f->bytes, file);
+    if (f->length == sizeof f->bytes || ferror(file))
+        fail("vectors: %s: cannot be read, or too long", name);
+    fclose(file);
+    snprintf(f->name, sizeof f->name, "%s", name);
+}
+
+/* A call on a fresh copy of the table; the copy is the caller's. */
+static struct answer on_copy(const struct file *f, const struct call *call, uint8_t **left)
+{
+    *left = copy_of(f->bytes, f->length);
+    return make_call(call, *left, f->length);
+}
+
+static struct answer ask(const struct file *f, enum kind kind, uint32_t number)
+{
+    struct call call = {kind, {number, 0, 0}, NULL, 0};
+    uint8_t *left;
+    struct answer a = on_copy(f, &call, &left);
+    if (memcmp(left, f->bytes, f->length) != 0)
+        fail("vectors: %s: a question changed the table", f->name);
+    free(left);
+    return a;
+}
+
+/* The loads of all benches as words, hashed. */
+static uint64_t loads_hash(const struct file *f)
+{
+    uint8_t loads[2 * JOBBOARD_MOST_BENCHES];
+    uint32_t benches = word_at(f->bytes, 0);
+    for (uint32_t b = 1; b <= benches; b++) {
+        struct answer a = ask(f, LOAD, b);
+        if (a.returned != JOBBOARD_OK)
+            fail("vectors: %s: load of bench %u gives %u", f->name, (unsigned)b, (unsigned)a.returned);
+        put_word(loads, b - 1, a.values[0]);
+    }
+    return hash_of(loads, 2 * (size_t)benches);
+}
+
+/* The row of `index` that the calls give, without the file's name. */
+static void row_of(const struct file *f, char row[LINE])
+{
+    struct answer form = ask(f, CHECK, 0), level = ask(f, LEVEL_CHECK, 0), heaviest = ask(f, HEAVIEST, 0);
+    if (form.returned == JOBBOARD_OK)
+        snprintf(row, LINE, "sound %s H%u %016" PRIx64, level.values[0] == 1 ? "yes" : "no", (unsigned)heaviest.values[0], loads_hash(f));
+    else
+        snprintf(row, LINE, "%u %u %u %u", (unsigned)form.returned, (unsigned)level.returned, (unsigned)heaviest.returned,
+                 (unsigned)ask(f, LOAD, 1).returned);
+}
+
+static unsigned run_index(const char *tables, const char *data)
+{
+    static struct file f;
+    char line[LINE], row[LINE];
+    unsigned rows = 0;
+    FILE *index = open_in(data, "index");
+    while (fgets(line, sizeof line, index) != NULL) {
+        line[strcspn(line, "\n")] = 0;
+        char *want = strchr(line, ' ');
+        if (want == NULL)
+            fail("vectors: index: line %u not understood: %s", rows + 1, line);
+        *want++ = 0;
+        read_table(&f, tables, line);
+        row_of(&f, row);
+        if (strcmp(row, want) != 0)
+            fail("vectors: index: %s gives \"%s\", expected \"%s\"", line, row, want);
+        rows++;
+    }
+    fclose(index);
+    return rows;
+}
+
+/* "A 27 19 2" */
+static struct call call_of(const char *text)
+{
+    static const char letters[] = "ADLSO";
+    static const enum kind kinds[] = {ARRIVAL, CLOSING, LEVELLING, TIGHT_SET, LOAD};
+    static const int numbers[] = {3, 1, 1, 2, 1};
+    unsigned n[3] = {0, 0, 0};
+    const char *letter = strchr(letters, text[0]);
+    if (text[0] == 0 || letter == NULL || sscanf(text + 1, "%u %u %u", &n[0], &n[1], &n[2]) != numbers[letter - letters])
+        fail("vectors: calls: call not understood: %s", text);
+    struct call call = {kinds[letter - letters], {n[0], n[1], n[2]}, NULL, 0};
+    if (call.kind == TIGHT_SET) {
+        call.list_bytes = n[1];
+        call.list = memory(call.list_bytes);
+        memset(call.list, 0xa5, call.list_bytes);
+    }
+    return call;
+}
+
+/* The answer in the file's words: "19 19 0", "3 level", "R 2". */
+static void answer_words(enum kind kind, struct answer a, char text[LINE])
+{
+    const uint32_t *v = a.values;
+    if (a.returned != JOBBOARD_OK)
+        snprintf(text, LINE, "R %u", (unsigned)a.returned);
+    else if (kind == ARRIVAL)
+        snprintf(text, LINE, "%u %u %u", (unsigned)v[0], (unsigned)v[1], (unsigned)v[2]);
+    else if (kind == LEVELLING)
+        snprintf(text, LINE, "%u %s", (unsigned)v[0], v[1] == 1 ? "level" : "stopped");
+    else if (kind == LOAD)
+        snprintf(text, LINE, "%u", (unsigned)v[0]);
+    else
+        snprintf(text, LINE, "%u %u", (unsigned)v[0], (unsigned)v[1]);
+}
+
+/* Chain heads and next words zeroed; a table whose sizes do not fit stays as it is. */
+static void forget_chains(uint8_t *table, size_t length)
+{
+    if (jobboard_check(table, length) == JOBBOARD_SIZES)
+        return;
+    uint32_t benches = word_at(table, 0), jobs = word_at(table, 1);
+    for (uint32_t b = 1; b <= benches; b++)
+        put_word(table, 3 + b, 0);
+    for (uint32_t j = 0; j < jobs; j++)
+        put_word(table, 4 + benches + 4 * (size_t)j + 3, 0);
+}
+
+/* What the call gives, in the words of `calls`: answer and both hashes. */
+static void run_call(const struct file *f, const char *text, char result[2 * LINE])
+{
+    char words[LINE];
+    struct call call = call_of(text);
+    uint8_t *left;
+    struct answer a = on_copy(f, &call, &left);
+    if (!changes_table(call.kind) && memcmp(left, f->bytes, f->length) != 0)
+        fail("vectors: calls: %s %s changed the table", f->name, text);
+    answer_words(call.kind, a, words);
+    uint64_t first = call.kind == TIGHT_SET ? hash_of(call.list, call.list_bytes) : hash_of(left, f->length);
+    forget_chains(left, f->length);
+    uint64_t second = call.kind == TIGHT_SET ? first : hash_of(left, f->length);
+    snprintf(result, 2 * LINE, "%s %016" PRIx64 " %016" PRIx64, words, first, second);
+    free(left);
+    free(call.list);
+}
+
+static unsigned run_calls(const char *tables, const char *data)
+{
+    static struct file f;
+    char line[LINE], result[2 * LINE];
+    unsigned calls = 0;
+    FILE *list = open_in(data, "calls");
+    while (fgets(line, sizeof line, list) != NULL) {
+        line[strcspn(line, "\n")] = 0;
+        char *call = strchr(line, ' ');
+        char *want = strstr(line, " = ");
+        if (call == NULL || want == NULL || want < call)
+            fail("vectors: calls: line %u not understood: %s", calls + 1, line);
+        *call++ = 0;
+        *want = 0;
+        want += strlen(" = ");
+        if (strcmp(f.name, line) != 0)
+            read_table(&f, tables, line);
+        run_call(&f, call, result);
+        if (strcmp(result, want) != 0)
+            fail("vectors: calls: %s %s gives \"%s\", expected \"%s\"", line, call, result, want);
+        calls++;
+    }
+    fclose(list);
+    return calls;
+}
+
+int main(int argc, char **argv)
+{
+    if (argc != 3)
+        fail("vectors: two arguments: the folder of tables, the folder of index and calls");
+    unsigned tables = run_index(argv[1], argv[2]);
+    unsigned calls = run_calls(argv[1], argv[2]);
+    if (tables != 96 || calls != 720)
+        fail("vectors: %u tables and %u calls, expected 96 and 720", tables, calls);
+    printf("vectors: %u tables and %u calls, same answers, refusals and hashes\n", tables, calls);
+    return 0;
+}

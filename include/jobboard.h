@@ -1,0 +1,167 @@
+/*
+ * The job board: repair jobs shared between benches, for C99 and C++. Link with libdesk.a (x86-64), which `rt staticlib desk` makes.
+ *
+ * A board lives in a table: bytes that the caller owns. Each job names two benches, and one of them holds it; a bench's load is the
+ * number of jobs it holds. jobboard_blank makes a table, jobboard_arrival and jobboard_closing change its jobs and hand others along,
+ * and the remaining calls ask, or level a table that came from elsewhere. On a level table (see jobboard_levelling) arrivals and
+ * closings leave a level one, and the heaviest load is then the least that any sharing of the same jobs has. A blank table is level.
+ *
+ * WHAT A CALL RETURNS. JOBBOARD_OK (0), or the number of a refusal (below). Any bytes, any length and any numbers may be passed: each
+ * is answered or refused. Where several refusals apply, the lowest number is returned; each call lists its own in that order.
+ * Results go through pointers to numbers. A refused call changes nothing: no byte of the table or the list, and no result.
+ *
+ * MEMORY. All of it is the caller's. A call reads and writes only what it is lent, for as long as it runs; it allocates nothing and
+ * keeps no pointer. For each call:
+ * - no pointer may be NULL, not even where its length is 0;
+ * - `table` points to `table_bytes` bytes, `list` to `list_bytes` bytes, at any alignment; each result is an aligned uint32_t of its own;
+ * - table, list and results must not overlap one another.
+ *
+ * STACK. A call needs less than JOBBOARD_STACK_BYTES bytes of stack. The greatest need is about 51,000 bytes, of a tight set on a table of
+ * 500 benches and 4,000 jobs (x86-64; each run of the tests measures it again).
+ *
+ * THREADS. There is no state between calls. Any number of threads may work on different tables at once, and may ask questions (those
+ * with a const table) of the same one at once, each with its own list and results. While a call changes a table, no other call may use
+ * that table: the caller's lock sees to it.
+ *
+ * FILES. A table is portable: its words have 16 bits, low byte first, on every machine. It may be written to a file as it is, and
+ * read back anywhere; jobboard_check says whether what was read is a table still. Every call but jobboard_blank makes the same check,
+ * so none is misled by a damaged table. For B benches and J jobs the words are:
+ *
+ *     0, 1, 2, 3                   B; J; number of standing jobs; 0
+ *     3 + b                        first job on the chain of bench b, 0 for none
+ *     4 + B + 4 * (j - 1), ...     job j: first bench, second bench, holder (1 first-named, 2 second-named), next job on the chain
+ *
+ * A job that is not standing has four zero words, and next 0 ends a chain. A table is sound if its sizes fit, every standing job has
+ * two different benches of 1 to B and holder 1 or 2, every standing job is on its holder's chain once and on no other, nothing else is
+ * on a chain, word 2 is true and word 3 is 0. The order of jobs on a chain is free and no answer depends on it; an accepted arrival,
+ * closing or levelling leaves every chain in rising order.
+ */
+#ifndef JOBBOARD_H
+#define JOBBOARD_H
+
+#include <stddef.h>
+#include <stdint.h>
+
+#ifdef __cplusplus
+extern "C" {
+#endif
+
+/* Benches are numbered from 1 to at most this, and so are jobs. */
+#define JOBBOARD_MOST_BENCHES 500
+#define JOBBOARD_MOST_JOBS 4000
+
+/* The length in bytes of a table for so many benches and jobs. */
+#define JOBBOARD_TABLE_BYTES(benches, jobs) (2 * (4 + (size_t)(benches) + 4 * (size_t)(jobs)))
+
+/* The length of the largest table: 33,008 bytes. */
+#define JOBBOARD_MOST_TABLE_BYTES JOBBOARD_TABLE_BYTES(JOBBOARD_MOST_BENCHES, JOBBOARD_MOST_JOBS)
+
+/* A list of this length is long enough for every tight set: 1,000 bytes. */
+#define JOBBOARD_MOST_LIST_BYTES (2 * (size_t)JOBBOARD_MOST_BENCHES)
+
+/* More than the stack that any call needs. */
+#define JOBBOARD_STACK_BYTES 65536
+
+/* An allowance that is enough to level every table. */
+#define JOBBOARD_ENOUGH_PATHS 7998000
+
+/* What a call returns. B and J are the benches and jobs of the table, the numbers in its first two words; for blanking, those given. */
+enum jobboard_refusal {
+    JOBBOARD_OK = 0,               /* accepted */
+    JOBBOARD_SIZES = 1,            /* length odd or below 8, B not 1 to 500, J not 1 to 4,000, or length not that of B and J */
+    JOBBOARD_UNSOUND = 2,          /* sizes fit, table not sound */
+    JOBBOARD_JOB_NUMBER = 3,       /* job number not 1 to J */
+    JOBBOARD_BENCH_NUMBER = 4,     /* bench not 1 to B, or both benches the same */
+    JOBBOARD_ALREADY_STANDING = 5, /* arrival of a standing job */
+    JOBBOARD_NOT_STANDING = 6,     /* closing of a job not standing */
+    JOBBOARD_HEIGHT = 7,           /* height 0, or above the heaviest load */
+    JOBBOARD_LIST_TOO_SHORT = 8,   /* list shorter than the set's words */
+    JOBBOARD_COUNT_FULL = 9,       /* a tally's count would pass 4,294,967,295; no call here returns it */
+    JOBBOARD_UNREADABLE = 10       /* the counter program's: line not readable; no call here returns it */
+};
+
+/*
+ * Makes a table without jobs: `benches` and `jobs` go into its first two words, zero into all others. Old bytes are not looked at.
+ * table_bytes must be JOBBOARD_TABLE_BYTES(benches, jobs).
+ *
+ * Refused: JOBBOARD_SIZES where benches are not 1 to 500, jobs not 1 to 4,000, or the length is another.
+ */
+uint32_t jobboard_blank(uint8_t *table, size_t table_bytes, uint32_t benches, uint32_t jobs);
+
+/*
+ * Form check: JOBBOARD_OK for a sound table, else its refusal. A table is unsound also where a chain returns to itself.
+ *
+ * Refused: JOBBOARD_SIZES, JOBBOARD_UNSOUND.
+ */
+uint32_t jobboard_check(const uint8_t *table, size_t table_bytes);
+
+/*
+ * Arrival of job `job`, which names the benches `first` and `second`. The lighter of them gets it (the first-named if they are equal),
+ * and then jobs are handed along one path of benches, if there is one that leads to a bench with a load lower by two or more.
+ *
+ * Results: *holder is the bench that holds the new job in the end, *rose the bench whose load rose (no other load changes), *moved the
+ * number of other jobs that changed holder.
+ * Refused: JOBBOARD_SIZES, JOBBOARD_UNSOUND, JOBBOARD_JOB_NUMBER, JOBBOARD_BENCH_NUMBER, JOBBOARD_ALREADY_STANDING.
+ */
+uint32_t jobboard_arrival(uint8_t *table, size_t table_bytes, uint32_t job, uint32_t first, uint32_t second, uint32_t *holder,
+                          uint32_t *rose, uint32_t *moved);
+
+/*
+ * Closing of the standing job `job`. Its record is emptied, and then jobs are handed along one path to the bench that held it, if there
+ * is one from a bench with a load higher by two or more.
+ *
+ * Results: *fell is the bench whose load fell (no other load changes), *moved the number of jobs that changed holder.
+ * Refused: JOBBOARD_SIZES, JOBBOARD_UNSOUND, JOBBOARD_JOB_NUMBER, JOBBOARD_NOT_STANDING.
+ */
+uint32_t jobboard_closing(uint8_t *table, size_t table_bytes, uint32_t job, uint32_t *fell, uint32_t *moved);
+
+/*
+ * Levelling. A path improves if jobs handed along it lead from a bench to one with a load lower by two or more; a table is level if
+ * none does. Turns improving paths, one after the other, until none is left or `allowance` of them are turned. Any allowance may be
+ * passed: with 0 no job changes holder, and JOBBOARD_ENOUGH_PATHS or more always ends level.
+ *
+ * Results: *paths is the number of paths turned, at most the allowance; *level is 1 for "level" (no improving path is left), 0 for
+ * "stopped" (the allowance is used up and one is left).
+ * Refused: JOBBOARD_SIZES, JOBBOARD_UNSOUND.
+ */
+uint32_t jobboard_levelling(uint8_t *table, size_t table_bytes, uint32_t allowance, uint32_t *paths, uint32_t *level);
+
+/*
+ * Level check. Result: *level is 1 for yes (also for a table without jobs), 0 for no.
+ *
+ * Refused: JOBBOARD_SIZES, JOBBOARD_UNSOUND.
+ */
+uint32_t jobboard_level_check(const uint8_t *table, size_t table_bytes, uint32_t *level);
+
+/*
+ * Load of a bench. Result: *load is the number of jobs that bench `bench` holds.
+ *
+ * Refused: JOBBOARD_SIZES, JOBBOARD_UNSOUND, JOBBOARD_BENCH_NUMBER.
+ */
+uint32_t jobboard_load(const uint8_t *table, size_t table_bytes, uint32_t bench, uint32_t *load);
+
+/*
+ * Heaviest load. Result: *load is the greatest load of all benches, 0 for a table without jobs.
+ *
+ * Refused: JOBBOARD_SIZES, JOBBOARD_UNSOUND.
+ */
+uint32_t jobboard_heaviest(const uint8_t *table, size_t table_bytes, uint32_t *load);
+
+/*
+ * Tight set of a height. All benches with load `height` or more are in it, and with a bench the other bench of each job that it holds.
+ * Its bench numbers are written, rising, as words (two bytes, low byte first) at the beginning of `list`; the list beyond them is
+ * untouched. On a level table its jobs inside are more than (height - 1) times its benches, so that in any sharing one of these benches
+ * holds `height` jobs or more.
+ *
+ * Results: *benches is the number of benches in the set, *jobs the number of jobs with both benches inside. The list must have at least
+ * 2 * *benches bytes; its length may be odd or 0.
+ * Refused: JOBBOARD_SIZES, JOBBOARD_UNSOUND, JOBBOARD_HEIGHT, JOBBOARD_LIST_TOO_SHORT.
+ */
+uint32_t jobboard_tight_set(const uint8_t *table, size_t table_bytes, uint32_t height, uint8_t *list, size_t list_bytes,
+                            uint32_t *benches, uint32_t *jobs);
+
+#ifdef __cplusplus
+}
+#endif
+
+#endif
