@@ -10,13 +10,20 @@ impl Random {
         self.0 ^= self.0 << 17;
         (self.0 % n as u64) as usize
     }
+
+    pub fn shuffle<T>(&mut self, items: &mut [T]) {
+        for i in (1..items.len()).rev() {
+            items.swap(i, self.below(i + 1));
+        }
+    }
 }
 
 fn put(t: &mut [u8], i: usize, w: usize) {
     t[2 * i..2 * i + 2].copy_from_slice(&(w as u16).to_le_bytes());
 }
 
-fn get(t: &[u8], i: usize) -> usize {
+/// Word i of a table.
+pub fn get(t: &[u8], i: usize) -> usize {
     u16::from_le_bytes([t[2 * i], t[2 * i + 1]]) as usize
 }
 
@@ -34,7 +41,7 @@ pub fn stands(t: &[u8], benches: usize, j: usize) -> bool {
 pub type Job = (usize, [usize; 2], usize);
 
 /// The sound table of these jobs, pushed onto the chains one after the other.
-fn table(benches: usize, jobs: usize, standing: &[Job]) -> Vec<u8> {
+pub fn table(benches: usize, jobs: usize, standing: &[Job]) -> Vec<u8> {
     let mut t = vec![0; 2 * (4 + benches + 4 * jobs)];
     put(&mut t, 0, benches);
     put(&mut t, 1, jobs);
@@ -50,11 +57,16 @@ fn table(benches: usize, jobs: usize, standing: &[Job]) -> Vec<u8> {
     t
 }
 
-/// Two random benches for job j, held by either.
-fn random_job(j: usize, benches: usize, random: &mut Random) -> Job {
+/// Two random benches.
+pub fn two_benches(benches: usize, random: &mut Random) -> [usize; 2] {
     let first = random.below(benches);
     let second = (first + 1 + random.below(benches - 1)) % benches;
-    (j, [first + 1, second + 1], 1 + random.below(2))
+    [first + 1, second + 1]
+}
+
+/// Two random benches for job j, held by either.
+fn random_job(j: usize, benches: usize, random: &mut Random) -> Job {
+    (j, two_benches(benches, random), 1 + random.below(2))
 }
 
 /// A table without jobs.
@@ -76,21 +88,19 @@ pub fn pairs(benches: usize, standing: usize, jobs: usize, random: &mut Random) 
 /// Of three job numbers two stand, with random benches; chains are in no order.
 pub fn mixed(benches: usize, jobs: usize, random: &mut Random) -> Vec<u8> {
     let mut numbers: Vec<_> = (1..=jobs).filter(|_| random.below(3) != 0).collect();
-    for i in (1..numbers.len()).rev() {
-        numbers.swap(i, random.below(i + 1));
-    }
+    random.shuffle(&mut numbers);
     let standing: Vec<_> = numbers.into_iter().map(|j| random_job(j, benches, random)).collect();
     table(benches, jobs, &standing)
 }
 
-/// Job j names bench j and the next one, round and round.
-pub fn ring(benches: usize, jobs: usize) -> Vec<u8> {
-    open_ring(benches, jobs, jobs)
+/// The benches that job j of a ring names: bench j and the next one, round and round.
+pub fn neighbours(j: usize, benches: usize) -> [usize; 2] {
+    [(j - 1) % benches + 1, j % benches + 1]
 }
 
-/// A ring of which only the first jobs stand.
-pub fn open_ring(benches: usize, standing: usize, jobs: usize) -> Vec<u8> {
-    let standing: Vec<_> = (1..=standing).rev().map(|j| (j, [(j - 1) % benches + 1, j % benches + 1], 1)).collect();
+/// A ring, each job held by the first of its benches.
+pub fn ring(benches: usize, jobs: usize) -> Vec<u8> {
+    let standing: Vec<_> = (1..=jobs).rev().map(|j| (j, neighbours(j, benches), 1)).collect();
     table(benches, jobs, &standing)
 }
 
@@ -111,14 +121,15 @@ fn layer_job(k: usize, benches: usize) -> [usize; 2] {
 }
 
 /// As many jobs as leave one number free and every bench but the last with the same load, the last with one less. All ways to the last
-/// bench go through every bench between: the arrival of job J, naming 1 and 2, moves B - 1 jobs. J is a multiple of B.
+/// bench go through every bench between: an arrival that another bench gets moves as many jobs as it is benches away. J is a multiple of B.
 pub fn long_path(benches: usize, jobs: usize) -> Vec<u8> {
     let place = |j: usize| if j < benches { j } else { (j - benches) % benches + 1 };
     let standing: Vec<_> = (1..jobs).rev().map(|j| (j, layer_job(place(j), benches), 1)).collect();
     table(benches, jobs, &standing)
 }
 
-/// Every bench has the same load, and bench 1 one job more, number J: closing job B, which the last bench holds, moves B - 1 jobs.
+/// Every bench has the same load, and bench 1 one job more, number J: closing job k, which bench k holds, moves k - 1 jobs. All
+/// loads but the first must be equal for that, so that at 500 benches 3,501 of the 4,000 jobs stand.
 pub fn long_path_back(benches: usize, jobs: usize) -> Vec<u8> {
     let layered = (jobs - 1) / benches * benches;
     let mut standing = vec![(jobs, [1, 2], 1)];

@@ -15,6 +15,33 @@ pub enum Call {
     TightSet(u32, usize),
 }
 
+pub const NAMES: [&str; 9] = ["blanking", "form check", "arrival", "closing", "levelling", "level check", "load", "heaviest", "tight set"];
+
+/// A call's place in NAMES.
+pub fn kind(call: Call) -> usize {
+    match call {
+        Call::Blank(..) => 0,
+        Call::FormCheck => 1,
+        Call::Arrival(..) => 2,
+        Call::Closing(..) => 3,
+        Call::Levelling(..) => 4,
+        Call::LevelCheck => 5,
+        Call::Load(..) => 6,
+        Call::Heaviest => 7,
+        Call::TightSet(..) => 8,
+    }
+}
+
+/// The jobs that an arrival or a closing moved, or the paths that levelling turned, by the call's values. None for other calls.
+pub fn moved(call: Call, values: [u32; 3]) -> Option<u32> {
+    match call {
+        Call::Arrival(..) => Some(values[2]),
+        Call::Closing(..) => Some(values[1]),
+        Call::Levelling(..) => Some(values[0]),
+        _ => None,
+    }
+}
+
 /// The values of a call, zeros after them, or its refusal.
 pub type Answer = Result<[u32; 3], u32>;
 
@@ -55,20 +82,20 @@ macro_rules! answer {
 /// An implementation: the answer to a call on a table and a list.
 pub type Perform = fn(Call, &mut [u8], &mut [u8]) -> Answer;
 
-/// Performs a call with both, which must answer alike and leave the same bytes, in the table and in the list, and all bytes if they refuse.
-/// Gives the table that they leave and their answer.
-pub fn same(both: [Perform; 2], call: Call, t: &[u8], random: &mut Random) -> (Vec<u8>, Answer) {
+/// Performs a call with all implementations, which must answer alike and leave the same bytes, in the table and in the list, and all bytes
+/// if they refuse. Gives the table that they leave and their answer.
+pub fn same<const N: usize>(all: [Perform; N], call: Call, t: &[u8], random: &mut Random) -> (Vec<u8>, Answer) {
     let list: Vec<u8> = match call {
         Call::TightSet(_, len) => (0..len).map(|_| random.below(256) as u8).collect(),
         _ => vec![],
     };
-    let outcomes = both.map(|perform| {
+    let outcomes = all.map(|perform| {
         let (mut after, mut list) = (t.to_vec(), list.clone());
         let answer = perform(call, &mut after, &mut list);
         (answer, after, list)
     });
-    assert!(outcomes[0] == outcomes[1], "the implementations differ: {call:?} on {t:?} gives {outcomes:?}");
-    let [(answer, after, after_list), _] = outcomes;
+    assert!(outcomes.iter().all(|o| *o == outcomes[0]), "the implementations differ: {call:?} on {t:?} gives {outcomes:?}");
+    let (answer, after, after_list) = outcomes.into_iter().next().unwrap();
     if answer.is_err() {
         assert!(after == t && after_list == list, "{call:?} on {t:?} is refused and changes bytes");
     }

@@ -8,24 +8,7 @@ mod independent;
 mod rules;
 
 use boards::Random;
-use calls::{Call, Perform};
-
-const NAMES: [&str; 9] = ["blanking", "form check", "arrival", "closing", "levelling", "level check", "load", "heaviest", "tight set"];
-
-/// A call's place in NAMES.
-fn kind(call: Call) -> usize {
-    match call {
-        Call::Blank(..) => 0,
-        Call::FormCheck => 1,
-        Call::Arrival(..) => 2,
-        Call::Closing(..) => 3,
-        Call::Levelling(..) => 4,
-        Call::LevelCheck => 5,
-        Call::Load(..) => 6,
-        Call::Heaviest => 7,
-        Call::TightSet(..) => 8,
-    }
-}
+use calls::{kind, moved, Perform, NAMES};
 
 /// Answers and bytes must be alike. Counts, for each call, those refused, those accepted, and those that hand jobs along.
 fn compare(rounds: usize, seed: u64) -> [[usize; 3]; 9] {
@@ -45,23 +28,13 @@ fn compare(rounds: usize, seed: u64) -> [[usize; 3]; 9] {
             }
             let (after, values) = calls::same(both, call, &damaged, &mut random);
             counts[kind(call)][values.is_ok() as usize] += 1;
-            counts[kind(call)][2] += values.map_or(0, |v| moves(call, &v) as usize);
+            counts[kind(call)][2] += values.is_ok_and(|v| moved(call, v).unwrap_or(0) != 0) as usize;
             if damaged == t {
                 t = after;
             }
         }
     }
     counts
-}
-
-/// Whether jobs changed holder.
-fn moves(call: Call, values: &[u32]) -> bool {
-    match call {
-        Call::Arrival(..) => values[2] != 0,
-        Call::Closing(..) => values[1] != 0,
-        Call::Levelling(..) => values[0] != 0,
-        _ => false,
-    }
 }
 
 fn main() {

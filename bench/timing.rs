@@ -1,17 +1,20 @@
-//! Least times of calls on the same table.
+//! Least times of calls, taken in turn.
 use crate::calls::{Call, Perform};
 use std::hint::black_box;
 use std::time::{Duration, Instant};
 
-/// A batch takes about so long, there are so many of each, and together they take at most about so long.
+/// A batch takes at least so long, there are so many of each, and together they take at most about so long.
 const BATCH: Duration = Duration::from_micros(500);
 const ROUNDS: usize = 150;
 const WHOLE: Duration = Duration::from_millis(1500);
 
-/// Performs as many calls as it is told.
+/// An implementation, a table, and calls, all of the same kind and accepted, each made on the table as it is here.
+pub struct Task<'a>(pub Perform, pub &'a [u8], pub &'a [Call]);
+
+/// Performs a task's calls as many times as it is told.
 type Run<'a> = Box<dyn FnMut(usize) + 'a>;
 
-/// Microseconds a call of each run: batches in turn, and of each the least, so that what else the machine does counts little.
+/// Microseconds of each run: batches in turn, and of each the least, so that what else the machine does counts little.
 fn least(mut runs: Vec<Run>) -> Vec<f64> {
     let begin = Instant::now();
     let sizes: Vec<_> = runs.iter_mut().map(long_enough).collect();
@@ -42,59 +45,54 @@ fn long_enough(run: &mut Run) -> usize {
     }
 }
 
-/// Asks questions; the table stays as it is.
-fn asking<'a>(perform: Perform, t: &[u8], calls: &'a [Call]) -> Run<'a> {
-    let (mut t, mut list) = (t.to_vec(), [0; 1000]);
-    Box::new(move |n| {
-        for &call in calls.iter().cycle().take(n) {
-            let _ = black_box(perform(black_box(call), black_box(&mut t), &mut list));
-        }
-    })
+impl<'a> Task<'a> {
+    /// Whether the next call needs the table anew. Blanking writes, but does not look at what it writes over.
+    fn changes(&self) -> bool {
+        matches!(self.2[0], Call::Arrival(..) | Call::Closing(..) | Call::Levelling(..))
+    }
+
+    /// Whole rounds of the calls, so that every implementation performs each of them equally often.
+    fn run(&self) -> Run<'a> {
+        let (&Task(perform, table, calls), changes) = (self, self.changes());
+        let (mut t, mut list) = (table.to_vec(), [0; 1000]);
+        Box::new(move |n| {
+            for _ in 0..n {
+                for &call in calls {
+                    if changes {
+                        t.copy_from_slice(black_box(table));
+                    }
+                    let _ = black_box(perform(black_box(call), black_box(&mut t), &mut list));
+                }
+            }
+        })
+    }
 }
 
-/// Performs calls that change the table, each on a fresh copy.
-fn changing<'a>(perform: Perform, t: &'a [u8], calls: &'a [Call]) -> Run<'a> {
-    let mut copy = t.to_vec();
-    Box::new(move |n| {
-        for &call in calls.iter().cycle().take(n) {
-            copy.copy_from_slice(black_box(t));
-            let _ = black_box(perform(black_box(call), black_box(&mut copy), &mut []));
-        }
-    })
-}
-
-/// Makes the fresh copies alone.
-fn copying<'a>(t: &'a [u8]) -> Run<'a> {
-    let mut copy = t.to_vec();
+/// Makes fresh copies alone.
+fn copying(table: &[u8]) -> Run<'_> {
+    let mut t = table.to_vec();
     Box::new(move |n| {
         for _ in 0..n {
-            copy.copy_from_slice(black_box(t));
-            black_box(&mut copy);
+            t.copy_from_slice(black_box(table));
+            black_box(&mut t);
         }
     })
 }
 
-/// Whether a call writes to the table.
-fn changes(call: Call) -> bool {
-    matches!(call, Call::Blank(..) | Call::Arrival(..) | Call::Closing(..) | Call::Levelling(..))
-}
-
-/// An implementation, and calls for it: all of the same kind and all accepted.
-pub type Task<'a> = (Perform, &'a [Call]);
-
-/// Microseconds a call of each task, the mean over its calls, all on the same table. What copying takes, timed in turn with the tasks, is
-/// taken off those that change the table.
-pub fn times<const N: usize>(tasks: [Task; N], t: &[u8]) -> [f64; N] {
-    let mut runs = vec![];
-    for (perform, calls) in tasks {
-        for &call in calls {
-            assert!(perform(call, &mut t.to_vec(), &mut [0; 1000]).is_ok(), "{call:?} is refused");
+/// Microseconds a call of each task, the mean over its calls. What copying a table of that length takes, timed in turn with the tasks, is
+/// taken off those that change it.
+pub fn times<const N: usize>(tasks: [Task; N]) -> [f64; N] {
+    for Task(perform, table, calls) in &tasks {
+        for &call in *calls {
+            assert!(perform(call, &mut table.to_vec(), &mut [0; 1000]).is_ok(), "{call:?} is refused");
         }
-        runs.push(if changes(calls[0]) { changing(perform, t, calls) } else { asking(perform, t, calls) });
     }
-    if tasks.iter().any(|(_, calls)| changes(calls[0])) {
-        runs.push(copying(t));
-    }
-    let times = least(runs);
-    std::array::from_fn(|i| if changes(tasks[i].1[0]) { times[i] - times[N] } else { times[i] })
+    let mut copied = tasks.each_ref().map(|task| task.1).to_vec();
+    copied.dedup_by_key(|table| table.len());
+    let times = least(tasks.iter().map(Task::run).chain(copied.iter().map(|table| copying(table))).collect());
+    std::array::from_fn(|i| {
+        let Task(_, table, calls) = tasks[i];
+        let copy = copied.iter().position(|other| other.len() == table.len()).unwrap();
+        times[i] / calls.len() as f64 - if tasks[i].changes() { times[N + copy] } else { 0.0 }
+    })
 }

@@ -1,0 +1,50 @@
+//! That all implementations answer alike.
+use crate::boards::{self, Random};
+use crate::{calls, independent};
+use crate::{INDEPENDENT, PLAIN, PROVED};
+
+const ROUNDS: usize = 200_000;
+
+/// Sizes of a board to compare on: mostly small, now and then large.
+fn some_sizes(random: &mut Random) -> (usize, usize) {
+    match random.below(400) {
+        0 => (2 + random.below(499), 1 + random.below(600)),
+        1 => (2 + random.below(499), 1 + random.below(4000)),
+        2..=9 => (1, 1 + random.below(12)),
+        _ => (2 + random.below(8), 1 + random.below(14)),
+    }
+}
+
+/// All calls on sound and damaged tables, four on each board: the implementations must answer alike and leave the same bytes. Counts the
+/// answers: accepted, then refused with 1 to 8.
+fn compare() -> [usize; 9] {
+    let mut random = Random(1);
+    let mut answers = [0; 9];
+    for _ in 0..ROUNDS / 4 {
+        let (benches, jobs) = some_sizes(&mut random);
+        let mut t = calls::random_table(benches, jobs, &mut random, |t| {
+            independent::levelling(t, u32::MAX).unwrap();
+        });
+        for _ in 0..4 {
+            let call = calls::random_call(&t, &mut random);
+            let mut tried = t.clone();
+            let damaged = random.below(8) == 0;
+            if damaged {
+                boards::damage(&mut tried, &mut random);
+            }
+            let (after, answer) = calls::same([PROVED, PLAIN, INDEPENDENT], call, &tried, &mut random);
+            answers[answer.err().unwrap_or(0) as usize] += 1;
+            if !damaged {
+                t = after;
+            }
+        }
+    }
+    answers
+}
+
+pub fn print() {
+    let [accepted, refused @ ..] = compare();
+    let refused: Vec<_> = refused.iter().zip(1..).map(|(count, number)| format!("{count} with {number}")).collect();
+    println!("Proved, plain and independent, {ROUNDS} random calls: same answers, tables and lists.");
+    println!("{accepted} accepted; refused {}.", refused.join(", "));
+}

@@ -1,0 +1,132 @@
+//! The boards that are timed, and the calls on each.
+use crate::boards::{self, Job, Random};
+use crate::calls::Call;
+use crate::{independent, INDEPENDENT};
+
+/// The benches that a job names, by its number and B.
+pub type Names = fn(usize, usize, &mut Random) -> [usize; 2];
+
+pub const PAIRS: Names = |_, benches, random| boards::two_benches(benches, random);
+
+/// Either neighbour first, so that a ring whose jobs are all with their first-named bench is not level.
+const RING: Names = |j, benches, random| {
+    let [x, y] = boards::neighbours(j, benches);
+    [[x, y], [y, x]][random.below(2)]
+};
+
+pub const KINDS: [(&str, Names); 2] = [("random pairs", PAIRS), ("ring", RING)];
+
+fn arrival(j: usize, [first, second]: [usize; 2]) -> Call {
+    Call::Arrival(j as u32, first as u32, second as u32)
+}
+
+/// A nearly full board, level, as arrivals in random order leave it: one job number in a hundred is free, and at least one.
+pub fn level(names: Names, benches: usize, jobs: usize, random: &mut Random) -> Vec<u8> {
+    let mut numbers: Vec<_> = (1..=jobs).collect();
+    random.shuffle(&mut numbers);
+    let mut t = boards::blank(benches, jobs);
+    for &j in &numbers[(jobs / 100).max(1)..] {
+        INDEPENDENT(arrival(j, names(j, benches, random)), &mut t, &mut []).unwrap();
+    }
+    t
+}
+
+/// The standing jobs of a sound table, falling.
+pub fn standing(t: &[u8]) -> Vec<Job> {
+    let (benches, jobs) = boards::sizes(t);
+    let job = |j| {
+        let [first, second, holder] = [0, 1, 2].map(|k| boards::get(t, benches + 4 * j + k));
+        (j, [first, second], holder)
+    };
+    (1..=jobs).rev().filter(|&j| boards::stands(t, benches, j)).map(job).collect()
+}
+
+/// The same jobs, each with its first-named bench: what a solver that starts from scratch is given.
+pub fn first_named(t: &[u8]) -> Vec<u8> {
+    let (benches, jobs) = boards::sizes(t);
+    let given: Vec<_> = standing(t).into_iter().map(|(j, names, _)| (j, names, 1)).collect();
+    boards::table(benches, jobs, &given)
+}
+
+/// The same board, its chains in no order.
+fn disordered(t: &[u8], random: &mut Random) -> Vec<u8> {
+    let (benches, jobs) = boards::sizes(t);
+    let mut standing = standing(t);
+    random.shuffle(&mut standing);
+    boards::table(benches, jobs, &standing)
+}
+
+/// Arrivals under free numbers, of jobs like the board's own.
+pub fn arrivals(count: usize, t: &[u8], names: Names, random: &mut Random) -> Vec<Call> {
+    let (benches, jobs) = boards::sizes(t);
+    let free = (1..=jobs).filter(|&j| !boards::stands(t, benches, j)).cycle();
+    free.take(count).map(|j| arrival(j, names(1 + random.below(jobs), benches, random))).collect()
+}
+
+/// Closings of jobs that stand.
+pub fn closings(count: usize, t: &[u8], random: &mut Random) -> Vec<Call> {
+    let standing = standing(t);
+    (0..count).map(|_| Call::Closing(standing[random.below(standing.len())].0 as u32)).collect()
+}
+
+/// On `boards::long_path`, the arrival that moves so many jobs. It names no lighter bench than the one that is so far from the last.
+pub fn arrival_moving(count: usize, benches: usize, jobs: usize) -> Call {
+    let first = benches - count;
+    arrival(jobs, [first, if first == 1 { 2 } else { first - 1 }])
+}
+
+/// On `boards::long_path_back`, the closing that moves so many jobs.
+pub fn closing_moving(count: usize) -> Call {
+    Call::Closing(count as u32 + 1)
+}
+
+fn tightest(t: &[u8]) -> Call {
+    let [heaviest] = independent::heaviest(t).unwrap();
+    Call::TightSet(heaviest, 1000)
+}
+
+fn questions(t: &[u8]) -> Vec<Vec<Call>> {
+    let last = Call::Load(boards::sizes(t).0 as u32);
+    let questions = [Call::FormCheck, Call::LevelCheck, last, Call::Heaviest, tightest(t), Call::TightSet(1, 1000)];
+    questions.map(|question| vec![question]).into()
+}
+
+/// A board to time calls on: its name, its table, and lists of calls, each of one kind.
+pub type Trial = (String, Vec<u8>, Vec<Vec<Call>>);
+
+/// Nearly full boards with the same jobs, level and not.
+fn nearly_full((kind, names): (&str, Names), benches: usize, jobs: usize, random: &mut Random) -> [Trial; 2] {
+    let level = level(names, benches, jobs, random);
+    let changes = [arrivals(16, &level, names, random), closings(16, &level, random), vec![Call::Levelling(u32::MAX)]];
+    let unlevel = first_named(&level);
+    let all = [questions(&level), changes.to_vec()].concat();
+    let some = [vec![vec![Call::LevelCheck], vec![tightest(&unlevel)]], changes.to_vec()].concat();
+    [(format!("{kind}, level"), level, all), (format!("{kind}, not level"), unlevel, some)]
+}
+
+/// Boards for a single call or two: chains in no order, a path through all benches, one bench with all jobs.
+fn special(benches: usize, jobs: usize, random: &mut Random) -> [Trial; 4] {
+    let path = boards::long_path(benches, jobs);
+    let along = vec![vec![Call::LevelCheck], vec![tightest(&path)], vec![arrival_moving(benches - 1, benches, jobs)]];
+    let back = boards::long_path_back(benches, jobs);
+    let heap = boards::heap(benches, jobs, jobs);
+    let disordered = disordered(&level(PAIRS, benches, jobs, random), random);
+    [
+        ("random pairs, chains in no order".into(), disordered, vec![vec![Call::FormCheck]]),
+        ("long path".into(), path, along),
+        ("long path back".into(), back, vec![vec![closing_moving(benches - 1)]]),
+        ("all jobs on bench 1".into(), heap, vec![vec![Call::Levelling(u32::MAX)]]),
+    ]
+}
+
+/// All boards of a size.
+pub fn trials(benches: usize, jobs: usize) -> Vec<Trial> {
+    let random = &mut Random(11);
+    let blanking = vec![vec![Call::Blank(benches as u32, jobs as u32)]];
+    let mut trials = vec![("any".into(), boards::blank(benches, jobs), blanking)];
+    for kind in KINDS {
+        trials.extend(nearly_full(kind, benches, jobs, random));
+    }
+    trials.extend(special(benches, jobs, random));
+    trials
+}
