@@ -1,0 +1,2 @@
+-- What answering a chunk promises.
+pub mod Serving

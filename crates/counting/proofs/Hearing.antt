@@ -1,0 +1,153 @@
+-- A byte of the input, and a chunk: the loop's start, turn and end.
+use Prim.Native.Nat.{ℕ, zero, suc, _+_, _<_, _≤_}
+use native.Mathlib.Omega.{arith}
+use native.Mathlib.Decide.{ℕ-discrete, decLt}
+use native.Mathlib.Numerals.{add-one}
+use mathlib.Core.Path.{_≡_, refl, sym, ap, ap₂, subst, _∙_}
+use mathlib.Core.Logic.{_⊎_, inl, inr, _≢_}
+use mathlib.Core.List.{List, [], _∷_, _++_}
+use lib.ListN.{length, take, getD, set, length-set, length-take}
+use lib.Seq.{take-suc, take-suc-set, length-take-le}
+use Rattle.basics.proofs.Basics.{each-append}
+use Rattle.calls.specs.Answers.{unreadable, refusalNumber}
+use Rattle.lines.specs.Counter as paper
+use Rattle.lines.specs.Counter.{lineFeed, atFirst, unreadableLine}
+use Rattle.lines.specs.Stream.{Place, atEnd, beginning, Unended, still, Goes, lineText, lineAfter}
+use Rattle.lines.proofs.Stream.{goes-line, goes-byte, goes-past, goes-none, goes-then, still-end}
+use Rattle.printing.specs.Wrote.{Wrote}
+use Rattle.printing.proofs.Writing.{wrote-none}
+use Rattle.answer_lines.specs.AnswerLines.{lineMost, refusalText}
+use Rattle.replies.specs.Replies.{Room, counterOf, Answers}
+use Rattle.replies.specs.declared.Counter.{Counter}
+use Rattle.replies.specs.declared.Reply.{Reply}
+use Rattle.counting.specs.Heard.{keptMost, placeOf, Stands, Begins, KeepsByte, Hears, Feeds, Finishes}
+use Rattle.counting.specs.declared.Reader.{Reader}
+use Rattle.counting.specs.declared.Heard.{Heard}
+
+-- before the first byte
+pub begins : (c : Counter) → ((bytes : List ℕ) → counterOf c bytes ≡ atFirst) → Begins (record { counter = c; held = 0 })
+begins c e =
+    let one : List ℕ = 0 ∷ [] in
+    let none : length (take (c .length) one) ≡ 0 = ap (λ (k : paper.Counter). length (k .table)) (e one) in
+    record {
+      stands = λ bytes line b l. record { room = record { long = b; within = omega (arith, none, length-take (c .length) one) }; long = l; held = omega arith; unended = tt };
+      place = λ bytes line. ap (λ (k : paper.Counter). record { counter = k; line = [] }) (e bytes);
+    }
+
+-- a byte for which there is room is kept
+pub keeps-more : (line : List ℕ) (held byte : ℕ) → held < length line → KeepsByte line (set line held byte) held byte (held + 1)
+keeps-more line held byte h =
+    record {
+      long = length-set line held byte;
+      more = λ i. (refl, ap (λ (n : ℕ). take n (set line held byte)) (add-one held) ∙ take-suc-set line held byte h);
+      full = λ i. absurd (omega arith);
+    }
+
+-- another is not
+pub keeps-no-more : (line : List ℕ) (held byte : ℕ) → length line ≤ held → KeepsByte line line held byte held
+keeps-no-more line held byte h = record { long = refl; more = λ i. absurd (omega arith); full = λ i. (refl, refl) }
+
+module _ (r : Reader) (bytes line : List ℕ) (s : Stands r bytes line) where
+  -- a line feed: the line is replied to
+  pub hears-line : (byte : ℕ) (bytes' out out' : List ℕ) (at : ℕ) (p : Reply) → byte ≡ lineFeed → Answers (take (r .held) line) (counterOf (r .counter) bytes) bytes' out out' at p → Hears (placeOf r bytes line) (byte ∷ []) bytes' line out out' at (record { reader = record { counter = p .counter; held = 0 }; at = p .at })
+  hears-line byte bytes' out out' at p e a =
+      let c = counterOf (r .counter) bytes in
+      let l = take (r .held) line in
+      let g = goes-line c l (s .unended) in
+      record {
+        stands = record { room = a .room; long = s .long; held = omega arith; unended = tt };
+        text = lineText c l;
+        wrote = a .wrote;
+        goes = subst (λ (b : ℕ). Goes (placeOf r bytes line) (record { counter = counterOf (p .counter) bytes'; line = [] }) (b ∷ []) (lineText c l)) (sym e) (subst (λ (k : paper.Counter). Goes (placeOf r bytes line) (record { counter = k; line = [] }) (lineFeed ∷ []) (lineText c l)) (sym (a .state)) g);
+        short = a .short;
+      }
+
+  -- another byte
+  pub hears-byte : (byte n : ℕ) (line' out : List ℕ) (at : ℕ) → byte ≢ lineFeed → KeepsByte line line' (r .held) byte n → Hears (placeOf r bytes line) (byte ∷ []) bytes line' out out at (record { reader = record { counter = r .counter; held = n }; at = at })
+  hears-byte byte n line' out at d k =
+      elim (decLt (r .held) (length line)) [
+        | yes h ↦ with-line h (k .more h .0) (k .more h .1)
+        | no h ↦ without (omega (arith, s .long, h)) (k .full (omega (arith, h)))
+      ]
+    where
+      Next : ℕ → List ℕ → Type 0
+      Next n l = Hears (placeOf r bytes line) (byte ∷ []) bytes l out out at (record { reader = record { counter = r .counter; held = n }; at = at })
+
+      hears : Unended (take n line') → n ≤ keptMost → Goes (placeOf r bytes line) (record { counter = counterOf (r .counter) bytes; line = take n line' }) (byte ∷ []) [] → Next n line'
+      hears u m g =
+          record {
+            stands = record { room = s .room; long = k .long ∙ s .long; held = m; unended = u };
+            text = [];
+            wrote = wrote-none out at;
+            goes = g;
+            short = omega arith;
+          }
+
+      with-line : r .held < length line → n ≡ r .held + 1 → take n line' ≡ take (r .held) line ++ (byte ∷ []) → Next n line'
+      with-line h e l =
+          hears (subst Unended (sym l) (each-append (λ (c : ℕ). c ≢ lineFeed) (take (r .held) line) (byte ∷ []) (s .unended) (d, tt))) (omega (arith, e, s .long, h))
+          (subst (λ (k : List ℕ). Goes (placeOf r bytes line) (record { counter = counterOf (r .counter) bytes; line = k }) (byte ∷ []) []) (sym l) (goes-byte (counterOf (r .counter) bytes) (take (r .held) line) byte))
+
+      without : keptMost ≤ r .held → (n ≡ r .held) × (line' ≡ line) → Next n line'
+      without m e =
+          let l : take n line' ≡ take (r .held) line = ap₂ (λ (i : ℕ) (k : List ℕ). take i k) (e .0) (e .1) in
+          let long : 40 < length (take (r .held) line) = omega (arith, length-take-le (r .held) line (omega (arith, s .long, s .held)), m) in
+          hears (subst Unended (sym l) (s .unended)) (omega (arith, e .0, s .held))
+          (subst (λ (k : List ℕ). Goes (placeOf r bytes line) (record { counter = counterOf (r .counter) bytes; line = k }) (byte ∷ []) []) (sym l) (goes-past (counterOf (r .counter) bytes) (take (r .held) line) byte (s .unended) long d))
+
+-- the first `used` bytes of a chunk are heard
+pub record Feeding (a : Place) (chunk out₀ bytes line out : List ℕ) (r : Reader) (used at : ℕ) : Type 0 where
+  pub stands : Stands r bytes line
+  pub long : length out ≡ length out₀
+  pub heard : used ≤ length chunk
+  pub written : at ≤ length out
+  pub none : used ≡ 0 → at ≡ 0
+  pub goes : Goes a (placeOf r bytes line) (take used chunk) (take at out)
+
+pub feeding-start : (r : Reader) (chunk bytes line out : List ℕ) → Stands r bytes line → Feeding (placeOf r bytes line) chunk out bytes line out r 0 0
+feeding-start r chunk bytes line out s =
+    record { stands = s; long = refl; heard = omega arith; written = omega arith; none = λ e. refl; goes = goes-none (placeOf r bytes line) }
+
+module _ {a : Place} {chunk out₀ bytes line out : List ℕ} {r : Reader} {used at : ℕ} (f : Feeding a chunk out₀ bytes line out r used at) where
+  -- one byte more
+  pub feeding-turn : (bytes' line' out' : List ℕ) (h : Heard) → used < length chunk → at + lineMost ≤ length out → Hears (placeOf r bytes line) (getD chunk used 0 ∷ []) bytes' line' out out' at h → Feeding a chunk out₀ bytes' line' out' (h .reader) (used + 1) (h .at)
+  feeding-turn bytes' line' out' h l room n =
+      let b = placeOf (h .reader) bytes' line' in
+      let more : take used chunk ++ (getD chunk used 0 ∷ []) ≡ take (used + 1) chunk = rw add-one (sym (take-suc chunk used 0 l)) in
+      record {
+        stands = n .stands;
+        long = n .wrote .long ∙ f .long;
+        heard = omega arith;
+        written = omega (arith, n .short, n .wrote .long, room);
+        none = λ e. absurd (omega arith);
+        goes = subst (λ (k : List ℕ). Goes a b k (take (h .at) out')) more (subst (λ (k : List ℕ). Goes a b (take used chunk ++ (getD chunk used 0 ∷ [])) k) (sym (n .wrote .written)) (goes-then (f .goes) (n .goes)));
+      }
+
+  -- all of the chunk is heard, or there is no room for another reply
+  pub feeding-end : lineMost ≤ length out₀ → (length chunk ≤ used) ⊎ (length out < at + lineMost) → Feeds a chunk bytes line out (record { reader = r; used = used; written = at })
+  feeding-end room w = record { stands = f .stands; some = some w; used = f .heard; written = f .written; goes = f .goes }
+    where
+      some : (length chunk ≤ used) ⊎ (length out < at + lineMost) → 1 ≤ length chunk → 1 ≤ used
+      some (inl h) l = omega arith
+      some (inr h) l = elim (ℕ-discrete used 0) [ yes e ↦ absurd (omega (arith, f .none e, f .long, room, h)) | no d ↦ omega arith ]
+
+-- no line has begun
+pub finishes-none : (r : Reader) (out : List ℕ) → r .held ≡ 0 → Finishes r out 0
+finishes-none r out e =
+    record {
+      written = omega arith;
+      ends = λ bytes line s. sym (still-end (placeOf r bytes line) (s .unended) ∙ ap (λ (n : ℕ). atEnd (take n line)) e);
+    }
+
+-- one has: it ends without a line feed
+pub finishes-line : (r : Reader) (out out' : List ℕ) (n k : ℕ) → r .held ≢ 0 → lineMost ≤ length out → k ≡ refusalNumber unreadable → Wrote out out' 0 n (refusalText k) → n ≤ lineMost → Finishes r out' n
+finishes-line r out out' n k d room e w short =
+    record {
+      written = omega (arith, w .long, room);
+      ends = λ bytes line s. w .written ∙ ap refusalText e ∙ sym (still-end (placeOf r bytes line) (s .unended) ∙ begun (r .held) line d (omega (arith, s .long)));
+    }
+  where
+    begun : (n : ℕ) (line : List ℕ) → n ≢ 0 → 1 ≤ length line → atEnd (take n line) ≡ unreadableLine
+    begun zero line d l = absurd (d refl)
+    begun (suc n) [] d l = absurd (omega arith)
+    begun (suc n) (c ∷ line) d l = refl

@@ -1,0 +1,14 @@
+-- The reader stands before the first byte.
+use borrow.Author.Needs.{needs}
+use Rattle.counting.proofs.Hearing.{begins}
+use Rattle.counting.proofs.Reader.new.Statement.{statement}
+use Rattle.counting.proofs.Reader.new.Tie as tie
+
+new-requires : tie.Need-new-requires
+new-requires c κs = search needs
+
+returns : tie.Need-returns
+returns c = begins (c .new .result) (c .new .ensures)
+
+pub new-spec : {M : Type 1} → statement M
+new-spec = tie.close (tie.spec new-requires returns)

@@ -1,0 +1,2 @@
+-- The counter program on slices.
+pub mod Heard

@@ -1,0 +1,119 @@
+// The counter program on slices: its input comes in pieces of any size, and each complete line is replied to.
+ghost use mathlib.Core.Path.{_≡_};
+ghost use mathlib.Core.List.{List, [], _∷_};
+ghost use Prim.Native.Nat.{ℕ, _+_, _≤_};
+ghost use lib.ListN.{length, take, set};
+ghost use Rattle.lines.specs.Stream.{beginning};
+ghost use Rattle.answer_lines.specs.AnswerLines.{lineMost};
+ghost use Rattle.counting.specs.Heard.{keptMost, placeOf, Stands, Hears, Feeds, Finishes, Begins, KeepsByte};
+use answers::Refusal;
+use replies::Counter;
+
+// Where the program is in its input: its state, and how many bytes of the present line it keeps.
+pub struct Reader {
+    counter: Counter,
+    held: usize,
+}
+
+// The reader behind a byte, and how many bytes of the output are written.
+pub struct Heard {
+    pub reader: Reader,
+    pub at: usize,
+}
+
+// The reader behind a part of a chunk, how many of the chunk's bytes it heard, and how many of the output's are written.
+pub struct Fed {
+    pub reader: Reader,
+    pub used: usize,
+    pub written: usize,
+}
+
+impl Reader {
+    // The bytes kept of a line: one more than a readable line may have.
+    pub const KEPT_MOST: usize = 41;
+
+    // Before the first byte.
+    pub fn new() -> Reader
+        ensures { λ r. ⌜ Begins r ⌝ }
+    {
+        Reader {
+            counter: Counter::new(),
+            held: 0,
+        }
+    }
+}
+
+// A byte of the line; of a line too long to be readable no more is kept.
+fn keep(line: &mut [u8], held: usize, byte: u8) -> usize
+    requires { ⌜ length (now line) ≡ keptMost ⌝ }
+    ensures { λ r. ⌜ KeepsByte (now (line .entry)) (now (line .exit)) held byte r ⌝ }
+{
+    if held < line.len() {
+        line[held] = byte;
+        return held + 1;
+    }
+    held
+}
+
+// One byte of the input: a line feed ends the line, which is replied to; any other byte belongs to it.
+fn hear(r: Reader, byte: u8, bytes: &mut [u8], line: &mut [u8], out: &mut [u8], at: usize) -> Heard
+    requires { ⌜ Stands r (now bytes) (now line) ⌝ }
+    requires { ⌜ at + lineMost ≤ length (now out) ⌝ }
+    ensures { λ h. ⌜ Hears (placeOf r (now (bytes .entry)) (now (line .entry))) (byte ∷ []) (now (bytes .exit)) (now (line .exit)) (now (out .entry)) (now (out .exit)) at h ⌝ }
+{
+    let counter = r.counter;
+    let held = r.held;
+    if byte == b'\n' {
+        let reply = replies::to_line(counter, &line[..held], bytes, out, at);
+        let next = reply.counter;
+        return Heard {
+            reader: Reader {
+                counter: next,
+                held: 0,
+            },
+            at: reply.at,
+        };
+    }
+    let kept = keep(line, held, byte);
+    Heard {
+        reader: Reader {
+            counter,
+            held: kept,
+        },
+        at,
+    }
+}
+
+// A chunk of the input, as far as the output has room for another reply.
+pub fn feed(r: Reader, chunk: &[u8], bytes: &mut [u8], line: &mut [u8], out: &mut [u8]) -> Fed
+    requires { ⌜ Stands r (now bytes) (now line) ⌝ }
+    requires { ⌜ lineMost ≤ length (now out) ⌝ }
+    ensures { λ f. ⌜ Feeds (placeOf r (now (bytes .entry)) (now (line .entry))) (now (chunk .entry)) (now (bytes .exit)) (now (line .exit)) (now (out .exit)) f ⌝ }
+{
+    let mut reader = r;
+    let mut used = 0;
+    let mut at = 0;
+    while used < chunk.len() && answer_lines::LINE_MOST <= out.len() - at {
+        let h = hear(reader, chunk[used], bytes, line, out, at);
+        let next = h.reader;
+        reader = next;
+        at = h.at;
+        used += 1;
+    }
+    Fed {
+        reader,
+        used,
+        written: at,
+    }
+}
+
+// Where the input ends: "a last line without a line feed, gives 10".
+pub fn finish(r: Reader, out: &mut [u8]) -> usize
+    requires { ⌜ lineMost ≤ length (now out) ⌝ }
+    ensures { λ n. ⌜ Finishes r (now (out .exit)) n ⌝ }
+{
+    if r.held == 0 {
+        return 0;
+    }
+    answer_lines::refusal(out, 0, Refusal::Unreadable.number() as usize)
+}

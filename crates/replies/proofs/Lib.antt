@@ -1,0 +1,2 @@
+-- What the replies are.
+pub mod Replying

@@ -1,0 +1,62 @@
+-- The tight set's line with the benches that are in the list; the state stays.
+use borrow.Author.Needs.{needs}
+use lib.ListN.{take}
+use Rattle.replies.proofs.Replying.{table-long, listed-fits, list-short, tight-replies}
+use Rattle.replies.proofs.ask_tight_set.Statement.{statement}
+use Rattle.replies.proofs.ask_tight_set.Tie as tie
+
+zero-list-requires : tie.Need-zero-list-requires
+zero-list-requires c κs = search needs
+
+slice-aggregate-tight-set : tie.Need-slice-aggregate-tight-set
+slice-aggregate-tight-set c = table-long (c .before .before .before .before .pre .0)
+
+slice-aggregate-tight-set-2 : tie.Need-slice-aggregate-tight-set-2
+slice-aggregate-tight-set-2 c = search needs
+
+tight-set-requires : tie.Need-tight-set-requires
+tight-set-requires c κs = search needs
+
+one-requires : tie.Need-one-requires
+one-requires c κs = search needs
+
+slice-aggregate-listing : tie.Need-slice-aggregate-listing
+slice-aggregate-listing c = search needs
+
+listing-requires : tie.Need-listing-requires
+listing-requires c κs =
+    let called = c .before .before .before .before in
+    let list = called .before .before .before in
+    let args = list .before .before .before .args in (
+      search needs,
+      (
+        listed-fits (take (args .c .length) (args .bytes .now)) (list .zero-list .result) (args .height) (called .tight-set .ensures),
+        list-short (called .tight-set .last .1 .1 .0) (list .zero-list .ensures) (called .tight-set .kept .1 .1 .0),
+      ),
+    )
+
+same-length : tie.Need-same-length
+same-length c = search needs
+
+returns : tie.Need-returns
+returns c =
+    let told = c .before .before in
+    let number = told .before .before in
+    let called = number .before .before .before in
+    let list = called .before .before .before in
+    let start = list .before .before .before in
+    tight-replies (start .pre .0) (start .args .height) (list .zero-list .ensures) (called .tight-set .ensures) (number .one .ensures) (told .listing .ensures .0) (told .listing .ensures .1)
+
+pub ask-tight-set-spec : {M : Type 1} → statement M
+ask-tight-set-spec =
+    tie.close
+    (tie.spec
+    zero-list-requires
+    slice-aggregate-tight-set
+    slice-aggregate-tight-set-2
+    tight-set-requires
+    one-requires
+    slice-aggregate-listing
+    listing-requires
+    same-length
+    returns)
