@@ -12,12 +12,12 @@ use Rattle.basics.proofs.Basics.{each-append}
 use Rattle.calls.specs.Answers.{unreadable, refusalNumber}
 use Rattle.lines.specs.Counter as paper
 use Rattle.lines.specs.Counter.{lineFeed, atFirst, unreadableLine}
-use Rattle.lines.specs.Stream.{Place, atEnd, beginning, Unended, still, Goes, lineText, lineAfter}
+use Rattle.lines.specs.Stream.{Place, atEnd, Unended, Goes, lineText}
 use Rattle.lines.proofs.Stream.{goes-line, goes-byte, goes-past, goes-none, goes-then, still-end}
 use Rattle.printing.specs.Wrote.{Wrote}
 use Rattle.printing.proofs.Writing.{wrote-none}
 use Rattle.answer_lines.specs.AnswerLines.{lineMost, refusalText}
-use Rattle.replies.specs.Replies.{Room, counterOf, Answers}
+use Rattle.replies.specs.Replies.{counterOf, Answers}
 use Rattle.replies.specs.declared.Counter.{Counter}
 use Rattle.replies.specs.declared.Reply.{Reply}
 use Rattle.counting.specs.Heard.{keptMost, placeOf, Stands, Begins, KeepsByte, Hears, Feeds, Finishes}

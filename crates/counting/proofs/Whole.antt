@@ -1,24 +1,23 @@
 -- The whole of the program's input: what is printed for it, piece by piece, is what the definition prints.
 use Prim.Native.Nat.{ℕ}
-use mathlib.Core.Path.{_≡_, sym, ap, subst, _∙_}
+use mathlib.Core.Path.{_≡_, ap, subst, _∙_}
 use mathlib.Core.List.{List, _++_}
-use lib.ListN.{length, take}
+use lib.ListN.{take}
 use Rattle.lines.specs.Counter.{counter}
-use Rattle.lines.specs.Stream.{Place, beginning, Run, ended, then, atEnd}
+use Rattle.lines.specs.Stream.{Place, Run, ended, then}
 use Rattle.lines.proofs.Stream.{joint, still-end, however-cut}
-use Rattle.replies.specs.Replies.{tableMost}
-use Rattle.counting.specs.Heard.{keptMost, placeOf, Stands, Begins, Finishes, Session, over, fed}
+use Rattle.counting.specs.Heard.{placeOf, Stands, Begins, Finishes, Feedings, over, fed}
 use Rattle.counting.specs.declared.Reader.{Reader}
 
 -- calls of `feed` are a run of the definition
-session-runs : {a b : Place} {heards texts : List (List ℕ)} → Session b a heards texts → Run b a heards texts
-session-runs over = ended
-session-runs (fed f s) = then (f .goes) (session-runs s)
+feedings-run : {a b : Place} {heards texts : List (List ℕ)} → Feedings b a heards texts → Run b a heards texts
+feedings-run over = ended
+feedings-run (fed f s) = then (f .goes) (feedings-run s)
 
 -- from the first byte to the last, however the input is cut into chunks: what `feed` and at last `finish` wrote is what the definition
 -- prints for the whole input
-pub counting-whole : (first last : Reader) (bytes line bytes' line' out : List ℕ) (n : ℕ) (heards texts : List (List ℕ)) → Begins first → Session (placeOf last bytes' line') (placeOf first bytes line) heards texts → Stands last bytes' line' → Finishes last out n → joint texts ++ take n out ≡ counter (joint heards)
+pub counting-whole : (first last : Reader) (bytes line bytes' line' out : List ℕ) (n : ℕ) (heards texts : List (List ℕ)) → Begins first → Feedings (placeOf last bytes' line') (placeOf first bytes line) heards texts → Stands last bytes' line' → Finishes last out n → joint texts ++ take n out ≡ counter (joint heards)
 counting-whole first last bytes line bytes' line' out n heards texts b s stands f =
     let p = placeOf last bytes' line' in
-    let run = subst (λ (a : Place). Run p a heards texts) (b .place bytes line) (session-runs s) in
+    let run = subst (λ (a : Place). Run p a heards texts) (b .place bytes line) (feedings-run s) in
     ap (λ (l : List ℕ). joint texts ++ l) (f .ends bytes' line' stands ∙ still-end p (stands .unended)) ∙ however-cut p heards texts run (stands .unended)

@@ -60,6 +60,6 @@ pub record Finishes (r : Reader) (out : List ℕ) (n : ℕ) : Type 0 where
   pub ends : (bytes line : List ℕ) → Stands r bytes line → take n out ≡ still (placeOf r bytes line) []
 
 -- calls of `feed` one after the other from place a to b: what each heard of its chunk, and what it wrote
-pub data Session (b : Place) : Place → List (List ℕ) → List (List ℕ) → Type 0 where
-  over : Session b b [] []
-  fed : {a : Place} {chunk bytes line out : List ℕ} {f : Fed} {heards texts : List (List ℕ)} → Feeds a chunk bytes line out f → Session b (placeOf (f .reader) bytes line) heards texts → Session b a (take (f .used) chunk ∷ heards) (take (f .written) out ∷ texts)
+pub data Feedings (b : Place) : Place → List (List ℕ) → List (List ℕ) → Type 0 where
+  over : Feedings b b [] []
+  fed : {a : Place} {chunk bytes line out : List ℕ} {f : Fed} {heards texts : List (List ℕ)} → Feeds a chunk bytes line out f → Feedings b (placeOf (f .reader) bytes line) heards texts → Feedings b a (take (f .used) chunk ∷ heards) (take (f .written) out ∷ texts)

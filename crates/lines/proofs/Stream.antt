@@ -1,15 +1,14 @@
 -- The input as it comes in: what is printed does not depend on where it is cut.
 use Prim.Native.Nat.{ℕ, _+_, _<_}
 use native.Mathlib.Omega.{arith}
-use mathlib.Core.Path.{_≡_, refl, sym, ap, ap₂, _∙_}
+use mathlib.Core.Path.{_≡_, refl, sym, ap, _∙_}
 use mathlib.Core.Logic.{_≢_}
 use mathlib.Core.Bool.{Bool, true, false, cond}
 use mathlib.Core.List.{List, [], _∷_, _++_, append-assoc, append-nil, flatMap}
 use mathlib.Core.Option.{Option, none, some}
 use lib.Dec.{eqb}
 use lib.ListN.{length, length-append}
-use Rattle.basics.specs.Lists.{Each, empty}
-use Rattle.lines.specs.Counter.{Counter, Command, lineFeed, pieces, onto, command, lineFor, done, after, unreadableLine, prints, counter, atFirst}
+use Rattle.lines.specs.Counter.{Counter, Command, lineFeed, pieces, onto, command, lineFor, done, after, unreadableLine, prints, counter}
 use Rattle.lines.specs.Stream.{lineText, lineAfter, Place, beginning, Unended, still, Goes, Run, ended, then, atEnd}
 use Rattle.lines.proofs.Counter.{before-piece, long-unreadable}
 use Rattle.lines.proofs.CounterRun.{unreadable-line}

@@ -1,6 +1,5 @@
 -- The tight set's line with the benches that are in the list; the state stays.
 use borrow.Author.Needs.{needs}
-use lib.ListN.{take}
 use Rattle.replies.proofs.Replying.{table-long, listed-fits, list-short, tight-replies}
 use Rattle.replies.proofs.ask_tight_set.Statement.{statement}
 use Rattle.replies.proofs.ask_tight_set.Tie as tie
@@ -26,11 +25,10 @@ slice-aggregate-listing c = search needs
 listing-requires : tie.Need-listing-requires
 listing-requires c κs =
     let called = c .before .before .before .before in
-    let list = called .before .before .before in
-    let args = list .before .before .before .args in (
+    let list = called .before .before .before in (
       search needs,
       (
-        listed-fits (take (args .c .length) (args .bytes .now)) (list .zero-list .result) (args .height) (called .tight-set .ensures),
+        listed-fits _ _ _ (called .tight-set .ensures),
         list-short (called .tight-set .last .1 .1 .0) (list .zero-list .ensures) (called .tight-set .kept .1 .1 .0),
       ),
     )
