@@ -6,7 +6,7 @@ use native.Mathlib.Numerals.{add-one}
 use mathlib.Core.Path.{_≡_, refl, sym, ap, ap₂, subst, _∙_}
 use mathlib.Core.Logic.{_⊎_, inl, inr, _≢_}
 use mathlib.Core.List.{List, [], _∷_, _++_}
-use lib.ListN.{length, take, getD, set, length-set, length-take}
+use lib.ListN.{length, take, getD, set, length-set}
 use lib.Seq.{take-suc, take-suc-set, length-take-le}
 use Rattle.basics.proofs.Basics.{each-append}
 use Rattle.calls.specs.Answers.{unreadable, refusalNumber}
@@ -17,20 +17,19 @@ use Rattle.lines.proofs.Stream.{goes-line, goes-byte, goes-past, goes-none, goe
 use Rattle.printing.specs.Wrote.{Wrote}
 use Rattle.printing.proofs.Writing.{wrote-none}
 use Rattle.answer_lines.specs.AnswerLines.{lineMost, refusalText}
-use Rattle.replies.specs.Replies.{counterOf, Answers}
-use Rattle.replies.specs.declared.Counter.{Counter}
-use Rattle.replies.specs.declared.Reply.{Reply}
+use Rattle.performing.specs.Performed.{counterOf}
+use Rattle.performing.specs.declared.Counter.{Counter}
+use Rattle.performing.specs.declared.Reply.{Reply}
+use Rattle.replies.specs.Replies.{Answers}
 use Rattle.counting.specs.Heard.{keptMost, placeOf, Stands, Begins, KeepsByte, Hears, Feeds, Finishes}
 use Rattle.counting.specs.declared.Reader.{Reader}
 use Rattle.counting.specs.declared.Heard.{Heard}
 
 -- before the first byte
-pub begins : (c : Counter) → ((bytes : List ℕ) → counterOf c bytes ≡ atFirst) → Begins (record { counter = c; held = 0 })
-begins c e =
-    let one : List ℕ = 0 ∷ [] in
-    let none : length (take (c .length) one) ≡ 0 = ap (λ (k : paper.Counter). length (k .table)) (e one) in
+pub begins : (c : Counter) → c .length ≡ 0 → ((bytes : List ℕ) → counterOf c bytes ≡ atFirst) → Begins (record { counter = c; held = 0 })
+begins c none e =
     record {
-      stands = λ bytes line b l. record { room = record { long = b; within = omega (arith, none, length-take (c .length) one) }; long = l; held = omega arith; unended = tt };
+      stands = λ bytes line b l. record { room = record { long = b; within = omega (arith, none) }; long = l; held = omega arith; unended = tt };
       place = λ bytes line. ap (λ (k : paper.Counter). record { counter = k; line = [] }) (e bytes);
     }
 

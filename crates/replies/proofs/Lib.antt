@@ -1,2 +1,2 @@
--- What the replies are.
+-- What the replies to lines are.
 pub mod Replying

@@ -1,160 +1,31 @@
--- The program's table as a part of its bytes, and the replies to commands and lines.
-use Prim.Native.Nat.{ℕ, _+_, _*_, _≤_}
-use Prim.Native.Char.{code}
-use native.Mathlib.Omega.{arith}
+-- The replies to commands, by their names in code, and to lines.
+use Prim.Native.Nat.{ℕ}
 use mathlib.Core.Path.{_≡_, refl, sym, ap, subst, _∙_}
-use mathlib.Core.List.{List, [], _∷_, _++_}
-use mathlib.Core.Bool.{true}
-use mathlib.Core.Option.{Option, none, some}
-use lib.ListN.{length, take, drop, length-append}
-use lib.Seq.{take-at, length-take-le, length-front}
-use Rattle.basics.specs.Lists.{nth}
-use Rattle.layout.specs.Table.{words, bytesOf, lengthFor, sizesFit, decode, blankTable, mostBenches}
-use Rattle.rules.specs.Sharing.{tightSet}
-use Rattle.calls.specs.Answers.{Outcome, Refusal, inNumbers, settled, firstHolding, sizes, unreadable, blanked, refusalNumber}
-use Rattle.calls.specs.Calls.{outcome, blanking, arrival, closing, heaviestLoad, tightSetOf, answering, accepted, tightSetOutcome, formConditions, conditions}
-use Rattle.calls.specs.Tally.{Tally, zeroTally, noted}
-use Rattle.calls.proofs.Blanking.{blanking-refused}
-use Rattle.layout.proofs.Words.{length-bytesOf}
+use mathlib.Core.List.{List}
+use Rattle.calls.specs.Answers.{unreadable, refusalNumber}
 use Rattle.lines.specs.Counter as paper
-use Rattle.lines.specs.Counter.{takeIn, closeJob, setTable, askTightSet, askHeaviest, counterList, lineFor, done, after, command}
+use Rattle.lines.specs.Counter.{command}
 use Rattle.lines.specs.Stream.{lineText, lineAfter}
-use Rattle.lines.proofs.Counter.{list-holds-all}
-use Rattle.lines.proofs.CounterRun.{room-fits}
-use Rattle.size.specs.Sizes.{sizing}
-use Rattle.size.specs.declared.Size.{Size}
-use Rattle.size.specs.declared.Sizing.the-variants.{Fit, Misfit}
-use Rattle.size.proofs.Sizes.{fit-sizing, sizes-fit, sizes-refused}
-use Rattle.answers.specs.Answered.{answerOf, Leaves}
-use Rattle.answers.specs.declared.Answer.{Answer}
 use Rattle.tally.specs.Counts.{tallyOf}
 use Rattle.commands.specs.Read.{commandOf, readingOf}
 use Rattle.commands.specs.declared.Command.{Command}
 use Rattle.commands.specs.declared.Reading.{Reading}
 use Rattle.commands.specs.declared.Reading.the-variants.{Readable, Unreadable}
-use Rattle.printing.specs.Wrote.{Wrote}
-use Rattle.answer_lines.specs.AnswerLines.{lineMost, refusalText, answerText}
-use Rattle.replies.specs.Replies.{tableMost, counterOf, Room, Replies, Told, Performs, Answers}
-use Rattle.replies.specs.declared.Counter.{Counter}
-use Rattle.replies.specs.declared.Reply.{Reply}
-
--- a part of a list at its beginning, written anew in its length
-part-kept : (n : ℕ) (d e : List ℕ) → n ≤ length d → length e ≡ length (take n d) → (take n (e ++ drop n d) ≡ e) × (length (e ++ drop n d) ≡ length d)
-part-kept n d e h k = (take-at e (drop n d) n (k ∙ length-take-le n d h), length-front d e n k)
-
--- a state handed back with a line that is written
-pub tells : (c : Counter) {text text' out out' : List ℕ} {at next : ℕ} → text ≡ text' → Wrote out out' at next text → next ≤ at + lineMost → Told (c .length) (tallyOf (c .tally)) text' out out' at (record { counter = c; at = next })
-tells c {text} {text'} {out} {out'} {at} {next} e w h =
-    record { length = refl; tally = refl; wrote = subst (Wrote out out' at next) e w; short = h }
-
--- what is told is the reply, where the bytes hold the state's table
-replied : {next : paper.Counter} {n : ℕ} {tally : Tally} {text text' bytes out out' : List ℕ} {at : ℕ} {r : Reply} → length bytes ≡ tableMost → n ≤ tableMost → take n bytes ≡ next .table → tally ≡ next .tally → text ≡ text' → Told n tally text out out' at r → Replies next text' bytes out out' at r
-replied {next} {n} {tally} {text} {text'} {bytes} {out} {out'} {at} {r} l h t y e told =
-    record {
-      room = record { long = l; within = subst (λ (m : ℕ). m ≤ tableMost) (sym (told .length)) h };
-      state = λ i. record { table = (ap (λ (m : ℕ). take m bytes) (told .length) ∙ t) i; tally = (told .tally ∙ y) i };
-      wrote = subst (Wrote out out' at (r .at)) e (told .wrote);
-      short = told .short;
-    }
-
--- a tight set's benches are in the list that is left; a refusal has none
-pub listed-fits : (t list : List ℕ) (h : ℕ) {u l : List ℕ} {a : Answer} → Leaves (outcome (tightSetOf h list) t) a u l → 2 * nth (inNumbers (answerOf a)) 2 0 ≤ length l
-unfolding outcome accepted tightSetOutcome
-listed-fits t list h v = rw (v .answer, v .listed) (go (firstHolding (formConditions t ++ conditions (tightSetOf h list) (decode t))))
-  where
-    go : (f : Option Refusal) → let o = settled f t list (accepted (tightSetOf h list) t (decode t)) in 2 * nth (inNumbers (o .answer)) 2 0 ≤ length (o .list)
-    go none = let set = tightSet (decode t) h in omega (arith, length-append (bytesOf set) (drop (2 * length set) list), length-bytesOf set)
-    go (some r) = omega arith
-
--- the list has no more words than there are benches
-pub list-short : (l : List ℕ) {list : List ℕ} → list ≡ counterList → length l ≡ length list → length l ≤ 2 * mostBenches
-list-short l e k = omega (arith, ap length e, list-holds-all)
-
--- where the sizes fit, blanking does not look at the old bytes
-blanks : (benches jobs : ℕ) (t : List ℕ) → sizesFit (length t) benches jobs ≡ true → blanking benches jobs t ≡ answering (blankTable benches jobs) blanked
-unfolding blanking
-blanks benches jobs t e = rw e
-
--- the program has bytes for every size
-pub size-within : (benches jobs : ℕ) {s : Size} {n : ℕ} → sizing benches jobs ≡ Fit s → n ≡ lengthFor (s .benches) (s .jobs) → n ≤ tableMost
-size-within benches jobs {s} {n} e b = omega (arith, (fit-sizing benches jobs s e) .0)
-
--- a part is as long as it is taken
-pub part-long : (n : ℕ) (d : List ℕ) → length d ≡ tableMost → n ≤ tableMost → n ≡ length (take n d)
-part-long n d l h = sym (length-take-le n d (omega arith))
-
-module _ {c : Counter} {d : List ℕ} (room : Room c d) where
-  -- the program has the bytes that its state speaks of
-  pub table-long : c .length ≡ length (take (c .length) d)
-  table-long = part-long (c .length) d (room .long) (room .within)
-
-  module _ {out out' : List ℕ} {at : ℕ} {r : Reply} where
-    -- the state stays
-    stays : {text text' : List ℕ} → text ≡ text' → Told (c .length) (tallyOf (c .tally)) text out out' at r → Replies (counterOf c d) text' d out out' at r
-    stays e told = replied (room .long) (room .within) refl refl e told
-
-    -- a line that is not readable
-    pub unread-replies : (line : List ℕ) {m : Reading} → readingOf m ≡ command line → m ≡ Unreadable → Told (c .length) (tallyOf (c .tally)) (refusalText (refusalNumber unreadable)) out out' at r → Answers line (counterOf c d) d out out' at r
-    unfolding lineText lineAfter
-    unread-replies line {m} e f told = rw (lineText, lineAfter, sym e ∙ ap readingOf f) (stays refl told)
-
-    -- "a refused B keeps the old table"
-    pub misfit-replies : (benches jobs : ℕ) → sizing benches jobs ≡ Misfit → Told (c .length) (tallyOf (c .tally)) (refusalText (refusalNumber sizes)) out out' at r → Performs (setTable benches jobs) (counterOf c d) d out out' at r
-    unfolding lineFor done after
-    misfit-replies benches jobs e told =
-        let own = paper.room benches jobs in
-        rw (blanking-refused benches jobs own (sizes-refused (length own) benches jobs e)) (stays refl told)
-
-    module _ {a : Answer} {u ns : List ℕ} where
-      -- "H heaviest"
-      pub heaviest-replies : Leaves (outcome heaviestLoad (take (c .length) d)) a u [] → ns ≡ [] → Told (c .length) (tallyOf (c .tally)) (answerText (code "H") ns (answerOf a) []) out out' at r → Performs askHeaviest (counterOf c d) d out out' at r
-      unfolding lineFor done after
-      heaviest-replies v e told = stays (λ i. answerText (code "H") (e i) (v .answer i) []) told
-
-      module _ {n : ℕ} {t : Tally} (same : n ≡ c .length) (counts : t ≡ (noted (tallyOf (c .tally)) (answerOf a)) .tally) where
-        -- an arrival or a closing: its answer is noted
-        changes : (letter : ℕ) {o : Outcome} {ms : List ℕ} → Leaves o a u [] → length u ≡ length (take (c .length) d) → ns ≡ ms → Told n t (answerText letter ns (answerOf a) []) out out' at r → Replies (record { table = o .table; tally = (noted (tallyOf (c .tally)) (o .answer)) .tally }) (answerText letter ms (o .answer) []) (u ++ drop (c .length) d) out out' at r
-        changes letter {o} v kept e told =
-            let k = part-kept (c .length) d u (omega arith) kept in
-            replied (k .1 ∙ room .long) (subst (λ (m : ℕ). m ≤ tableMost) (sym same) (room .within))
-            (ap (λ (m : ℕ). take m (u ++ drop (c .length) d)) same ∙ k .0 ∙ v .bytes)
-            (counts ∙ (λ i. (noted (tallyOf (c .tally)) (v .answer i)) .tally))
-            (λ i. answerText letter (e i) (v .answer i) []) told
-
-        -- "A job, holder, bench that rose, moved"
-        pub arrival-replies : (j x y : ℕ) → Leaves (outcome (arrival j x y) (take (c .length) d)) a u [] → length u ≡ length (take (c .length) d) → ns ≡ j ∷ [] → Told n t (answerText (code "A") ns (answerOf a) []) out out' at r → Performs (takeIn j x y) (counterOf c d) (u ++ drop (c .length) d) out out' at r
-        unfolding lineFor done after
-        arrival-replies j x y v kept e told = changes (code "A") v kept e told
-
-        -- "D job, bench that fell, moved"
-        pub closing-replies : (j : ℕ) → Leaves (outcome (closing j) (take (c .length) d)) a u [] → length u ≡ length (take (c .length) d) → ns ≡ j ∷ [] → Told n t (answerText (code "D") ns (answerOf a) []) out out' at r → Performs (closeJob j) (counterOf c d) (u ++ drop (c .length) d) out out' at r
-        unfolding lineFor done after
-        closing-replies j v kept e told = changes (code "D") v kept e told
-
-      -- "B benches jobs": the table is blank and the tally zero, whatever was before
-      pub table-replies : (benches jobs : ℕ) {s : Size} {n : ℕ} {t : Tally} → sizing benches jobs ≡ Fit s → n ≡ lengthFor (s .benches) (s .jobs) → Leaves (blanking benches jobs (take n d)) a u [] → length u ≡ length (take n d) → t ≡ zeroTally → ns ≡ benches ∷ jobs ∷ [] → Told n t (answerText (code "B") ns (answerOf a) []) out out' at r → Performs (setTable benches jobs) (counterOf c d) (u ++ drop n d) out out' at r
-      unfolding lineFor done after
-      table-replies benches jobs {s} {n} {t} e b v kept z f told =
-          let within = size-within benches jobs e b in
-          let k = part-kept n d u (omega arith) kept in
-          let own = blanks benches jobs (take n d) (sizes-fit (length (take n d)) benches jobs s e (sym (part-long n d (room .long) within) ∙ b)) in
-          let same = fit-sizing benches jobs s e in
-          let fits = sizes-fit (lengthFor benches jobs) benches jobs s e (omega arith) in
-          let theirs = blanks benches jobs (paper.room benches jobs) (ap (λ (m : ℕ). sizesFit m benches jobs) (room-fits benches jobs fits) ∙ fits) in
-          let w : answerOf a ≡ blanked = v .answer ∙ ap (λ (o : Outcome). o .answer) own in
-          rw theirs
-          (replied (k .1 ∙ room .long) within (k .0 ∙ v .bytes ∙ ap (λ (o : Outcome). o .table) own) z (λ i. answerText (code "B") (f i) (w i) []) told)
-
-  -- "S height, benches, inside jobs, then the benches"
-  pub tight-replies : (h : ℕ) {list l u ns out out' : List ℕ} {at next : ℕ} {a : Answer} → list ≡ counterList → Leaves (outcome (tightSetOf h list) (take (c .length) d)) a u l → ns ≡ h ∷ [] → Wrote out out' at next (answerText (code "S") ns (answerOf a) (take (nth (inNumbers (answerOf a)) 2 0) (words l))) → next ≤ at + lineMost → Performs (askTightSet h) (counterOf c d) d out out' at (record { counter = c; at = next })
-  unfolding lineFor done after
-  tight-replies h {list} {l} {u} {ns} {out} {out'} {at} {next} {a} f w e wrote short =
-      let v = subst (λ (k : List ℕ). Leaves (outcome (tightSetOf h k) (take (c .length) d)) a u l) f w in
-      stays refl (tells c (λ i. answerText (code "S") (e i) (v .answer i) (take (nth (inNumbers (v .answer i)) 2 0) (words (v .listed i)))) wrote short)
+use Rattle.answer_lines.specs.AnswerLines.{refusalText}
+use Rattle.performing.specs.Performed.{counterOf, Room, Told, Performs}
+use Rattle.performing.specs.declared.Counter.{Counter}
+use Rattle.performing.specs.declared.Reply.{Reply}
+use Rattle.performing.proofs.Performing.{stays}
+use Rattle.replies.specs.Replies.{Answers}
 
 -- a command, named otherwise
 pub performs-as : (s : paper.Counter) {m k : Command} {bytes out out' : List ℕ} {at : ℕ} {r : Reply} → m ≡ k → Performs (commandOf k) s bytes out out' at r → Performs (commandOf m) s bytes out out' at r
 performs-as s {m} {k} {bytes} {out} {out'} {at} {r} e p = subst (λ (j : Command). Performs (commandOf j) s bytes out out' at r) (sym e) p
+
+-- a line that is not readable
+pub unread-replies : {c : Counter} {d : List ℕ} → Room c d → (line : List ℕ) {out out' : List ℕ} {at : ℕ} {r : Reply} {m : Reading} → readingOf m ≡ command line → m ≡ Unreadable → Told (c .length) (tallyOf (c .tally)) (refusalText (refusalNumber unreadable)) out out' at r → Answers line (counterOf c d) d out out' at r
+unfolding lineText lineAfter
+unread-replies room line e f told = rw (lineText, lineAfter, sym e ∙ ap readingOf f) (stays room refl told)
 
 -- a line that is readable
 pub read-replies : (s : paper.Counter) (line : List ℕ) {m : Reading} {k : Command} {bytes out out' : List ℕ} {at : ℕ} {r : Reply} → readingOf m ≡ command line → m ≡ Readable k → Performs (commandOf k) s bytes out out' at r → Answers line s bytes out out' at r

@@ -1,2 +1,2 @@
--- What the counter program's code keeps, and what it answers to a line.
+-- What the counter program's code answers to a line.
 pub mod Replies

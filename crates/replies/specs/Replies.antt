@@ -1,49 +1,10 @@
--- What the counter program keeps, and what it replies to a line, in the words of `Rattle.lines.specs.Counter`.
-use Prim.Native.Nat.{ℕ, _+_, _≤_}
-use mathlib.Core.Path.{_≡_}
+-- What the counter program replies to a line, in the words of `Rattle.lines.specs.Stream`.
+use Prim.Native.Nat.{ℕ}
 use mathlib.Core.List.{List}
-use lib.ListN.{length, take}
-use Rattle.layout.specs.Table.{lengthFor, mostBenches, mostJobs}
-use Rattle.calls.specs.Tally.{Tally}
 use Rattle.lines.specs.Counter as paper
-use Rattle.lines.specs.Counter.{lineFor, done, after}
 use Rattle.lines.specs.Stream.{lineText, lineAfter}
-use Rattle.tally.specs.Counts.{tallyOf}
-use Rattle.printing.specs.Wrote.{Wrote}
-use Rattle.answer_lines.specs.AnswerLines.{lineMost}
-use Rattle.replies.specs.declared.Counter.{Counter}
-use Rattle.replies.specs.declared.Reply.{Reply}
-
--- the most bytes of a table
-abbrev pub tableMost : ℕ
-tableMost = lengthFor mostBenches mostJobs
-
--- the program's state: its table is a part of its own bytes
-abbrev pub counterOf : Counter → List ℕ → paper.Counter
-counterOf c bytes = record { table = take (c .length) bytes; tally = tallyOf (c .tally) }
-
--- the program's own bytes have room for every table, and its table lies in them
-pub record Room (c : Counter) (bytes : List ℕ) : Type 0 where
-  pub long : length bytes ≡ tableMost
-  pub within : c .length ≤ tableMost
-
--- the reply r left the program's bytes so, and wrote this text behind the first `at` bytes of the output; the state is `next`
-pub record Replies (next : paper.Counter) (text : List ℕ) (bytes out out' : List ℕ) (at : ℕ) (r : Reply) : Type 0 where
-  pub room : Room (r .counter) bytes
-  pub state : counterOf (r .counter) bytes ≡ next
-  pub wrote : Wrote out out' at (r .at) text
-  pub short : r .at ≤ at + lineMost
-
--- the reply r wrote this text; its state has a table of so many bytes, and this tally
-pub record Told (size : ℕ) (counts : Tally) (text : List ℕ) (out out' : List ℕ) (at : ℕ) (r : Reply) : Type 0 where
-  pub length : r .counter .length ≡ size
-  pub tally : tallyOf (r .counter .tally) ≡ counts
-  pub wrote : Wrote out out' at (r .at) text
-  pub short : r .at ≤ at + lineMost
-
--- the reply to a command
-abbrev pub Performs : paper.Command → paper.Counter → List ℕ → List ℕ → List ℕ → ℕ → Reply → Type 0
-Performs k s = Replies (after k s (done k (s .table))) (lineFor k (done k (s .table)))
+use Rattle.performing.specs.Performed.{Replies}
+use Rattle.performing.specs.declared.Reply.{Reply}
 
 -- the reply to a line
 abbrev pub Answers : List ℕ → paper.Counter → List ℕ → List ℕ → List ℕ → ℕ → Reply → Type 0

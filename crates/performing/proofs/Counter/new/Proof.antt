@@ -1,14 +1,15 @@
 -- Before the first line: no table byte, and a zero tally.
 use borrow.Author.Needs.{needs}
+use mathlib.Core.Path.{refl}
 use mathlib.Core.List.{[]}
-use Rattle.replies.proofs.Counter.new.Statement.{statement}
-use Rattle.replies.proofs.Counter.new.Tie as tie
+use Rattle.performing.proofs.Counter.new.Statement.{statement}
+use Rattle.performing.proofs.Counter.new.Tie as tie
 
 new-requires : tie.Need-new-requires
 new-requires c κs = search needs
 
 returns : tie.Need-returns
-returns c = λ bytes i. record { table = []; tally = c .new .ensures i }
+returns c = (refl, λ bytes i. record { table = []; tally = c .new .ensures i })
 
 pub new-spec : {M : Type 1} → statement M
 new-spec = tie.close (tie.spec new-requires returns)

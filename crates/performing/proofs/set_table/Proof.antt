@@ -6,10 +6,10 @@ use mathlib.Core.Path.{_≡_, sym, _∙_}
 use Rattle.size.specs.Sizes.{sizing}
 use Rattle.size.specs.declared.Sizing.the-variants.{Fit}
 use Rattle.size.proofs.Sizes.{fit-sizing}
-use Rattle.replies.specs.Replies.{tableMost}
-use Rattle.replies.proofs.Replying.{part-long, size-within, misfit-replies, table-replies}
-use Rattle.replies.proofs.set_table.Statement.{statement}
-use Rattle.replies.proofs.set_table.Tie as tie
+use Rattle.performing.specs.Performed.{tableMost}
+use Rattle.performing.proofs.Performing.{part-long, size-within, misfit-replies, table-replies}
+use Rattle.performing.proofs.set_table.Statement.{statement}
+use Rattle.performing.proofs.set_table.Tie as tie
 
 -- the size that `new` returned is for these benches and jobs ..
 asked : (c : tie.After-s) → let args = c .before .before .before .before .before .args in sizing (args .benches) (args .jobs) ≡ Fit (c .s .given .0 .0)

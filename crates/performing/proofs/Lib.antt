@@ -1,0 +1,2 @@
+-- What the replies to commands are.
+pub mod Performing
