@@ -3,7 +3,7 @@ ghost use mathlib.Core.Path.{_≡_};
 ghost use Prim.Native.Nat.{_≤_};
 ghost use lib.ListN.{length};
 ghost use Rattle.answer_lines.specs.AnswerLines.{lineMost};
-ghost use Rattle.performing.specs.Performed.{tableMost};
+ghost use Rattle.state.specs.State.{tableMost};
 ghost use Rattle.counting.specs.Heard.{keptMost, Stands};
 ghost use Rattle.counter_io.specs.Serving.{Serves};
 use counting::Reader;

@@ -17,9 +17,9 @@ use Rattle.lines.proofs.Stream.{goes-line, goes-byte, goes-past, goes-none, goe
 use Rattle.printing.specs.Wrote.{Wrote}
 use Rattle.printing.proofs.Writing.{wrote-none}
 use Rattle.answer_lines.specs.AnswerLines.{lineMost, refusalText}
-use Rattle.performing.specs.Performed.{counterOf}
-use Rattle.performing.specs.declared.Counter.{Counter}
-use Rattle.performing.specs.declared.Reply.{Reply}
+use Rattle.state.specs.State.{counterOf}
+use Rattle.state.specs.declared.Counter.{Counter}
+use Rattle.state.specs.declared.Reply.{Reply}
 use Rattle.replies.specs.Replies.{Answers}
 use Rattle.counting.specs.Heard.{keptMost, placeOf, Stands, Begins, KeepsByte, Hears, Feeds, Finishes}
 use Rattle.counting.specs.declared.Reader.{Reader}

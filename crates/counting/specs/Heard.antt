@@ -6,7 +6,7 @@ use lib.ListN.{length, take}
 use Rattle.lines.specs.Stream.{Place, beginning, Unended, still, Goes}
 use Rattle.printing.specs.Wrote.{Wrote}
 use Rattle.answer_lines.specs.AnswerLines.{lineMost}
-use Rattle.performing.specs.Performed.{tableMost, Room, counterOf}
+use Rattle.state.specs.State.{tableMost, Room, counterOf}
 use Rattle.counting.specs.declared.Reader.{Reader}
 use Rattle.counting.specs.declared.Heard.{Heard}
 use Rattle.counting.specs.declared.Fed.{Fed}

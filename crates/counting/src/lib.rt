@@ -7,7 +7,7 @@ ghost use Rattle.lines.specs.Stream.{beginning};
 ghost use Rattle.answer_lines.specs.AnswerLines.{lineMost};
 ghost use Rattle.counting.specs.Heard.{keptMost, placeOf, Stands, Hears, Feeds, Finishes, Begins, KeepsByte};
 use answers::Refusal;
-use performing::Counter;
+use state::Counter;
 
 // Where the program is in its input: its state, and how many bytes of the present line it keeps.
 pub struct Reader {

@@ -29,18 +29,15 @@ use Rattle.answers.specs.declared.Answer.{Answer}
 use Rattle.tally.specs.Counts.{tallyOf}
 use Rattle.printing.specs.Wrote.{Wrote}
 use Rattle.answer_lines.specs.AnswerLines.{lineMost, refusalText, answerText}
-use Rattle.performing.specs.Performed.{tableMost, counterOf, Room, Replies, Told, Performs}
-use Rattle.performing.specs.declared.Counter.{Counter}
-use Rattle.performing.specs.declared.Reply.{Reply}
+use Rattle.state.specs.State.{tableMost, counterOf, Room, Told}
+use Rattle.state.specs.declared.Counter.{Counter}
+use Rattle.state.specs.declared.Reply.{Reply}
+use Rattle.state.proofs.Telling.{tells}
+use Rattle.performing.specs.Performed.{Replies, Performs}
 
 -- a part of a list at its beginning, written anew in its length
 part-kept : (n : ℕ) (d e : List ℕ) → n ≤ length d → length e ≡ length (take n d) → (take n (e ++ drop n d) ≡ e) × (length (e ++ drop n d) ≡ length d)
 part-kept n d e h k = (take-at e (drop n d) n (k ∙ length-take-le n d h), length-front d e n k)
-
--- a state handed back with a line that is written
-pub tells : (c : Counter) {text text' out out' : List ℕ} {at next : ℕ} → text ≡ text' → Wrote out out' at next text → next ≤ at + lineMost → Told (c .length) (tallyOf (c .tally)) text' out out' at (record { counter = c; at = next })
-tells c {text} {text'} {out} {out'} {at} {next} e w h =
-    record { length = refl; tally = refl; wrote = subst (Wrote out out' at next) e w; short = h }
 
 -- what is told is the reply, where the bytes hold the state's table
 replied : {next : paper.Counter} {n : ℕ} {tally : Tally} {text text' bytes out out' : List ℕ} {at : ℕ} {r : Reply} → length bytes ≡ tableMost → n ≤ tableMost → take n bytes ≡ next .table → tally ≡ next .tally → text ≡ text' → Told n tally text out out' at r → Replies next text' bytes out out' at r

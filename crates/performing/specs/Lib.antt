@@ -1,2 +1,2 @@
--- What the counter program's code keeps, and what it replies to a command.
+-- What the counter program's code replies to a command.
 pub mod Performed

@@ -12,9 +12,10 @@ use Rattle.commands.specs.declared.Command.{Command}
 use Rattle.commands.specs.declared.Reading.{Reading}
 use Rattle.commands.specs.declared.Reading.the-variants.{Readable, Unreadable}
 use Rattle.answer_lines.specs.AnswerLines.{refusalText}
-use Rattle.performing.specs.Performed.{counterOf, Room, Told, Performs}
-use Rattle.performing.specs.declared.Counter.{Counter}
-use Rattle.performing.specs.declared.Reply.{Reply}
+use Rattle.state.specs.State.{counterOf, Room, Told}
+use Rattle.state.specs.declared.Counter.{Counter}
+use Rattle.state.specs.declared.Reply.{Reply}
+use Rattle.performing.specs.Performed.{Performs}
 use Rattle.performing.proofs.Performing.{stays}
 use Rattle.replies.specs.Replies.{Answers}
 

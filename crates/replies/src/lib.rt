@@ -3,13 +3,14 @@ ghost use Prim.Native.Nat.{_+_, _≤_};
 ghost use lib.ListN.{length};
 ghost use Rattle.commands.specs.Read.{commandOf};
 ghost use Rattle.answer_lines.specs.AnswerLines.{lineMost};
-ghost use Rattle.performing.specs.Performed.{Room, counterOf, Performs};
+ghost use Rattle.state.specs.State.{Room, counterOf};
+ghost use Rattle.performing.specs.Performed.{Performs};
 ghost use Rattle.replies.specs.Replies.{Answers};
 use answers::Refusal;
 use commands::Command;
 use commands::Reading;
-use performing::Counter;
-use performing::Reply;
+use state::Counter;
+use state::Reply;
 
 // A command's call, and its line.
 fn perform(c: Counter, command: Command, bytes: &mut [u8], out: &mut [u8], at: usize) -> Reply
@@ -41,7 +42,7 @@ pub fn to_line(c: Counter, line: &[u8], bytes: &mut [u8], out: &mut [u8], at: us
     ensures { λ r. ⌜ Answers (now (line .entry)) (counterOf c (now (bytes .entry))) (now (bytes .exit)) (now (out .entry)) (now (out .exit)) at r ⌝ }
 {
     match commands::read(line) {
-        Reading::Unreadable => performing::refuse(c, Refusal::Unreadable, out, at),
+        Reading::Unreadable => state::refuse(c, Refusal::Unreadable, out, at),
         Reading::Readable(command) => perform(c, command, bytes, out, at),
     }
 }

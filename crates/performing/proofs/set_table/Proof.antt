@@ -6,7 +6,7 @@ use mathlib.Core.Path.{_≡_, sym, _∙_}
 use Rattle.size.specs.Sizes.{sizing}
 use Rattle.size.specs.declared.Sizing.the-variants.{Fit}
 use Rattle.size.proofs.Sizes.{fit-sizing}
-use Rattle.performing.specs.Performed.{tableMost}
+use Rattle.state.specs.State.{tableMost}
 use Rattle.performing.proofs.Performing.{part-long, size-within, misfit-replies, table-replies}
 use Rattle.performing.proofs.set_table.Statement.{statement}
 use Rattle.performing.proofs.set_table.Tie as tie

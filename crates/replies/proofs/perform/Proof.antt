@@ -1,6 +1,6 @@
 -- Each command's reply is the call's that its arm makes.
 use borrow.Author.Needs.{needs}
-use Rattle.performing.specs.Performed.{counterOf}
+use Rattle.state.specs.State.{counterOf}
 use Rattle.replies.proofs.Replying.{performs-as}
 use Rattle.replies.proofs.perform.Statement.{statement}
 use Rattle.replies.proofs.perform.Tie as tie

@@ -1,6 +1,6 @@
 -- A readable line's command is performed; another line is refused.
 use borrow.Author.Needs.{needs}
-use Rattle.performing.specs.Performed.{counterOf}
+use Rattle.state.specs.State.{counterOf}
 use Rattle.replies.proofs.Replying.{unread-replies, read-replies}
 use Rattle.replies.proofs.to_line.Statement.{statement}
 use Rattle.replies.proofs.to_line.Tie as tie

@@ -2,9 +2,9 @@
 use borrow.Author.Needs.{needs}
 use mathlib.Core.Path.{ap}
 use Rattle.answer_lines.specs.AnswerLines.{refusalText}
-use Rattle.performing.proofs.Performing.{tells}
-use Rattle.performing.proofs.refuse.Statement.{statement}
-use Rattle.performing.proofs.refuse.Tie as tie
+use Rattle.state.proofs.Telling.{tells}
+use Rattle.state.proofs.refuse.Statement.{statement}
+use Rattle.state.proofs.refuse.Tie as tie
 
 number-requires : tie.Need-number-requires
 number-requires c κs = search needs

@@ -1,0 +1,2 @@
+-- What the counter program's code keeps and tells.
+pub mod State

@@ -1,0 +1,125 @@
+// What the counter program keeps, and a line that it tells.
+ghost use mathlib.Core.Path.{_≡_};
+ghost use mathlib.Core.List.{List, [], _∷_};
+ghost use Prim.Native.Nat.{ℕ, _+_, _≤_};
+ghost use lib.ListN.{length};
+ghost use Rattle.calls.specs.Answers.{refusalNumber};
+ghost use Rattle.calls.specs.Tally.{noted};
+ghost use Rattle.answers.specs.Answered.{refusalOf, answerOf, valuesOf};
+ghost use Rattle.tally.specs.Counts.{tallyOf};
+ghost use Rattle.lines.specs.Counter.{atFirst, counterList};
+ghost use Rattle.answer_lines.specs.AnswerLines.{lineMost, refusalText, answerText};
+ghost use Rattle.state.specs.State.{counterOf, Told};
+use answers::Answer;
+use answers::Refusal;
+use answers::Values;
+use tally::Tally;
+
+// "Its list has 1,000 bytes".
+const LIST_BYTES: usize = 1000;
+
+// The program's table is the first `length` bytes of its own.
+pub struct Counter {
+    pub length: usize,
+    pub tally: Tally,
+}
+
+// The state after a line, and how many bytes of the output are written.
+pub struct Reply {
+    pub counter: Counter,
+    pub at: usize,
+}
+
+impl Counter {
+    // "Before the first B its table has length 0".
+    pub fn new() -> Counter
+        ensures length { λ r. ⌜ r .length ≡ 0 ⌝ }
+        ensures state { λ r. ⌜ ((bytes : List ℕ) → counterOf r bytes ≡ atFirst) ⌝ }
+    {
+        Counter {
+            length: 0,
+            tally: Tally::new(),
+        }
+    }
+
+    // The answer noted in the program's own tally. A 9 "is not printed".
+    pub fn noted(self, a: Answer) -> Counter
+        ensures length { λ r. ⌜ r .length ≡ self .length ⌝ }
+        ensures tally { λ r. ⌜ tallyOf (r .tally) ≡ (noted (tallyOf (self .tally)) (answerOf a)) .tally ⌝ }
+    {
+        let own = self.tally;
+        let noted = tally::note_own(own, a);
+        let tally = noted.tally;
+        Counter {
+            length: self.length,
+            tally,
+        }
+    }
+}
+
+// No number of a command.
+pub fn none() -> Values
+    ensures { λ r. ⌜ valuesOf r ≡ [] ⌝ }
+{
+    Values {
+        count: 0,
+        first: 0,
+        second: 0,
+        third: 0,
+    }
+}
+
+// One number of a command.
+pub fn one(n: usize) -> Values
+    ensures { λ r. ⌜ valuesOf r ≡ n ∷ [] ⌝ }
+{
+    Values {
+        count: 1,
+        first: n,
+        second: 0,
+        third: 0,
+    }
+}
+
+// Two numbers of a command.
+pub fn two(n: usize, m: usize) -> Values
+    ensures { λ r. ⌜ valuesOf r ≡ n ∷ m ∷ [] ⌝ }
+{
+    Values {
+        count: 2,
+        first: n,
+        second: m,
+        third: 0,
+    }
+}
+
+// The list that is lent to a tight set.
+pub fn zero_list() -> [u8; LIST_BYTES]
+    ensures { λ r. ⌜ r ≡ counterList ⌝ }
+{
+    [0; LIST_BYTES]
+}
+
+// A refusal's line; the state stays.
+pub fn refuse(c: Counter, why: Refusal, out: &mut [u8], at: usize) -> Reply
+    requires { ⌜ at + lineMost ≤ length (now out) ⌝ }
+    ensures { λ r. ⌜ Told (c .length) (tallyOf (c .tally)) (refusalText (refusalNumber (refusalOf why))) (now (out .entry)) (now (out .exit)) at r ⌝ }
+{
+    let next = answer_lines::refusal(out, at, why.number() as usize);
+    Reply {
+        counter: c,
+        at: next,
+    }
+}
+
+// An answer's line, and the state after it.
+pub fn tell(c: Counter, letter: u8, repeated: Values, a: Answer, out: &mut [u8], at: usize) -> Reply
+    requires { ⌜ at + lineMost ≤ length (now out) ⌝ }
+    ensures { λ r. ⌜ Told (c .length) (tallyOf (c .tally)) (answerText letter (valuesOf repeated) (answerOf a) []) (now (out .entry)) (now (out .exit)) at r ⌝ }
+{
+    let next = answer_lines::answer(out, at, letter, repeated, a);
+    Reply {
+        counter: c,
+        at: next,
+    }
+}
