@@ -24,7 +24,8 @@ use Rattle.calls.proofs.Questions.{load-refused, tight-answered, tight-list-ref
 use Rattle.size.specs.declared.Size.{Size}
 use Rattle.size.specs.Sizes.{SoundTable}
 use Rattle.tight.specs.declared.set.Extent.{Extent}
-use Rattle.tight.specs.Marks.{mark, marked, TightSet}
+use Rattle.visits.specs.Marks.{mark}
+use Rattle.tight.specs.Sets.{marked, TightSet}
 use Rattle.tight.proofs.AsSet.{kept-few}
 use Rattle.answers.specs.Answered.{answerOf, Leaves}
 use Rattle.answers.specs.declared.Refusal.the-variants as code

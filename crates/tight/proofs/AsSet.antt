@@ -34,9 +34,10 @@ use Rattle.arrays.proofs.Listing.{array-at, joins-leads}
 use Rattle.search.proofs.Widening.{reached-same}
 use Rattle.arcs.specs.Arcs.{ArcsOf}
 use Rattle.arcs.proofs.AsArcs.{on-board, load-at, arcs-forth, step-arc, arcs-reach}
-use Rattle.tight.specs.Marks.{mark, Marks, Brings, AllMarked, marked, Measured, TightSet}
+use Rattle.visits.specs.Marks.{mark, Marks, Brings}
+use Rattle.visits.proofs.Visiting.{marks-set}
+use Rattle.tight.specs.Sets.{AllMarked, marked, Measured, TightSet}
 use Rattle.tight.specs.declared.set.Extent.{Extent}
-use Rattle.tight.proofs.Visiting.{marks-set}
 
 -- what is marked of the benches 1 to n
 

@@ -1,3 +1,2 @@
--- Marks that visits set, and the tight set that they are.
-pub mod Visiting
+-- Marks as the tight set that they are.
 pub mod AsSet

@@ -1,2 +1,2 @@
 -- What a tight set's marks promise.
-pub mod Marks
+pub mod Sets

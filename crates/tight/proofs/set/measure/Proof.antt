@@ -8,7 +8,7 @@ use borrow.Author.Needs.{needs}
 use Rattle.basics.specs.Lists.{bit}
 use Rattle.layout.specs.Table.{mostJobs}
 use Rattle.arrays.specs.Arrays.{at}
-use Rattle.tight.specs.Marks.{mark}
+use Rattle.visits.specs.Marks.{mark}
 use Rattle.tight.proofs.AsSet.{kept-few, Measuring, markedLoad, measure-start, measure-turn, measure-room, measure-end}
 use Rattle.tight.proofs.set.measure.Statement.{statement}
 use Rattle.tight.proofs.set.measure.Tie as tie

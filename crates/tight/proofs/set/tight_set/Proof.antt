@@ -7,7 +7,7 @@ use Rattle.layout.specs.Table.{decode}
 use Rattle.rules.specs.Sharing.{tightSet}
 use Rattle.arrays.proofs.Listing.{array-long}
 use Rattle.arcs.proofs.AsArcs.{loads-in}
-use Rattle.tight.specs.Marks.{marked}
+use Rattle.tight.specs.Sets.{marked}
 use Rattle.tight.proofs.AsSet.{all-tight, measured-tight}
 use Rattle.tight.proofs.set.tight_set.Statement.{statement}
 use Rattle.tight.proofs.set.tight_set.Tie as tie

@@ -9,7 +9,7 @@ use lib.ListN.{length}
 use borrow.Author.Needs.{needs}
 use Rattle.basics.specs.Lists.{bit}
 use Rattle.words.specs.Bytes.{setWord}
-use Rattle.tight.specs.Marks.{mark}
+use Rattle.visits.specs.Marks.{mark}
 use Rattle.tight.proofs.AsSet.{kept-few, Writing, write-start, write-room, write-turn, write-end}
 use Rattle.tight.proofs.set.write.Statement.{statement}
 use Rattle.tight.proofs.set.write.Tie as tie

@@ -7,9 +7,9 @@ use borrow.Author.Needs.{needs}
 use Rattle.layout.specs.Table.{mostBenches}
 use Rattle.basics.proofs.Basics.{within-both}
 use Rattle.arrays.specs.Lists.{Joins}
-use Rattle.tight.proofs.Visiting.{Heavy, heavy-start, heavy-visit, heavy-pass, heavy-end}
-use Rattle.tight.proofs.visits.visit_heavy.Statement.{statement}
-use Rattle.tight.proofs.visits.visit_heavy.Tie as tie
+use Rattle.visits.proofs.Visiting.{Heavy, heavy-start, heavy-visit, heavy-pass, heavy-end}
+use Rattle.visits.proofs.visit_heavy.Statement.{statement}
+use Rattle.visits.proofs.visit_heavy.Tie as tie
 
 abbrev Inv-loop : tie.InvT-loop
 Inv-loop first next to loads h marks₀ benches x₀ marks x = Heavy (Joins first next to) loads h benches marks₀ marks x

@@ -18,7 +18,7 @@ use Rattle.size.specs.declared.Size.{Size}
 use Rattle.arrays.specs.Arrays.{at, Reached, here, step}
 use Rattle.arrays.specs.Lists.{On, head, tail, Joins, Ways}
 use Rattle.arrays.proofs.Listing.{on-some, on-next, on-most, left, left-less}
-use Rattle.tight.specs.Marks.{mark, Marks, OnChain, FromList, Brings}
+use Rattle.visits.specs.Marks.{mark, Marks, OnChain, FromList, Brings}
 
 -- chains
 

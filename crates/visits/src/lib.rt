@@ -8,7 +8,7 @@ ghost use Rattle.layout.specs.Table.{mostBenches};
 ghost use Rattle.size.specs.Sizes.{Limits, BenchIn};
 ghost use Rattle.arrays.specs.Arrays.{at, LoadsIn};
 ghost use Rattle.arrays.specs.Lists.{Ways, Joins};
-ghost use Rattle.tight.specs.Marks.{Marks, OnChain, FromList, Brings};
+ghost use Rattle.visits.specs.Marks.{Marks, OnChain, FromList, Brings};
 use size::Size;
 
 // Bench x and what it brings in are marked.
@@ -52,7 +52,7 @@ fn walk(
 }
 
 // The benches with load h or more, and what they bring in, are marked.
-pub(crate) fn visit_heavy(
+pub fn visit_heavy(
     s: Size,
     first: &[u16; Size::MOST_BENCHES + 1],
     next: &[u16; Size::MOST_JOBS + 1],

@@ -1,0 +1,34 @@
+-- Marks as a set of benches, and the tight set of a height.
+use Prim.Native.Nat.{ℕ}
+use mathlib.Core.Path.{_≡_}
+use mathlib.Core.Bool.{Bool, cond}
+use mathlib.Core.List.{List}
+use lib.Dec.{T}
+use lib.ListN.{length}
+use Rattle.basics.specs.Lists.{rising, keep, total}
+use Rattle.layout.specs.Board.{Board}
+use Rattle.rules.specs.Sharing.{tightSet, inside}
+use Rattle.size.specs.Sizes.{BenchIn}
+use Rattle.size.specs.declared.Size.{Size}
+use Rattle.arrays.specs.Arrays.{at}
+use Rattle.visits.specs.Marks.{mark}
+use Rattle.tight.specs.declared.set.Extent.{Extent}
+
+-- every bench of 1 to B is marked
+pub record AllMarked (s : Size) (marks : List Bool) : Type 0 where
+  pub bench : (x : ℕ) → BenchIn s x → T (mark marks x)
+
+-- the marked benches of 1 to B, rising
+abbrev pub marked : Size → List Bool → List ℕ
+marked s marks = keep (mark marks) (rising 1 (s .benches))
+
+-- the number of marked benches, and their loads added up
+pub record Measured (s : Size) (loads : List ℕ) (marks : List Bool) (r : Extent) : Type 0 where
+  pub benches : r .benches ≡ length (marked s marks)
+  pub jobs : r .jobs ≡ total (s .benches) (λ x. cond (mark marks x) (at loads x) 0)
+
+-- the marks are the tight set of height h, and r its benches and inside jobs
+pub record TightSet (b : Board) (s : Size) (h : ℕ) (marks : List Bool) (r : Extent) : Type 0 where
+  pub set : marked s marks ≡ tightSet b h
+  pub benches : r .benches ≡ length (tightSet b h)
+  pub jobs : r .jobs ≡ inside (tightSet b h) (b .named)

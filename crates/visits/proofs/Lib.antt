@@ -1,0 +1,2 @@
+-- What visits mark, and why they end.
+pub mod Visiting

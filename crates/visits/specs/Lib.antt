@@ -1,0 +1,2 @@
+-- What visits promise of marks.
+pub mod Marks
