@@ -15,10 +15,12 @@ use Rattle.layout.proofs.Named.{fit-bench}
 use Rattle.basics.proofs.Counting.{bit-same, bit-other, bit-le, count-none, count-some, count-append, different-count, total-first, total-most, total-same, total-tight, total-count}
 use Rattle.layout.proofs.Sound.{filled-within, filled-in, filled-each, Formed, formed-is, formed-back, entry-tests, not-held, Ends, standingFrom, standing-first, formed-own, own-few}
 use Rattle.layout.proofs.ChainEnds.{after, ends-different}
-use Rattle.form.specs.Check.{kindIf, kindOf, byKind, onlyIf, counted, walked, allWalked}
-use Rattle.form.specs.declared.Seen.{Seen}
-use Rattle.form.specs.declared.Seen.the-variants.{Jobs, Broken}
-use Rattle.form.proofs.Passes.{all-broken}
+use Rattle.kinds.specs.Kinds.{counted}
+use Rattle.kinds.specs.declared.Seen.{Seen}
+use Rattle.kinds.specs.declared.Seen.the-variants.{Jobs, Broken}
+use Rattle.kinds.proofs.Counted.{AllFit, counted-seen, fit-counted}
+use Rattle.form.specs.Walks.{onlyIf, walked, allWalked}
+use Rattle.form.proofs.Walking.{all-broken}
 
 -- a layout with a record for each job number and a head for each bench
 pub record Whole (l : Layout) : Type 0 where
@@ -37,10 +39,6 @@ filledAt es j = filled (nth es j vacant)
 
 abbrev holderAt : List Entry → ℕ → ℕ
 holderAt es j = holderIn (nth es j vacant)
-
--- every filled record fits
-abbrev AllFit : ℕ → List Entry → Type 0
-AllFit benches es = (e : Entry) → In e es → T (filled e) → T (entryFits benches e)
 
 -- the filled records, counted by their numbers
 standing-total : (i : ℕ) (es : List Entry) → length (standingFrom i es) ≡ total (length es) (λ j. bit (filledAt es j))
@@ -67,36 +65,6 @@ holder-listed benches e fits = go (filled e) refl
         let bench = bench-listed benches h (fit-bench benches (e .names) h (t .0) i) in
         omega (arith, different-count (rising 1 benches) (rising-different 1 benches) h, count-some h (rising 1 benches) bench)
     go false q = count-none h (rising 1 benches) (λ i. omega (arith, rising-low h 1 benches i, not-held e q))
-
--- a pass that is not broken saw only records that fit, and counted the filled ones
-counted-seen : (benches n i : ℕ) (es : List Entry) (m : ℕ) → counted benches n es ≡ Jobs m → AllFit benches es × (m ≡ n + length (standingFrom i es))
-unfolding kindOf
-counted-seen benches n i [] m q = (λ e k f. absurd k, let d : n ≡ m = cc in omega arith)
-counted-seen benches n i (e ∷ es) m q = go (filled e) (entryFits benches e) refl refl (λ k r. counted-seen benches k (suc i) es m r) q
-  where
-    first : (T (filled e) → T (entryFits benches e)) → AllFit benches es → AllFit benches (e ∷ es)
-    first h r a (inl d) f = subst (λ (b : Entry). T (entryFits benches b)) (sym d) (h (subst (λ (b : Entry). T (filled b)) d f))
-    first h r a (inr k) f = r a k f
-
-    go : (y z : Bool) → filled e ≡ y → entryFits benches e ≡ z → ((k : ℕ) → counted benches k es ≡ Jobs m → AllFit benches es × (m ≡ k + length (standingFrom (suc i) es))) → byKind (kindIf y z) (counted benches n es) (counted benches (suc n) es) ≡ Jobs m → AllFit benches (e ∷ es) × (m ≡ n + length (standingFrom i (e ∷ es)))
-    go false z p q ih r =
-        let h = ih n r in
-        (first (λ f. absurd (subst T p f)) (h .0), omega (arith, h .1, standing-first i e es, ap bit p))
-    go true true p q ih r =
-        let h = ih (suc n) r in
-        (first (λ f. true→T (entryFits benches e) q) (h .0), omega (arith, h .1, standing-first i e es, ap bit p))
-    go true false p q ih r = absurd (true→T false cc)
-
--- a pass over records that fit is not broken
-fit-counted : (benches n : ℕ) (es : List Entry) → AllFit benches es → counted benches n es ≡ Broken → ⊥
-unfolding kindOf
-fit-counted benches n [] f q = true→T false cc
-fit-counted benches n (e ∷ es) f q = go (filled e) (entryFits benches e) refl refl (λ k. fit-counted benches k es (λ a i. f a (inr i))) q
-  where
-    go : (y z : Bool) → filled e ≡ y → entryFits benches e ≡ z → ((k : ℕ) → counted benches k es ≡ Broken → ⊥) → byKind (kindIf y z) (counted benches n es) (counted benches (suc n) es) ≡ Broken → ⊥
-    go false z p q ih r = ih n r
-    go true true p q ih r = ih (suc n) r
-    go true false p q ih r = subst T q (f e (inl refl) (true→T (filled e) p))
 
 -- word 3 is not 0
 pub spare-formed : (l : Layout) → (l .spare ≡ 0 → ⊥) → formed l ≡ false

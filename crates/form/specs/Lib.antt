@@ -1,3 +1,3 @@
--- What the form check promises (`View`), and how its code goes (`Check`).
+-- What the form check promises (`View`), and how its walks go (`Walks`).
 pub mod View
-pub mod Check
+pub mod Walks

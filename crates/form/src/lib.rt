@@ -1,14 +1,13 @@
-// The form check: refusal 1, refusal 2, or sound, for any bytes. One pass over the records, one walk along the chains.
+// The form check: refusal 1, refusal 2, or sound, for any bytes. One pass over the records (`kinds`), one walk along the chains.
 ghost use mathlib.Core.Path.{_≡_};
 ghost use Rattle.basics.specs.Lists.{nth};
 ghost use Rattle.layout.specs.Table.{formed};
 ghost use Rattle.words.specs.Bytes.{laid};
 ghost use Rattle.size.specs.Sizes.{SizeOf, BenchIn};
-ghost use Rattle.records.specs.Records.{entryOf};
-ghost use Rattle.form.specs.Check.{kindOf, counted, walked, allWalked};
+ghost use Rattle.form.specs.Walks.{walked, allWalked};
 ghost use Rattle.form.specs.View.{Answered};
 use header::heads;
-use records::Record;
+use kinds::Seen;
 use size::Size;
 use size::Sizing;
 
@@ -19,59 +18,6 @@ pub enum Form {
     // Refusal 2.
     Unsound,
     Sound(Size),
-}
-
-// What a record is.
-enum Kind {
-    Vacant,
-    Fitting,
-    Unfit,
-}
-
-// What a pass has seen: a number of jobs, or what no sound table has.
-enum Seen {
-    Jobs(usize),
-    Broken,
-}
-
-// A record is no job's, or names two different benches of 1 to B and has holder 1 or 2, or neither.
-fn kind_of(benches: usize, r: Record) -> Kind
-    ensures { λ k. ⌜ k ≡ kindOf benches (entryOf r) ⌝ }
-{
-    let first = r.first;
-    let second = r.second;
-    let holder = r.holder;
-    let next = r.next;
-    if first == 0 && second == 0 && holder == 0 && next == 0 {
-        return Kind::Vacant;
-    }
-    if first < 1 || benches < first || second < 1 || benches < second {
-        return Kind::Unfit;
-    }
-    if first == second || holder < 1 || 2 < holder {
-        return Kind::Unfit;
-    }
-    Kind::Fitting
-}
-
-// The number of standing jobs' records.
-fn count_records(t: &[u8], s: Size) -> Seen
-    requires { ⌜ SizeOf (now t) s ⌝ }
-    ensures { λ r. ⌜ r ≡ counted (s .benches) 0 (laid (now (t .entry)) .entries) ⌝ }
-{
-    let benches = s.benches();
-    let jobs = s.jobs();
-    let mut count = 0;
-    let mut done = 0;
-    while done < jobs {
-        match kind_of(benches, records::read_record(t, s, done + 1)) {
-            Kind::Unfit => return Seen::Broken,
-            Kind::Fitting => count += 1,
-            Kind::Vacant => {}
-        }
-        done += 1;
-    }
-    Seen::Jobs(count)
 }
 
 // Walks bench x's chain, before which `left` jobs are not yet met; how many are left after it.
@@ -122,7 +68,7 @@ fn is_formed(t: &[u8], s: Size) -> bool
     if header::spare_word(t, s) != 0 {
         return false;
     }
-    match count_records(t, s) {
+    match kinds::count_records(t, s) {
         Seen::Broken => false,
         Seen::Jobs(count) => {
             if header::standing_word(t, s) != count {

@@ -2,7 +2,7 @@
 use mathlib.Core.Path.{_≡_, sym, _∙_}
 use borrow.Author.Needs.{needs}
 use Rattle.words.specs.Bytes.{laid}
-use Rattle.form.specs.Check.{counted}
+use Rattle.kinds.specs.Kinds.{counted}
 use Rattle.size.proofs.Sizes.{heads-long, entries-long}
 use Rattle.form.proofs.Formed.{Whole, spare-formed, broken-formed, count-formed, walked-formed}
 use Rattle.form.proofs.is_formed.Statement.{statement}

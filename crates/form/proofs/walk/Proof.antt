@@ -10,9 +10,9 @@ use borrow.Author.Tests.{eq-eqb, ne-eqb, ltb-true, ltb-false}
 use Rattle.basics.specs.Lists.{nth}
 use Rattle.layout.specs.Table.{Entry, vacant}
 use Rattle.words.specs.Bytes.{laid}
-use Rattle.form.specs.Check.{onlyIf, walked}
+use Rattle.form.specs.Walks.{onlyIf, walked}
 use Rattle.size.proofs.Sizes.{entries-long}
-use Rattle.form.proofs.Passes.{walk-end, walk-full, walk-step, walk-above}
+use Rattle.form.proofs.Walking.{walk-end, walk-full, walk-step, walk-above}
 use Rattle.form.proofs.walk.Statement.{statement}
 use Rattle.form.proofs.walk.Tie as tie
 

@@ -6,10 +6,10 @@ use mathlib.Core.Path.{_≡_, refl, sym, _∙_}
 use lib.ListN.{drop}
 use borrow.Author.Needs.{needs}
 use Rattle.words.specs.Bytes.{laid}
-use Rattle.form.specs.Check.{allWalked}
-use Rattle.form.specs.declared.Seen.the-variants.{Jobs}
+use Rattle.form.specs.Walks.{allWalked}
+use Rattle.kinds.specs.declared.Seen.the-variants.{Jobs}
 use Rattle.size.proofs.Sizes.{heads-long}
-use Rattle.form.proofs.Passes.{all-step, all-broken, all-end}
+use Rattle.form.proofs.Walking.{all-step, all-broken, all-end}
 use Rattle.form.proofs.walk_all.Statement.{statement}
 use Rattle.form.proofs.walk_all.Tie as tie
 

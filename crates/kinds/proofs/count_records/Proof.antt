@@ -8,11 +8,11 @@ use lib.ListN.{drop}
 use borrow.Author.Needs.{needs}
 use Rattle.words.specs.Bytes.{laid}
 use Rattle.records.specs.Records.{entryOf}
-use Rattle.form.specs.Check.{byKind, counted}
+use Rattle.kinds.specs.Kinds.{byKind, counted}
 use Rattle.size.proofs.Sizes.{entries-long}
-use Rattle.form.proofs.Passes.{count-step, count-end}
-use Rattle.form.proofs.count_records.Statement.{statement}
-use Rattle.form.proofs.count_records.Tie as tie
+use Rattle.kinds.proofs.Counted.{count-step, count-end}
+use Rattle.kinds.proofs.count_records.Statement.{statement}
+use Rattle.kinds.proofs.count_records.Tie as tie
 
 abbrev Inv-loop : tie.InvT-loop
 Inv-loop t s benches jobs count₀ done₀ count done =

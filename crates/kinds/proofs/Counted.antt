@@ -1,0 +1,63 @@
+-- The pass over the records: one step of it, and what it has seen at its end.
+use Prim.Native.Nat.{ℕ, suc, _+_, _≤_, _<_}
+use native.Mathlib.Numerals.{add-one}
+use native.Mathlib.Omega.{arith}
+use mathlib.Core.Path.{_≡_, refl, sym, ap, subst}
+use mathlib.Core.Logic.{inl, inr}
+use mathlib.Core.Bool.{Bool, true, false}
+use mathlib.Core.List.{List, [], _∷_}
+use lib.Dec.{T}
+use lib.ListN.{length, drop, drop-of-length-le}
+use lib.Seq.{drop-cons}
+use Rattle.basics.specs.Lists.{bit, In, nth}
+use Rattle.layout.specs.Table.{Entry, vacant, filled, entryFits}
+use Rattle.basics.proofs.Basics.{true→T}
+use Rattle.layout.proofs.Sound.{standingFrom, standing-first}
+use Rattle.kinds.specs.Kinds.{kindIf, kindOf, byKind, counted}
+use Rattle.kinds.specs.declared.Seen.the-variants.{Jobs, Broken}
+
+-- the records one by one
+
+-- the next record, e, is the first of those that are left after i
+pub count-step : (benches n i : ℕ) (es : List Entry) (e : Entry) → e ≡ nth es (i + 1) vacant → i < length es → counted benches n (drop i es) ≡ byKind (kindOf benches e) (counted benches n (drop (i + 1) es)) (counted benches (n + 1) (drop (i + 1) es))
+count-step benches n i es e q l = rw (q, add-one i, add-one n, drop-cons es i vacant l)
+
+-- none is left after the last
+pub count-end : (benches n i : ℕ) (es : List Entry) → length es ≤ i → Jobs n ≡ counted benches n (drop i es)
+count-end benches n i es l = rw (drop-of-length-le es l)
+
+-- at its end
+
+-- every filled record fits
+abbrev pub AllFit : ℕ → List Entry → Type 0
+AllFit benches es = (e : Entry) → In e es → T (filled e) → T (entryFits benches e)
+
+-- a pass that is not broken saw only records that fit, and counted the filled ones
+pub counted-seen : (benches n i : ℕ) (es : List Entry) (m : ℕ) → counted benches n es ≡ Jobs m → AllFit benches es × (m ≡ n + length (standingFrom i es))
+unfolding kindOf
+counted-seen benches n i [] m q = (λ e k f. absurd k, let d : n ≡ m = cc in omega arith)
+counted-seen benches n i (e ∷ es) m q = go (filled e) (entryFits benches e) refl refl (λ k r. counted-seen benches k (suc i) es m r) q
+  where
+    first : (T (filled e) → T (entryFits benches e)) → AllFit benches es → AllFit benches (e ∷ es)
+    first h r a (inl d) f = subst (λ (b : Entry). T (entryFits benches b)) (sym d) (h (subst (λ (b : Entry). T (filled b)) d f))
+    first h r a (inr k) f = r a k f
+
+    go : (y z : Bool) → filled e ≡ y → entryFits benches e ≡ z → ((k : ℕ) → counted benches k es ≡ Jobs m → AllFit benches es × (m ≡ k + length (standingFrom (suc i) es))) → byKind (kindIf y z) (counted benches n es) (counted benches (suc n) es) ≡ Jobs m → AllFit benches (e ∷ es) × (m ≡ n + length (standingFrom i (e ∷ es)))
+    go false z p q ih r =
+        let h = ih n r in
+        (first (λ f. absurd (subst T p f)) (h .0), omega (arith, h .1, standing-first i e es, ap bit p))
+    go true true p q ih r =
+        let h = ih (suc n) r in
+        (first (λ f. true→T (entryFits benches e) q) (h .0), omega (arith, h .1, standing-first i e es, ap bit p))
+    go true false p q ih r = absurd (true→T false cc)
+
+-- a pass over records that fit is not broken
+pub fit-counted : (benches n : ℕ) (es : List Entry) → AllFit benches es → counted benches n es ≡ Broken → ⊥
+unfolding kindOf
+fit-counted benches n [] f q = true→T false cc
+fit-counted benches n (e ∷ es) f q = go (filled e) (entryFits benches e) refl refl (λ k. fit-counted benches k es (λ a i. f a (inr i))) q
+  where
+    go : (y z : Bool) → filled e ≡ y → entryFits benches e ≡ z → ((k : ℕ) → counted benches k es ≡ Broken → ⊥) → byKind (kindIf y z) (counted benches n es) (counted benches (suc n) es) ≡ Broken → ⊥
+    go false z p q ih r = ih n r
+    go true true p q ih r = ih (suc n) r
+    go true false p q ih r = subst T q (f e (inl refl) (true→T (filled e) p))

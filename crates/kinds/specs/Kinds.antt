@@ -1,0 +1,30 @@
+-- What a record is, and the pass over the records as the code goes.
+use Prim.Native.Nat.{ℕ, suc}
+use mathlib.Core.Bool.{Bool, true, false}
+use mathlib.Core.List.{List, [], _∷_}
+use Rattle.layout.specs.Table.{Entry, filled, entryFits}
+use Rattle.kinds.specs.declared.Kind.{Kind}
+use Rattle.kinds.specs.declared.Kind.the-variants.{Vacant, Fitting, Unfit}
+use Rattle.kinds.specs.declared.Seen.{Seen}
+use Rattle.kinds.specs.declared.Seen.the-variants.{Jobs, Broken}
+
+-- a record by the tests of a standing job's record
+abbrev pub kindIf : Bool → Bool → Kind
+kindIf false fits = Vacant
+kindIf true true = Fitting
+kindIf true false = Unfit
+
+-- no job's record, a record that fits, or one that does not
+unfoldable pub kindOf : ℕ → Entry → Kind
+kindOf benches e = kindIf (filled e) (entryFits benches e)
+
+-- what a pass has seen after a record: the same, one job more, or what no sound table has
+abbrev pub byKind : Kind → Seen → Seen → Seen
+byKind Vacant same more = same
+byKind Fitting same more = more
+byKind Unfit same more = Broken
+
+-- the number of standing jobs' records, n before these; broken if one does not fit
+abbrev pub counted : ℕ → ℕ → List Entry → Seen
+counted benches n [] = Jobs n
+counted benches n (e ∷ es) = byKind (kindOf benches e) (counted benches n es) (counted benches (suc n) es)

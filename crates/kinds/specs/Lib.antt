@@ -1,0 +1,2 @@
+-- What the pass over the records promises.
+pub mod Kinds
