@@ -1,0 +1,62 @@
+-- The measure is how many jobs are left.
+use Prim.Native.Nat.{_≤_, _-_}
+use borrow.Author.Needs.{needs}
+use Rattle.every_sharing.proofs.bytes.changed.Statement.{statement}
+use Rattle.every_sharing.proofs.bytes.changed.Tie as tie
+
+abbrev Inv-loop : tie.InvT-loop
+Inv-loop before after but n₀ job₀ n job = job ≤ 9
+
+abbrev μ-loop : tie.MeasureT-loop
+μ-loop before after but n₀ job₀ n job = 9 - job
+
+loop-holds : tie.Need-loop-holds Inv-loop μ-loop
+loop-holds c = search needs
+
+mul-bit : tie.Need-mul-bit Inv-loop μ-loop
+mul-bit c = search needs
+
+element-copy-out-bit : tie.Need-element-copy-out-bit Inv-loop μ-loop
+element-copy-out-bit c = search needs
+
+mul-bit-2 : tie.Need-mul-bit-2 Inv-loop μ-loop
+mul-bit-2 c = search needs
+
+element-copy-out-bit-2 : tie.Need-element-copy-out-bit-2 Inv-loop μ-loop
+element-copy-out-bit-2 c = search needs
+
+bit-requires : tie.Need-bit-requires Inv-loop μ-loop
+bit-requires c κs = search needs
+
+wrapping-add-usize-requires : tie.Need-wrapping-add-usize-requires Inv-loop μ-loop
+wrapping-add-usize-requires c κs = search needs
+
+add-job : tie.Need-add-job Inv-loop μ-loop
+add-job c = search needs
+
+loop-less : tie.Need-loop-less Inv-loop μ-loop
+loop-less c = search needs
+
+loop-again : tie.Need-loop-again Inv-loop μ-loop
+loop-again c = search needs
+
+returns : tie.Need-returns Inv-loop μ-loop
+returns c = search needs
+
+pub changed-spec : {M : Type 1} → statement M
+changed-spec =
+    tie.close
+    (tie.spec
+    Inv-loop
+    μ-loop
+    loop-holds
+    mul-bit
+    element-copy-out-bit
+    mul-bit-2
+    element-copy-out-bit-2
+    bit-requires
+    wrapping-add-usize-requires
+    add-job
+    loop-less
+    loop-again
+    returns)

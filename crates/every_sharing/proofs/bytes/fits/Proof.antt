@@ -1,0 +1,54 @@
+-- The measure is how many jobs are left.
+use Prim.Native.Nat.{_≤_, _-_}
+use borrow.Author.Needs.{needs}
+use Rattle.every_sharing.proofs.bytes.fits.Statement.{statement}
+use Rattle.every_sharing.proofs.bytes.fits.Tie as tie
+
+abbrev Inv-loop : tie.InvT-loop
+Inv-loop t book benches job₀ job = job ≤ 9
+
+abbrev μ-loop : tie.MeasureT-loop
+μ-loop t book benches job₀ job = 9 - job
+
+loop-holds : tie.Need-loop-holds Inv-loop μ-loop
+loop-holds c = search needs
+
+record-fits-requires : tie.Need-record-fits-requires Inv-loop μ-loop
+record-fits-requires c κs = search needs
+
+returns : tie.Need-returns Inv-loop μ-loop
+returns c = search needs
+
+add-job : tie.Need-add-job Inv-loop μ-loop
+add-job c = search needs
+
+loop-less : tie.Need-loop-less Inv-loop μ-loop
+loop-less c = search needs
+
+loop-again : tie.Need-loop-again Inv-loop μ-loop
+loop-again c = search needs
+
+word-requires : tie.Need-word-requires Inv-loop μ-loop
+word-requires c κs = search needs
+
+standing-requires : tie.Need-standing-requires Inv-loop μ-loop
+standing-requires c κs = search needs
+
+returns-2 : tie.Need-returns-2 Inv-loop μ-loop
+returns-2 c = search needs
+
+pub fits-spec : {M : Type 1} → statement M
+fits-spec =
+    tie.close
+    (tie.spec
+    Inv-loop
+    μ-loop
+    loop-holds
+    record-fits-requires
+    returns
+    add-job
+    loop-less
+    loop-again
+    word-requires
+    standing-requires
+    returns-2)
