@@ -1,5 +1,5 @@
 /*
- * The tables of crates/table_files/data and what another implementation of the scope answered on them: data/index has for each table
+ * The tables of crates/test_table_files/data and what another implementation of the scope answered on them: data/index has for each table
  * its form check, level check, heaviest load and a hash of its loads; data/calls has calls, each on a fresh copy, with the answer and two
  * hashes of what is left: of the table with rising chains (for a refused call and a load: of the bytes as they were), and of the
  * same with chain heads and next words zero. For a tight set both are of its list, filled with a5 before.

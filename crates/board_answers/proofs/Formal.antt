@@ -3,14 +3,14 @@ use mathlib.Core.Path.{_≡_, sym}
 use mathlib.Core.Bool.{true, false}
 use mathlib.Core.List.{List}
 use Prim.Native.Nat.{ℕ}
-use Rattle.layout.specs.Table.{fits, sound}
-use Rattle.calls.specs.Answers.{refused}
-use Rattle.calls.specs.Calls.{Call, lentList, outcome}
-use Rattle.calls.proofs.Refusals.{refused-by}
-use Rattle.answers.specs.Answered.{refusalOf, Leaves}
-use Rattle.answers.specs.declared.Refusal.{Refusal}
-use Rattle.answers.specs.declared.Refusal.the-variants.{Sizes, Unsound}
-use Rattle.answers.specs.declared.Answer.the-variants.{Refused}
+use Rattle.spec_table.specs.Table.{fits, sound}
+use Rattle.spec_calls.specs.Answers.{refused}
+use Rattle.spec_calls.specs.Calls.{Call, lentList, outcome}
+use Rattle.spec_calls.proofs.Refusals.{refused-by}
+use Rattle.board_answers.specs.Answered.{refusalOf, Leaves}
+use Rattle.board_answers.specs.declared.Refusal.{Refusal}
+use Rattle.board_answers.specs.declared.Refusal.the-variants.{Sizes, Unsound}
+use Rattle.board_answers.specs.declared.Answer.the-variants.{Refused}
 
 -- a refused call leaves every lent byte
 pub refused-leaves : (r : Refusal) (c : Call) (t : List ℕ) → (outcome c t) .answer ≡ refused (refusalOf r) → Leaves (outcome c t) (Refused r) t (lentList c)

@@ -1,15 +1,15 @@
--- Each case of the answers as document 01's refusal or answer; its number and values are `Rattle.calls.specs.Answers.inNumbers`.
+-- Each case of the answers as document 01's refusal or answer; its number and values are `Rattle.spec_calls.specs.Answers.inNumbers`.
 use mathlib.Core.Path.{_≡_}
 use mathlib.Core.List.{List, [], _∷_}
 use Prim.Native.Nat.{ℕ}
 use lib.ListN.{getD, take}
-use Rattle.calls.specs.Answers as paper
-use Rattle.calls.specs.Calls.{Call, outcome}
-use Rattle.answers.specs.declared.Refusal.{Refusal}
-use Rattle.answers.specs.declared.Refusal.the-variants as code
-use Rattle.answers.specs.declared.Answer.{Answer}
-use Rattle.answers.specs.declared.Values.{Values}
-use Rattle.answers.specs.declared.Answer.the-variants as told
+use Rattle.spec_calls.specs.Answers as paper
+use Rattle.spec_calls.specs.Calls.{Call, outcome}
+use Rattle.board_answers.specs.declared.Refusal.{Refusal}
+use Rattle.board_answers.specs.declared.Refusal.the-variants as code
+use Rattle.board_answers.specs.declared.Answer.{Answer}
+use Rattle.board_answers.specs.declared.Values.{Values}
+use Rattle.board_answers.specs.declared.Answer.the-variants as told
 
 -- the refusal
 abbrev pub refusalOf : Refusal → paper.Refusal

@@ -1,9 +1,9 @@
 // What the calls answer.
 ghost use mathlib.Core.Path.{_≡_};
 ghost use lib.ListN.{drop};
-ghost use Rattle.basics.specs.Lists.{nth};
-ghost use Rattle.calls.specs.Answers.{refusalNumber, inNumbers};
-ghost use Rattle.answers.specs.Answered.{refusalOf, answerOf, returned, valuesOf};
+ghost use Rattle.spec_lists.specs.Lists.{nth};
+ghost use Rattle.spec_calls.specs.Answers.{refusalNumber, inNumbers};
+ghost use Rattle.board_answers.specs.Answered.{refusalOf, answerOf, returned, valuesOf};
 
 // Why a call is refused, in the order of document 01's table.
 pub enum Refusal {

@@ -2,11 +2,11 @@
 use Prim.Native.Nat.{ℕ}
 use mathlib.Core.Path.{_≡_, _∙_}
 use mathlib.Core.List.{List}
-use Rattle.calls.specs.Answers.{Outcome}
-use Rattle.calls.specs.Calls.{Call, outcome}
-use Rattle.calls.specs.JobBook.{Book, Start, Runs, Claim}
-use Rattle.calls.proofs.Demand3.{demand-3}
-use Rattle.answers.specs.Answered.{Does}
+use Rattle.spec_calls.specs.Answers.{Outcome}
+use Rattle.spec_calls.specs.Calls.{Call, outcome}
+use Rattle.spec_calls.specs.JobBook.{Book, Start, Runs, Claim}
+use Rattle.spec_calls.proofs.Demand3.{demand-3}
+use Rattle.board_answers.specs.Answered.{Does}
 
 -- a call that meets its contract leaves what the definition says
 pub does-defined : (c : Call) (t : List ℕ) (o : Outcome) → Does c t o → o ≡ outcome c t

@@ -7,30 +7,30 @@ use mathlib.Core.List.{List, [], _∷_}
 use lib.Dec.{T, eqb}
 use lib.ListN.{length}
 use borrow.Author.Tests.{eqb-false}
-use Rattle.basics.specs.Lists.{within}
-use Rattle.layout.specs.Board.{Board, stands, namesFit}
-use Rattle.layout.specs.Table.{sizesFit, blankTable, decode}
-use Rattle.calls.specs.Answers.{arrived, closed, levelled, stopped}
-use Rattle.calls.specs.Calls.{arrival, closing, levelling, outcome, blanking, arrivalOutcome, closingOutcome, levellingOutcome}
-use Rattle.basics.proofs.Basics.{true→T, T→true, false→not, not-false, not→false}
-use Rattle.layout.proofs.Named.{pair-fits}
-use Rattle.calls.proofs.Outcomes.{MayArrive, arrival-accepted, closing-accepted, levelling-accepted}
-use Rattle.calls.proofs.Refused.{arrival-number-refused, arrival-bench-refused, arrival-standing-refused, closing-number-refused, closing-standing-refused, arrival-exact, closing-exact}
-use Rattle.size.specs.declared.Size.{Size}
-use Rattle.size.specs.Sizes.{JobIn, SoundTable}
-use Rattle.size.proofs.Sizes.{job-in, job-of-board, bench-of-board}
-use Rattle.store.specs.View.{Kept}
-use Rattle.store.proofs.Boards.{sound-kept}
-use Rattle.paths.specs.declared.turns.Turn.{Turn}
-use Rattle.sharing.specs.declared.changes.Arrival.{Arrival}
-use Rattle.levels.specs.declared.Levelling.{Levelling}
-use Rattle.sharing.specs.Changes.{ArrivalOf, ClosingOf}
-use Rattle.levels.specs.Levels.{LevellingOf}
-use Rattle.answers.specs.Answered.{answerOf, Leaves}
-use Rattle.answers.specs.declared.Answer.{Answer}
-use Rattle.answers.specs.declared.Answer.the-variants.{Refused, Blanked, Arrived, Closed, Levelled, Stopped}
-use Rattle.answers.specs.declared.Refusal.the-variants.{Sizes, JobNumber, BenchNumber, AlreadyStanding, NotStanding}
-use Rattle.answers.proofs.Formal.{refused-leaves}
+use Rattle.spec_lists.specs.Lists.{within}
+use Rattle.spec_table.specs.Board.{Board, stands, namesFit}
+use Rattle.spec_table.specs.Table.{sizesFit, blankTable, decode}
+use Rattle.spec_calls.specs.Answers.{arrived, closed, levelled, stopped}
+use Rattle.spec_calls.specs.Calls.{arrival, closing, levelling, outcome, blanking, arrivalOutcome, closingOutcome, levellingOutcome}
+use Rattle.spec_lists.proofs.Basics.{true→T, T→true, false→not, not-false, not→false}
+use Rattle.spec_table.proofs.Named.{pair-fits}
+use Rattle.spec_calls.proofs.Outcomes.{MayArrive, arrival-accepted, closing-accepted, levelling-accepted}
+use Rattle.spec_calls.proofs.Refused.{arrival-number-refused, arrival-bench-refused, arrival-standing-refused, closing-number-refused, closing-standing-refused, arrival-exact, closing-exact}
+use Rattle.table_size.specs.declared.Size.{Size}
+use Rattle.table_size.specs.Sizes.{JobIn, SoundTable}
+use Rattle.table_size.proofs.Sizes.{job-in, job-of-board, bench-of-board}
+use Rattle.table_board.specs.View.{Kept}
+use Rattle.table_board.proofs.Boards.{sound-kept}
+use Rattle.sharing_paths.specs.declared.turns.Turn.{Turn}
+use Rattle.sharing_changes.specs.declared.changes.Arrival.{Arrival}
+use Rattle.sharing_levelling.specs.declared.Levelling.{Levelling}
+use Rattle.sharing_changes.specs.Changes.{ArrivalOf, ClosingOf}
+use Rattle.sharing_levelling.specs.Levels.{LevellingOf}
+use Rattle.board_answers.specs.Answered.{answerOf, Leaves}
+use Rattle.board_answers.specs.declared.Answer.{Answer}
+use Rattle.board_answers.specs.declared.Answer.the-variants.{Refused, Blanked, Arrived, Closed, Levelled, Stopped}
+use Rattle.board_answers.specs.declared.Refusal.the-variants.{Sizes, JobNumber, BenchNumber, AlreadyStanding, NotStanding}
+use Rattle.board_answers.proofs.Formal.{refused-leaves}
 
 -- what a blanking answers, by whether the sizes fit
 abbrev blankAnswer : Bool → Answer

@@ -1,20 +1,20 @@
 // The calls that write a table: blanking, arrival, closing, levelling.
 ghost use mathlib.Core.List.{[]};
-ghost use Rattle.calls.specs.Calls.{blanking, outcome, arrival, closing, levelling};
-ghost use Rattle.size.specs.Sizes.{SoundTable};
-ghost use Rattle.answers.specs.Answered.{Leaves};
-use answers::Answer;
-use answers::Refusal;
-use form::Form;
-use sharing::changes;
-use size::Size;
-use store::jobs;
+ghost use Rattle.spec_calls.specs.Calls.{blanking, outcome, arrival, closing, levelling};
+ghost use Rattle.table_size.specs.Sizes.{SoundTable};
+ghost use Rattle.board_answers.specs.Answered.{Leaves};
+use board_answers::Answer;
+use board_answers::Refusal;
+use table_form::Form;
+use sharing_changes::changes;
+use table_size::Size;
+use table_board::jobs;
 
 // Blanking: a table for so many benches and jobs, without jobs. Old bytes are not looked at.
 pub fn blank(t: &mut [u8], benches: usize, jobs: usize) -> Answer
     ensures { λ r. ⌜ Leaves (blanking benches jobs (now (t .entry))) r (now (t .exit)) [] ⌝ }
 {
-    if header::blank(t, benches, jobs) {
+    if table_header::blank(t, benches, jobs) {
         Answer::Blanked
     } else {
         Answer::Refused(Refusal::Sizes)
@@ -43,7 +43,7 @@ fn arrival_on(t: &mut [u8], s: Size, job: usize, first: usize, second: usize) ->
 pub fn arrival(t: &mut [u8], job: usize, first: usize, second: usize) -> Answer
     ensures { λ r. ⌜ Leaves (outcome (arrival job first second) (now (t .entry))) r (now (t .exit)) [] ⌝ }
 {
-    match form::check(t) {
+    match table_form::check(t) {
         Form::Sizes => Answer::Refused(Refusal::Sizes),
         Form::Unsound => Answer::Refused(Refusal::Unsound),
         Form::Sound(s) => arrival_on(t, s, job, first, second),
@@ -69,7 +69,7 @@ fn closing_on(t: &mut [u8], s: Size, job: usize) -> Answer
 pub fn closing(t: &mut [u8], job: usize) -> Answer
     ensures { λ r. ⌜ Leaves (outcome (closing job) (now (t .entry))) r (now (t .exit)) [] ⌝ }
 {
-    match form::check(t) {
+    match table_form::check(t) {
         Form::Sizes => Answer::Refused(Refusal::Sizes),
         Form::Unsound => Answer::Refused(Refusal::Unsound),
         Form::Sound(s) => closing_on(t, s, job),
@@ -80,11 +80,11 @@ pub fn closing(t: &mut [u8], job: usize) -> Answer
 pub fn levelling(t: &mut [u8], allowance: u32) -> Answer
     ensures { λ r. ⌜ Leaves (outcome (levelling allowance) (now (t .entry))) r (now (t .exit)) [] ⌝ }
 {
-    match form::check(t) {
+    match table_form::check(t) {
         Form::Sizes => Answer::Refused(Refusal::Sizes),
         Form::Unsound => Answer::Refused(Refusal::Unsound),
         Form::Sound(s) => {
-            let l = levels::relevel(t, s, allowance);
+            let l = sharing_levelling::relevel(t, s, allowance);
             if l.level {
                 Answer::Levelled(l.paths)
             } else {

@@ -7,32 +7,32 @@ use mathlib.Core.Logic.{inl, inr, _≢_}
 use mathlib.Core.Bool.{Bool, true, false, cond}
 use mathlib.Core.List.{List, [], _∷_, _++_}
 use lib.ListN.{length, drop}
-use Rattle.basics.specs.Lists.{within, In}
-use Rattle.layout.specs.Board.{Board, Valid, load, heaviest}
-use Rattle.layout.specs.Table.{mostBenches, bytesOf, decode}
-use Rattle.rules.specs.Paths.{steps}
-use Rattle.rules.specs.Sharing.{level, tightSet}
-use Rattle.calls.specs.Answers.{Outcome}
-use Rattle.calls.specs.Calls.{loadOf, heaviestLoad, tightSetOf, formCheck, levelCheck, conditions, accepted, outcome, tightSetOutcome}
-use Rattle.basics.proofs.Basics.{within-both, in-getD}
-use Rattle.basics.proofs.Counting.{greatest-most}
-use Rattle.layout.proofs.Loads.{load-heaviest}
-use Rattle.rules.proofs.Walks.{reach-here}
-use Rattle.rules.proofs.TightSet.{tight-reached}
-use Rattle.calls.proofs.ChainOrder.{sound-outcome}
-use Rattle.calls.proofs.Questions.{load-refused, tight-answered, tight-list-refused, tight-height-refused}
-use Rattle.size.specs.declared.Size.{Size}
-use Rattle.size.specs.Sizes.{SoundTable}
-use Rattle.tight.specs.declared.set.Extent.{Extent}
-use Rattle.visits.specs.Marks.{mark}
-use Rattle.tight.specs.Sets.{marked, TightSet}
-use Rattle.tight.proofs.AsSet.{kept-few}
-use Rattle.answers.specs.Answered.{answerOf, Leaves}
-use Rattle.answers.specs.declared.Refusal.the-variants as code
-use Rattle.answers.specs.declared.Answer.{Answer}
-use Rattle.answers.specs.declared.Answer.the-variants as told
-use Rattle.answers.proofs.Formal.{refused-leaves}
-use Rattle.size.proofs.Sizes.{bench-of-board}
+use Rattle.spec_lists.specs.Lists.{within, In}
+use Rattle.spec_table.specs.Board.{Board, Valid, load, heaviest}
+use Rattle.spec_table.specs.Table.{mostBenches, bytesOf, decode}
+use Rattle.spec_sharing.specs.Paths.{steps}
+use Rattle.spec_sharing.specs.Sharing.{level, tightSet}
+use Rattle.spec_calls.specs.Answers.{Outcome}
+use Rattle.spec_calls.specs.Calls.{loadOf, heaviestLoad, tightSetOf, formCheck, levelCheck, conditions, accepted, outcome, tightSetOutcome}
+use Rattle.spec_lists.proofs.Basics.{within-both, in-getD}
+use Rattle.spec_lists.proofs.Counting.{greatest-most}
+use Rattle.spec_table.proofs.Loads.{load-heaviest}
+use Rattle.spec_sharing.proofs.Walks.{reach-here}
+use Rattle.spec_sharing.proofs.TightSet.{tight-reached}
+use Rattle.spec_calls.proofs.ChainOrder.{sound-outcome}
+use Rattle.spec_calls.proofs.Questions.{load-refused, tight-answered, tight-list-refused, tight-height-refused}
+use Rattle.table_size.specs.declared.Size.{Size}
+use Rattle.table_size.specs.Sizes.{SoundTable}
+use Rattle.sharing_tight_set.specs.declared.set.Extent.{Extent}
+use Rattle.sharing_visits.specs.Marks.{mark}
+use Rattle.sharing_tight_set.specs.Sets.{marked, TightSet}
+use Rattle.sharing_tight_set.proofs.AsSet.{kept-few}
+use Rattle.board_answers.specs.Answered.{answerOf, Leaves}
+use Rattle.board_answers.specs.declared.Refusal.the-variants as code
+use Rattle.board_answers.specs.declared.Answer.{Answer}
+use Rattle.board_answers.specs.declared.Answer.the-variants as told
+use Rattle.board_answers.proofs.Formal.{refused-leaves}
+use Rattle.table_size.proofs.Sizes.{bench-of-board}
 
 -- heights and their sets
 

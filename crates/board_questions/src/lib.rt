@@ -1,20 +1,20 @@
 // The questions: they change no table byte.
 ghost use mathlib.Core.List.{[]};
-ghost use Rattle.calls.specs.Calls.{outcome, loadOf, heaviestLoad, tightSetOf, formCheck, levelCheck};
-ghost use Rattle.size.specs.Sizes.{SoundTable};
-ghost use Rattle.answers.specs.Answered.{Leaves};
-use answers::Answer;
-use answers::Refusal;
-use form::Form;
-use sharing::counts;
-use size::Size;
-use tight::set;
+ghost use Rattle.spec_calls.specs.Calls.{outcome, loadOf, heaviestLoad, tightSetOf, formCheck, levelCheck};
+ghost use Rattle.table_size.specs.Sizes.{SoundTable};
+ghost use Rattle.board_answers.specs.Answered.{Leaves};
+use board_answers::Answer;
+use board_answers::Refusal;
+use table_form::Form;
+use sharing_changes::counts;
+use table_size::Size;
+use sharing_tight_set::set;
 
 // Form check: sound, or the refusal.
 pub fn form_check(t: &[u8]) -> Answer
     ensures { λ r. ⌜ Leaves (outcome formCheck (now (t .entry))) r (now (t .entry)) [] ⌝ }
 {
-    match form::check(t) {
+    match table_form::check(t) {
         Form::Sizes => Answer::Refused(Refusal::Sizes),
         Form::Unsound => Answer::Refused(Refusal::Unsound),
         Form::Sound(_) => Answer::Sound,
@@ -25,11 +25,11 @@ pub fn form_check(t: &[u8]) -> Answer
 pub fn level_check(t: &[u8]) -> Answer
     ensures { λ r. ⌜ Leaves (outcome levelCheck (now (t .entry))) r (now (t .entry)) [] ⌝ }
 {
-    match form::check(t) {
+    match table_form::check(t) {
         Form::Sizes => Answer::Refused(Refusal::Sizes),
         Form::Unsound => Answer::Refused(Refusal::Unsound),
         Form::Sound(s) => {
-            if levels::is_level(t, s) {
+            if sharing_levelling::is_level(t, s) {
                 Answer::Level
             } else {
                 Answer::NotLevel
@@ -42,7 +42,7 @@ pub fn level_check(t: &[u8]) -> Answer
 pub fn load(t: &[u8], bench: usize) -> Answer
     ensures { λ r. ⌜ Leaves (outcome (loadOf bench) (now (t .entry))) r (now (t .entry)) [] ⌝ }
 {
-    match form::check(t) {
+    match table_form::check(t) {
         Form::Sizes => Answer::Refused(Refusal::Sizes),
         Form::Unsound => Answer::Refused(Refusal::Unsound),
         Form::Sound(s) => {
@@ -59,7 +59,7 @@ pub fn load(t: &[u8], bench: usize) -> Answer
 pub fn heaviest(t: &[u8]) -> Answer
     ensures { λ r. ⌜ Leaves (outcome heaviestLoad (now (t .entry))) r (now (t .entry)) [] ⌝ }
 {
-    match form::check(t) {
+    match table_form::check(t) {
         Form::Sizes => Answer::Refused(Refusal::Sizes),
         Form::Unsound => Answer::Refused(Refusal::Unsound),
         Form::Sound(s) => Answer::Heaviest(counts::heaviest(t, s)),
@@ -91,7 +91,7 @@ fn tight_set_on(t: &[u8], s: Size, height: usize, list: &mut [u8]) -> Answer
 pub fn tight_set(t: &[u8], height: usize, list: &mut [u8]) -> Answer
     ensures { λ r. ⌜ Leaves (outcome (tightSetOf height (now (list .entry))) (now (t .entry))) r (now (t .entry)) (now (list .exit)) ⌝ }
 {
-    match form::check(t) {
+    match table_form::check(t) {
         Form::Sizes => Answer::Refused(Refusal::Sizes),
         Form::Unsound => Answer::Refused(Refusal::Unsound),
         Form::Sound(s) => tight_set_on(t, s, height, list),

@@ -11,18 +11,18 @@ use denote.Laws.{Is}
 use denote.Steps.{owned}
 use denote.Struct.Laws as SL
 use denote.Enum.Laws as EL
-use Rattle.answers.specs.declared.Answer.{Answer}
-use Rattle.answers.proofs.Answer as A
-use Rattle.answers.proofs.Answer.Laws as A′
-use Rattle.tally.specs.declared.Tally.{Tally}
-use Rattle.tally.specs.declared.Note.{Note}
-use Rattle.tally.specs.declared.Noted.{Noted}
-use Rattle.tally.proofs.Tally as T
-use Rattle.tally.proofs.Tally.Laws as T′
-use Rattle.tally.proofs.Note as N
-use Rattle.tally.proofs.Note.Laws as N′
-use Rattle.tally.proofs.Noted as D
-use Rattle.tally.proofs.Noted.Laws as D′
+use Rattle.board_answers.specs.declared.Answer.{Answer}
+use Rattle.board_answers.proofs.Answer as A
+use Rattle.board_answers.proofs.Answer.Laws as A′
+use Rattle.board_tally.specs.declared.Tally.{Tally}
+use Rattle.board_tally.specs.declared.Note.{Note}
+use Rattle.board_tally.specs.declared.Noted.{Noted}
+use Rattle.board_tally.proofs.Tally as T
+use Rattle.board_tally.proofs.Tally.Laws as T′
+use Rattle.board_tally.proofs.Note as N
+use Rattle.board_tally.proofs.Note.Laws as N′
+use Rattle.board_tally.proofs.Noted as D
+use Rattle.board_tally.proofs.Noted.Laws as D′
 
 -- the machine value of a tally ..
 abbrev pub tallyVal : Tally → Val

@@ -8,18 +8,18 @@ use mathlib.Core.List.{List, [], _∷_}
 use lib.Dec.{T, leb}
 use types.Run.{OneOf}
 use denote.Enum.Declared.{tagOf}
-use Rattle.basics.specs.Lists.{member, In}
-use Rattle.basics.proofs.Basics.{tests-same, not-false, not→false, true→T, T→true, T-leb, leb-T, in-member}
-use Rattle.calls.specs.Tally.{mostCount, countsFit, raised, noted}
-use Rattle.calls.proofs.Tally.{Fits32, counts-fit, isChange, other-noted}
-use Rattle.answers.specs.Answered.{answerOf}
-use Rattle.answers.specs.declared.Answer.{Answer}
-use Rattle.answers.proofs.Answer as told
-use Rattle.answers.specs.declared.Answer.the-variants.{Refused, Blanked, Arrived, Closed, Load, Heaviest, TightSet, Sound, Level, NotLevel, Levelled, Stopped}
-use Rattle.tally.specs.Counts.{tallyOf, more, NotedAs}
-use Rattle.tally.specs.declared.Tally.{Tally}
-use Rattle.tally.specs.declared.Noted.{Noted}
-use Rattle.tally.specs.declared.Note.the-variants.{Counted, Full}
+use Rattle.spec_lists.specs.Lists.{member, In}
+use Rattle.spec_lists.proofs.Basics.{tests-same, not-false, not→false, true→T, T→true, T-leb, leb-T, in-member}
+use Rattle.spec_calls.specs.Tally.{mostCount, countsFit, raised, noted}
+use Rattle.spec_calls.proofs.Tally.{Fits32, counts-fit, isChange, other-noted}
+use Rattle.board_answers.specs.Answered.{answerOf}
+use Rattle.board_answers.specs.declared.Answer.{Answer}
+use Rattle.board_answers.proofs.Answer as told
+use Rattle.board_answers.specs.declared.Answer.the-variants.{Refused, Blanked, Arrived, Closed, Load, Heaviest, TightSet, Sound, Level, NotLevel, Levelled, Stopped}
+use Rattle.board_tally.specs.Counts.{tallyOf, more, NotedAs}
+use Rattle.board_tally.specs.declared.Tally.{Tally}
+use Rattle.board_tally.specs.declared.Noted.{Noted}
+use Rattle.board_tally.specs.declared.Note.the-variants.{Counted, Full}
 
 -- what is left up to the most is room
 pub room-is : (n k : ℕ) → n ≤ mostCount → leb k (mostCount - n) ≡ leb (n + k) mostCount

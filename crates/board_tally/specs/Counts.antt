@@ -2,12 +2,12 @@
 use Prim.Native.Nat.{ℕ, _+_}
 use mathlib.Core.Path.{_≡_}
 use mathlib.Core.Option.{Option, none, some}
-use Rattle.calls.specs.Answers.{Refusal, countFull, refusalNumber}
-use Rattle.calls.specs.Tally as paper
-use Rattle.tally.specs.declared.Tally.{Tally}
-use Rattle.tally.specs.declared.Note.{Note}
-use Rattle.tally.specs.declared.Note.the-variants.{Counted, Full}
-use Rattle.tally.specs.declared.Noted.{Noted}
+use Rattle.spec_calls.specs.Answers.{Refusal, countFull, refusalNumber}
+use Rattle.spec_calls.specs.Tally as paper
+use Rattle.board_tally.specs.declared.Tally.{Tally}
+use Rattle.board_tally.specs.declared.Note.{Note}
+use Rattle.board_tally.specs.declared.Note.the-variants.{Counted, Full}
+use Rattle.board_tally.specs.declared.Noted.{Noted}
 
 -- the tally
 abbrev pub tallyOf : Tally → paper.Tally

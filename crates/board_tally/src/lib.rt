@@ -2,10 +2,10 @@
 ghost use Prim.Native.Nat.{_+_};
 ghost use mathlib.Core.Path.{_≡_};
 ghost use lib.Dec.{leb};
-ghost use Rattle.calls.specs.Tally.{mostCount, zeroTally, countsFit, raised, noted};
-ghost use Rattle.answers.specs.Answered.{answerOf};
-ghost use Rattle.tally.specs.Counts.{tallyOf, noteOf, numberOf, more, NotedAs};
-use answers::Answer;
+ghost use Rattle.spec_calls.specs.Tally.{mostCount, zeroTally, countsFit, raised, noted};
+ghost use Rattle.board_answers.specs.Answered.{answerOf};
+ghost use Rattle.board_tally.specs.Counts.{tallyOf, noteOf, numberOf, more, NotedAs};
+use board_answers::Answer;
 
 // Three 32-bit counts.
 pub struct Tally {

@@ -6,14 +6,14 @@ use mathlib.Core.Bool.{true, false}
 use mathlib.Core.Logic.{_⊎_, inl, inr, ⊎-elim}
 use mathlib.Core.List.{List, [], _∷_, _++_}
 use lib.ListN.{drop}
-use Rattle.basics.specs.Lists.{nth}
-use Rattle.calls.specs.Answers.{Refusal, sizes, unsound, jobNumber, benchNumber, alreadyStanding, notStanding, height, listTooShort, countFull, unreadable, refusalNumber}
-use Rattle.calls.specs.Answers.{Answer, refused, blanked, arrived, closed, loadIs, heaviestIs, tightSetIs, isSound, levelYes, levelNo, levelled, stopped, isRefused, inNumbers}
-use Rattle.answers.specs.Answered.{returned}
-use Rattle.lines.specs.Counter.{lineFeed, space, digits, printed}
-use Rattle.printing.specs.Wrote.{Wrote, spaced}
-use Rattle.printing.proofs.Writing.{wrote-start, wrote-then, wrote-more, printed-is, spaced-append}
-use Rattle.answer_lines.specs.AnswerLines.{refusalText, answerText}
+use Rattle.spec_lists.specs.Lists.{nth}
+use Rattle.spec_calls.specs.Answers.{Refusal, sizes, unsound, jobNumber, benchNumber, alreadyStanding, notStanding, height, listTooShort, countFull, unreadable, refusalNumber}
+use Rattle.spec_calls.specs.Answers.{Answer, refused, blanked, arrived, closed, loadIs, heaviestIs, tightSetIs, isSound, levelYes, levelNo, levelled, stopped, isRefused, inNumbers}
+use Rattle.board_answers.specs.Answered.{returned}
+use Rattle.spec_counter.specs.Counter.{lineFeed, space, digits, printed}
+use Rattle.counter_printing.specs.Wrote.{Wrote, spaced}
+use Rattle.counter_printing.proofs.Writing.{wrote-start, wrote-then, wrote-more, printed-is, spaced-append}
+use Rattle.counter_answer_lines.specs.AnswerLines.{refusalText, answerText}
 
 -- refusals are numbered from 1 on ..
 pub refusal-positive : (r : Refusal) → 1 ≤ refusalNumber r

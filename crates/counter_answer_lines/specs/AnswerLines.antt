@@ -4,10 +4,10 @@ use Prim.Native.Char.{code}
 use mathlib.Core.Bool.{cond}
 use mathlib.Core.List.{List, [], _∷_, _++_}
 use lib.ListN.{drop}
-use Rattle.layout.specs.Table.{mostBenches}
-use Rattle.calls.specs.Answers.{Answer, isRefused, inNumbers}
-use Rattle.lines.specs.Counter.{printed}
-use Rattle.printing.specs.Wrote.{fieldMost}
+use Rattle.spec_table.specs.Table.{mostBenches}
+use Rattle.spec_calls.specs.Answers.{Answer, isRefused, inNumbers}
+use Rattle.spec_counter.specs.Counter.{printed}
+use Rattle.counter_printing.specs.Wrote.{fieldMost}
 
 -- room for every line: a letter, three numbers of the command, three values, a bench for each of the most benches, a line feed
 abbrev pub lineMost : ℕ

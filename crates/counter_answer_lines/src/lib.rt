@@ -2,14 +2,14 @@
 ghost use mathlib.Core.List.{[], _∷_, _++_};
 ghost use Prim.Native.Nat.{_+_, _*_, _≤_};
 ghost use lib.ListN.{length, take, drop};
-ghost use Rattle.basics.specs.Lists.{nth};
-ghost use Rattle.layout.specs.Table.{words, mostBenches};
-ghost use Rattle.calls.specs.Answers.{inNumbers};
-ghost use Rattle.answers.specs.Answered.{answerOf, valuesOf};
-ghost use Rattle.printing.specs.Wrote.{Wrote, fieldMost, spaced};
-ghost use Rattle.answer_lines.specs.AnswerLines.{lineMost, refusalText, answerText};
-use answers::Answer;
-use answers::Values;
+ghost use Rattle.spec_lists.specs.Lists.{nth};
+ghost use Rattle.spec_table.specs.Table.{words, mostBenches};
+ghost use Rattle.spec_calls.specs.Answers.{inNumbers};
+ghost use Rattle.board_answers.specs.Answered.{answerOf, valuesOf};
+ghost use Rattle.counter_printing.specs.Wrote.{Wrote, fieldMost, spaced};
+ghost use Rattle.counter_answer_lines.specs.AnswerLines.{lineMost, refusalText, answerText};
+use board_answers::Answer;
+use board_answers::Values;
 
 // The room that any line fits into: `lineMost`, for those who lend the buffer.
 pub const LINE_MOST: usize = 10628;
@@ -20,9 +20,9 @@ pub fn refusal(out: &mut [u8], at: usize, number: usize) -> usize
     ensures { λ r. ⌜ Wrote (now (out .entry)) (now (out .exit)) at r (refusalText number) ⌝ }
     ensures short { λ r. ⌜ r ≤ at + lineMost ⌝ }
 {
-    let letter = printing::byte(out, at, b'R');
-    let told = printing::number(out, letter, number);
-    printing::byte(out, told, b'\n')
+    let letter = counter_printing::byte(out, at, b'R');
+    let told = counter_printing::number(out, letter, number);
+    counter_printing::byte(out, told, b'\n')
 }
 
 // A letter, numbers of the command and the answer's values.
@@ -32,9 +32,9 @@ fn beginning(out: &mut [u8], at: usize, letter: u8, repeated: Values, a: Answer)
     ensures short { λ r. ⌜ r ≤ at + 1 + fieldMost * 6 ⌝ }
 {
     let v = a.values();
-    let named = printing::byte(out, at, letter);
-    let told = printing::values(out, named, repeated);
-    printing::values(out, told, v)
+    let named = counter_printing::byte(out, at, letter);
+    let told = counter_printing::values(out, named, repeated);
+    counter_printing::values(out, told, v)
 }
 
 // An answer's line without a list.
@@ -48,7 +48,7 @@ pub fn answer(out: &mut [u8], at: usize, letter: u8, repeated: Values, a: Answer
         return refusal(out, at, number as usize);
     }
     let end = beginning(out, at, letter, repeated, a);
-    printing::byte(out, end, b'\n')
+    counter_printing::byte(out, end, b'\n')
 }
 
 // An answer's line with the words of a list, as many as its first value says; a refusal lists none.
@@ -71,6 +71,6 @@ pub fn listing(
     }
     let told = beginning(out, at, letter, repeated, a);
     let count = a.values().get(1, 0);
-    let listed = printing::listed(out, told, list, count);
-    printing::byte(out, listed, b'\n')
+    let listed = counter_printing::listed(out, told, list, count);
+    counter_printing::byte(out, listed, b'\n')
 }

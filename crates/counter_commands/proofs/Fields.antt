@@ -12,14 +12,14 @@ use lib.Dec.{eqb, leb}
 use lib.ListN.{length, drop, getD, length-append, drop-of-length-le}
 use lib.Seq.{drop-cons}
 use borrow.Author.Tests.{le-leb, lt-leb, eq-eqb, ne-eqb, leb-true, leb-false}
-use Rattle.basics.specs.Lists.{all, empty}
-use Rattle.lines.specs.Counter.{space, onto, pieces, digit, value, number, numbers, joined, commandFor, fieldsCommand, command}
-use Rattle.basics.proofs.Basics.{Compared, same, other, compared, true→T, within-low, within-high, right, T-leb}
-use Rattle.commands.specs.Read.{digitValue, behind, onwards, Further, ReadField, followed, few, taken, given}
-use Rattle.commands.specs.declared.Field.{Field}
-use Rattle.commands.specs.declared.Field.the-variants as field
-use Rattle.commands.specs.declared.Numbers.{Numbers}
-use Rattle.commands.specs.declared.Numbers.the-variants as read
+use Rattle.spec_lists.specs.Lists.{all, empty}
+use Rattle.spec_counter.specs.Counter.{space, onto, pieces, digit, value, number, numbers, joined, commandFor, fieldsCommand, command}
+use Rattle.spec_lists.proofs.Basics.{Compared, same, other, compared, true→T, within-low, within-high, right, T-leb}
+use Rattle.counter_commands.specs.Read.{digitValue, behind, onwards, Further, ReadField, followed, few, taken, given}
+use Rattle.counter_commands.specs.declared.Field.{Field}
+use Rattle.counter_commands.specs.declared.Field.the-variants as field
+use Rattle.counter_commands.specs.declared.Numbers.{Numbers}
+use Rattle.counter_commands.specs.declared.Numbers.the-variants as read
 
 -- a list that is cut has a first piece
 data Cut : List (List ℕ) → Type 0 where

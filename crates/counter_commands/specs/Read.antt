@@ -1,4 +1,4 @@
--- What is read of a line, in the words of `Rattle.lines.specs.Counter`.
+-- What is read of a line, in the words of `Rattle.spec_counter.specs.Counter`.
 use Prim.Native.Nat.{ℕ, _-_, _<_}
 use Prim.Native.Char.{code}
 use mathlib.Core.Path.{_≡_}
@@ -7,16 +7,16 @@ use mathlib.Core.List.{List, [], _∷_, _++_}
 use mathlib.Core.Option.{Option, none, some}
 use lib.Dec.{eqb, leb}
 use lib.ListN.{length, drop}
-use Rattle.lines.specs.Counter as paper
-use Rattle.lines.specs.Counter.{space, pieces, digit, numbers, joined, commandFor}
-use Rattle.commands.specs.declared.Command.{Command}
-use Rattle.commands.specs.declared.Command.the-variants as told
-use Rattle.commands.specs.declared.Reading.{Reading}
-use Rattle.commands.specs.declared.Reading.the-variants.{Readable, Unreadable}
-use Rattle.commands.specs.declared.Field.{Field}
-use Rattle.commands.specs.declared.Field.the-variants as field
-use Rattle.commands.specs.declared.Numbers.{Numbers}
-use Rattle.commands.specs.declared.Numbers.the-variants as read
+use Rattle.spec_counter.specs.Counter as paper
+use Rattle.spec_counter.specs.Counter.{space, pieces, digit, numbers, joined, commandFor}
+use Rattle.counter_commands.specs.declared.Command.{Command}
+use Rattle.counter_commands.specs.declared.Command.the-variants as told
+use Rattle.counter_commands.specs.declared.Reading.{Reading}
+use Rattle.counter_commands.specs.declared.Reading.the-variants.{Readable, Unreadable}
+use Rattle.counter_commands.specs.declared.Field.{Field}
+use Rattle.counter_commands.specs.declared.Field.the-variants as field
+use Rattle.counter_commands.specs.declared.Numbers.{Numbers}
+use Rattle.counter_commands.specs.declared.Numbers.the-variants as read
 
 -- the command
 abbrev pub commandOf : Command → paper.Command

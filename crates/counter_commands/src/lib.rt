@@ -4,8 +4,8 @@ ghost use mathlib.Core.List.{[], _∷_};
 ghost use mathlib.Core.Option.{some};
 ghost use Prim.Native.Nat.{_<_};
 ghost use lib.ListN.{length, drop};
-ghost use Rattle.lines.specs.Counter.{command};
-ghost use Rattle.commands.specs.Read.{readingOf, digitValue, behind, few, followed, taken, given, ReadField};
+ghost use Rattle.spec_counter.specs.Counter.{command};
+ghost use Rattle.counter_commands.specs.Read.{readingOf, digitValue, behind, few, followed, taken, given, ReadField};
 
 // A line's command, with its numbers.
 pub enum Command {

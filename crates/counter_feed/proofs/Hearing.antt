@@ -8,22 +8,22 @@ use mathlib.Core.Logic.{_⊎_, inl, inr, _≢_}
 use mathlib.Core.List.{List, [], _∷_, _++_}
 use lib.ListN.{length, take, getD, set, length-set}
 use lib.Seq.{take-suc, take-suc-set, length-take-le}
-use Rattle.basics.proofs.Basics.{each-append}
-use Rattle.calls.specs.Answers.{unreadable, refusalNumber}
-use Rattle.lines.specs.Counter as paper
-use Rattle.lines.specs.Counter.{lineFeed, atFirst, unreadableLine}
-use Rattle.lines.specs.Stream.{Place, atEnd, Unended, Goes, lineText}
-use Rattle.lines.proofs.Stream.{goes-line, goes-byte, goes-past, goes-none, goes-then, still-end}
-use Rattle.printing.specs.Wrote.{Wrote}
-use Rattle.printing.proofs.Writing.{wrote-none}
-use Rattle.answer_lines.specs.AnswerLines.{lineMost, refusalText}
-use Rattle.state.specs.State.{counterOf}
-use Rattle.state.specs.declared.Counter.{Counter}
-use Rattle.state.specs.declared.Reply.{Reply}
-use Rattle.replies.specs.Replies.{Answers}
-use Rattle.counting.specs.Heard.{keptMost, placeOf, Stands, Begins, KeepsByte, Hears, Feeds, Finishes}
-use Rattle.counting.specs.declared.Reader.{Reader}
-use Rattle.counting.specs.declared.Heard.{Heard}
+use Rattle.spec_lists.proofs.Basics.{each-append}
+use Rattle.spec_calls.specs.Answers.{unreadable, refusalNumber}
+use Rattle.spec_counter.specs.Counter as paper
+use Rattle.spec_counter.specs.Counter.{lineFeed, atFirst, unreadableLine}
+use Rattle.spec_counter.specs.Stream.{Place, atEnd, Unended, Goes, lineText}
+use Rattle.spec_counter.proofs.Stream.{goes-line, goes-byte, goes-past, goes-none, goes-then, still-end}
+use Rattle.counter_printing.specs.Wrote.{Wrote}
+use Rattle.counter_printing.proofs.Writing.{wrote-none}
+use Rattle.counter_answer_lines.specs.AnswerLines.{lineMost, refusalText}
+use Rattle.counter_state.specs.State.{counterOf}
+use Rattle.counter_state.specs.declared.Counter.{Counter}
+use Rattle.counter_state.specs.declared.Reply.{Reply}
+use Rattle.counter_reply.specs.Replies.{Answers}
+use Rattle.counter_feed.specs.Heard.{keptMost, placeOf, Stands, Begins, KeepsByte, Hears, Feeds, Finishes}
+use Rattle.counter_feed.specs.declared.Reader.{Reader}
+use Rattle.counter_feed.specs.declared.Heard.{Heard}
 
 -- before the first byte
 pub begins : (c : Counter) → c .length ≡ 0 → ((bytes : List ℕ) → counterOf c bytes ≡ atFirst) → Begins (record { counter = c; held = 0 })

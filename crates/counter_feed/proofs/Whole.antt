@@ -3,11 +3,11 @@ use Prim.Native.Nat.{ℕ}
 use mathlib.Core.Path.{_≡_, ap, subst, _∙_}
 use mathlib.Core.List.{List, _++_}
 use lib.ListN.{take}
-use Rattle.lines.specs.Counter.{counter}
-use Rattle.lines.specs.Stream.{Place, Run, ended, then}
-use Rattle.lines.proofs.Stream.{joint, still-end, however-cut}
-use Rattle.counting.specs.Heard.{placeOf, Stands, Begins, Finishes, Feedings, over, fed}
-use Rattle.counting.specs.declared.Reader.{Reader}
+use Rattle.spec_counter.specs.Counter.{counter}
+use Rattle.spec_counter.specs.Stream.{Place, Run, ended, then}
+use Rattle.spec_counter.proofs.Stream.{joint, still-end, however-cut}
+use Rattle.counter_feed.specs.Heard.{placeOf, Stands, Begins, Finishes, Feedings, over, fed}
+use Rattle.counter_feed.specs.declared.Reader.{Reader}
 
 -- calls of `feed` are a run of the definition
 feedings-run : {a b : Place} {heards texts : List (List ℕ)} → Feedings b a heards texts → Run b a heards texts

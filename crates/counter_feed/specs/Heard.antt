@@ -1,15 +1,15 @@
--- What the counter program keeps of its input, and what a piece of input does, in the words of `Rattle.lines.specs.Stream`.
+-- What the counter program keeps of its input, and what a piece of input does, in the words of `Rattle.spec_counter.specs.Stream`.
 use Prim.Native.Nat.{ℕ, _+_, _≤_, _<_}
 use mathlib.Core.Path.{_≡_}
 use mathlib.Core.List.{List, [], _∷_, _++_}
 use lib.ListN.{length, take}
-use Rattle.lines.specs.Stream.{Place, beginning, Unended, still, Goes}
-use Rattle.printing.specs.Wrote.{Wrote}
-use Rattle.answer_lines.specs.AnswerLines.{lineMost}
-use Rattle.state.specs.State.{tableMost, Room, counterOf}
-use Rattle.counting.specs.declared.Reader.{Reader}
-use Rattle.counting.specs.declared.Heard.{Heard}
-use Rattle.counting.specs.declared.Fed.{Fed}
+use Rattle.spec_counter.specs.Stream.{Place, beginning, Unended, still, Goes}
+use Rattle.counter_printing.specs.Wrote.{Wrote}
+use Rattle.counter_answer_lines.specs.AnswerLines.{lineMost}
+use Rattle.counter_state.specs.State.{tableMost, Room, counterOf}
+use Rattle.counter_feed.specs.declared.Reader.{Reader}
+use Rattle.counter_feed.specs.declared.Heard.{Heard}
+use Rattle.counter_feed.specs.declared.Fed.{Fed}
 
 -- so many bytes of a line are kept: one more than a readable line may have
 abbrev pub keptMost : ℕ

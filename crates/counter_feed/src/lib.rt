@@ -3,11 +3,11 @@ ghost use mathlib.Core.Path.{_≡_};
 ghost use mathlib.Core.List.{List, [], _∷_};
 ghost use Prim.Native.Nat.{ℕ, _+_, _≤_};
 ghost use lib.ListN.{length, take, set};
-ghost use Rattle.lines.specs.Stream.{beginning};
-ghost use Rattle.answer_lines.specs.AnswerLines.{lineMost};
-ghost use Rattle.counting.specs.Heard.{keptMost, placeOf, Stands, Hears, Feeds, Finishes, Begins, KeepsByte};
-use answers::Refusal;
-use state::Counter;
+ghost use Rattle.spec_counter.specs.Stream.{beginning};
+ghost use Rattle.counter_answer_lines.specs.AnswerLines.{lineMost};
+ghost use Rattle.counter_feed.specs.Heard.{keptMost, placeOf, Stands, Hears, Feeds, Finishes, Begins, KeepsByte};
+use board_answers::Refusal;
+use counter_state::Counter;
 
 // Where the program is in its input: its state, and how many bytes of the present line it keeps.
 pub struct Reader {
@@ -64,7 +64,7 @@ fn hear(r: Reader, byte: u8, bytes: &mut [u8], line: &mut [u8], out: &mut [u8], 
     let counter = r.counter;
     let held = r.held;
     if byte == b'\n' {
-        let reply = replies::to_line(counter, &line[..held], bytes, out, at);
+        let reply = counter_reply::to_line(counter, &line[..held], bytes, out, at);
         let next = reply.counter;
         return Heard {
             reader: Reader {
@@ -93,7 +93,7 @@ pub fn feed(r: Reader, chunk: &[u8], bytes: &mut [u8], line: &mut [u8], out: &mu
     let mut reader = r;
     let mut used = 0;
     let mut at = 0;
-    while used < chunk.len() && answer_lines::LINE_MOST <= out.len() - at {
+    while used < chunk.len() && counter_answer_lines::LINE_MOST <= out.len() - at {
         let h = hear(reader, chunk[used], bytes, line, out, at);
         let next = h.reader;
         reader = next;
@@ -115,5 +115,5 @@ pub fn finish(r: Reader, out: &mut [u8]) -> usize
     if r.held == 0 {
         return 0;
     }
-    answer_lines::refusal(out, 0, Refusal::Unreadable.number() as usize)
+    counter_answer_lines::refusal(out, 0, Refusal::Unreadable.number() as usize)
 }

@@ -5,9 +5,9 @@ use mathlib.Core.Path.{_≡_, refl, _∙_}
 use mathlib.Core.List.{List, _++_}
 use lib.ListN.{length, take, drop, length-append, length-drop}
 use lib.Seq.{length-take-le}
-use Rattle.answer_lines.specs.AnswerLines.{lineMost}
-use Rattle.counting.specs.declared.Reader.{Reader}
-use Rattle.counting.specs.Heard.{Stands}
+use Rattle.counter_answer_lines.specs.AnswerLines.{lineMost}
+use Rattle.counter_feed.specs.declared.Reader.{Reader}
+use Rattle.counter_feed.specs.Heard.{Stands}
 use Rattle.counter_io.specs.declared.Served.{Served}
 use Rattle.counter_io.specs.Serving.{Serves}
 

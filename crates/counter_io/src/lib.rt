@@ -2,11 +2,11 @@
 ghost use mathlib.Core.Path.{_≡_};
 ghost use Prim.Native.Nat.{_≤_};
 ghost use lib.ListN.{length};
-ghost use Rattle.answer_lines.specs.AnswerLines.{lineMost};
-ghost use Rattle.state.specs.State.{tableMost};
-ghost use Rattle.counting.specs.Heard.{keptMost, Stands};
+ghost use Rattle.counter_answer_lines.specs.AnswerLines.{lineMost};
+ghost use Rattle.counter_state.specs.State.{tableMost};
+ghost use Rattle.counter_feed.specs.Heard.{keptMost, Stands};
 ghost use Rattle.counter_io.specs.Serving.{Serves};
-use counting::Reader;
+use counter_feed::Reader;
 
 // The reader behind what was answered of a chunk, how many bytes that are, and whether the answers could be written.
 struct Served {
@@ -56,7 +56,7 @@ fn answer_some(
     requires { ⌜ lineMost ≤ length (now out) ⌝ }
     ensures { λ s. ⌜ Serves (now (chunk .entry)) (now (bytes .exit)) (now (line .exit)) s ⌝ }
 {
-    let fed = counting::feed(r, chunk, bytes, line, out);
+    let fed = counter_feed::feed(r, chunk, bytes, line, out);
     let written = fed.written;
     let open = io::write_all(output, &out[..written]);
     let reader = fed.reader;
@@ -165,7 +165,7 @@ fn converse(
 fn end(r: Reader, output: i32, out: &mut [u8])
     requires { ⌜ lineMost ≤ length (now out) ⌝ }
 {
-    let n = counting::finish(r, out);
+    let n = counter_feed::finish(r, out);
     io::write_all(output, &out[..n]);
 }
 

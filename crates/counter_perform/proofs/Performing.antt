@@ -8,32 +8,32 @@ use mathlib.Core.Bool.{true}
 use mathlib.Core.Option.{Option, none, some}
 use lib.ListN.{length, take, drop, length-append}
 use lib.Seq.{take-at, length-take-le, length-front}
-use Rattle.basics.specs.Lists.{nth}
-use Rattle.layout.specs.Table.{words, bytesOf, lengthFor, sizesFit, decode, blankTable, mostBenches}
-use Rattle.rules.specs.Sharing.{tightSet}
-use Rattle.calls.specs.Answers.{Outcome, Refusal, inNumbers, settled, firstHolding, sizes, blanked, refusalNumber}
-use Rattle.calls.specs.Calls.{outcome, blanking, arrival, closing, heaviestLoad, tightSetOf, answering, accepted, tightSetOutcome, formConditions, conditions}
-use Rattle.calls.specs.Tally.{Tally, zeroTally, noted}
-use Rattle.calls.proofs.Blanking.{blanking-refused}
-use Rattle.layout.proofs.Words.{length-bytesOf}
-use Rattle.lines.specs.Counter as paper
-use Rattle.lines.specs.Counter.{takeIn, closeJob, setTable, askTightSet, askHeaviest, counterList, lineFor, done, after}
-use Rattle.lines.proofs.Counter.{list-holds-all}
-use Rattle.lines.proofs.CounterRun.{room-fits}
-use Rattle.size.specs.Sizes.{sizing}
-use Rattle.size.specs.declared.Size.{Size}
-use Rattle.size.specs.declared.Sizing.the-variants.{Fit, Misfit}
-use Rattle.size.proofs.Sizes.{fit-sizing, sizes-fit, sizes-refused}
-use Rattle.answers.specs.Answered.{answerOf, Leaves}
-use Rattle.answers.specs.declared.Answer.{Answer}
-use Rattle.tally.specs.Counts.{tallyOf}
-use Rattle.printing.specs.Wrote.{Wrote}
-use Rattle.answer_lines.specs.AnswerLines.{lineMost, refusalText, answerText}
-use Rattle.state.specs.State.{tableMost, counterOf, Room, Told}
-use Rattle.state.specs.declared.Counter.{Counter}
-use Rattle.state.specs.declared.Reply.{Reply}
-use Rattle.state.proofs.Telling.{tells}
-use Rattle.performing.specs.Performed.{Replies, Performs}
+use Rattle.spec_lists.specs.Lists.{nth}
+use Rattle.spec_table.specs.Table.{words, bytesOf, lengthFor, sizesFit, decode, blankTable, mostBenches}
+use Rattle.spec_sharing.specs.Sharing.{tightSet}
+use Rattle.spec_calls.specs.Answers.{Outcome, Refusal, inNumbers, settled, firstHolding, sizes, blanked, refusalNumber}
+use Rattle.spec_calls.specs.Calls.{outcome, blanking, arrival, closing, heaviestLoad, tightSetOf, answering, accepted, tightSetOutcome, formConditions, conditions}
+use Rattle.spec_calls.specs.Tally.{Tally, zeroTally, noted}
+use Rattle.spec_calls.proofs.Blanking.{blanking-refused}
+use Rattle.spec_table.proofs.Words.{length-bytesOf}
+use Rattle.spec_counter.specs.Counter as paper
+use Rattle.spec_counter.specs.Counter.{takeIn, closeJob, setTable, askTightSet, askHeaviest, counterList, lineFor, done, after}
+use Rattle.spec_counter.proofs.Counter.{list-holds-all}
+use Rattle.spec_counter.proofs.CounterRun.{room-fits}
+use Rattle.table_size.specs.Sizes.{sizing}
+use Rattle.table_size.specs.declared.Size.{Size}
+use Rattle.table_size.specs.declared.Sizing.the-variants.{Fit, Misfit}
+use Rattle.table_size.proofs.Sizes.{fit-sizing, sizes-fit, sizes-refused}
+use Rattle.board_answers.specs.Answered.{answerOf, Leaves}
+use Rattle.board_answers.specs.declared.Answer.{Answer}
+use Rattle.board_tally.specs.Counts.{tallyOf}
+use Rattle.counter_printing.specs.Wrote.{Wrote}
+use Rattle.counter_answer_lines.specs.AnswerLines.{lineMost, refusalText, answerText}
+use Rattle.counter_state.specs.State.{tableMost, counterOf, Room, Told}
+use Rattle.counter_state.specs.declared.Counter.{Counter}
+use Rattle.counter_state.specs.declared.Reply.{Reply}
+use Rattle.counter_state.proofs.Telling.{tells}
+use Rattle.counter_perform.specs.Performed.{Replies, Performs}
 
 -- a part of a list at its beginning, written anew in its length
 part-kept : (n : ℕ) (d e : List ℕ) → n ≤ length d → length e ≡ length (take n d) → (take n (e ++ drop n d) ≡ e) × (length (e ++ drop n d) ≡ length d)

@@ -1,17 +1,17 @@
 // How the counter program performs each command: the call, and its line.
 ghost use Prim.Native.Nat.{_+_, _≤_};
 ghost use lib.ListN.{length};
-ghost use Rattle.lines.specs.Counter.{takeIn, closeJob, setTable, askTightSet, askHeaviest};
-ghost use Rattle.answer_lines.specs.AnswerLines.{lineMost};
-ghost use Rattle.state.specs.State.{Room, counterOf};
-ghost use Rattle.performing.specs.Performed.{Performs};
-use answers::Refusal;
-use board::changes;
-use size::Size;
-use size::Sizing;
-use state::Counter;
-use state::Reply;
-use tally::Tally;
+ghost use Rattle.spec_counter.specs.Counter.{takeIn, closeJob, setTable, askTightSet, askHeaviest};
+ghost use Rattle.counter_answer_lines.specs.AnswerLines.{lineMost};
+ghost use Rattle.counter_state.specs.State.{Room, counterOf};
+ghost use Rattle.counter_perform.specs.Performed.{Performs};
+use board_answers::Refusal;
+use board_changes::changes;
+use table_size::Size;
+use table_size::Sizing;
+use counter_state::Counter;
+use counter_state::Reply;
+use board_tally::Tally;
 
 // "B benches jobs"; "a refused B keeps the old table".
 pub fn set_table(
@@ -27,15 +27,15 @@ pub fn set_table(
     ensures { λ r. ⌜ Performs (setTable benches jobs) (counterOf c (now (bytes .entry))) (now (bytes .exit)) (now (out .entry)) (now (out .exit)) at r ⌝ }
 {
     match Size::new(benches, jobs) {
-        Sizing::Misfit => state::refuse(c, Refusal::Sizes, out, at),
+        Sizing::Misfit => counter_state::refuse(c, Refusal::Sizes, out, at),
         Sizing::Fit(s) => {
             let length = s.bytes();
             let a = changes::blank(&mut bytes[..length], benches, jobs);
             let tally = Tally::new();
-            state::tell(
+            counter_state::tell(
                 Counter { length, tally },
                 b'B',
-                state::two(benches, jobs),
+                counter_state::two(benches, jobs),
                 a,
                 out,
                 at,
@@ -60,7 +60,7 @@ pub fn take_in(
 {
     let length = c.length;
     let a = changes::arrival(&mut bytes[..length], job, first, second);
-    state::tell(c.noted(a), b'A', state::one(job), a, out, at)
+    counter_state::tell(c.noted(a), b'A', counter_state::one(job), a, out, at)
 }
 
 // "D job, bench that fell, moved".
@@ -71,7 +71,7 @@ pub fn close_job(c: Counter, job: usize, bytes: &mut [u8], out: &mut [u8], at: u
 {
     let length = c.length;
     let a = changes::closing(&mut bytes[..length], job);
-    state::tell(c.noted(a), b'D', state::one(job), a, out, at)
+    counter_state::tell(c.noted(a), b'D', counter_state::one(job), a, out, at)
 }
 
 // "S height, benches, inside jobs, then the benches".
@@ -81,9 +81,9 @@ pub fn ask_tight_set(c: Counter, height: usize, bytes: &[u8], out: &mut [u8], at
     ensures { λ r. ⌜ Performs (askTightSet height) (counterOf c (now (bytes .entry))) (now (bytes .entry)) (now (out .entry)) (now (out .exit)) at r ⌝ }
 {
     let length = c.length;
-    let mut list = state::zero_list();
-    let a = questions::tight_set(&bytes[..length], height, &mut list);
-    let next = answer_lines::listing(out, at, b'S', state::one(height), a, &list);
+    let mut list = counter_state::zero_list();
+    let a = board_questions::tight_set(&bytes[..length], height, &mut list);
+    let next = counter_answer_lines::listing(out, at, b'S', counter_state::one(height), a, &list);
     Reply {
         counter: c,
         at: next,
@@ -97,6 +97,6 @@ pub fn ask_heaviest(c: Counter, bytes: &[u8], out: &mut [u8], at: usize) -> Repl
     ensures { λ r. ⌜ Performs askHeaviest (counterOf c (now (bytes .entry))) (now (bytes .entry)) (now (out .entry)) (now (out .exit)) at r ⌝ }
 {
     let length = c.length;
-    let a = questions::heaviest(&bytes[..length]);
-    state::tell(c, b'H', state::none(), a, out, at)
+    let a = board_questions::heaviest(&bytes[..length]);
+    counter_state::tell(c, b'H', counter_state::none(), a, out, at)
 }

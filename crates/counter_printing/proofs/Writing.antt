@@ -7,14 +7,14 @@ use mathlib.Core.Path.{_≡_, refl, sym, ap, subst, _∙_}
 use mathlib.Core.List.{List, [], _∷_, _++_, flatMap, append-nil, append-assoc}
 use lib.ListN.{length, set, take, length-append, length-set}
 use lib.Seq.{take-all, take-suc, take-suc-set}
-use Rattle.lines.specs.Counter.{lineFeed, space, digits, printed}
-use Rattle.lines.proofs.Counter.{digits-one, digits-next, digits-short}
-use Rattle.layout.specs.Table.{words}
-use Rattle.layout.proofs.Sound.{length-words}
-use Rattle.words.specs.Bytes.{IsWord}
-use Rattle.answers.specs.declared.Values.{Values}
-use Rattle.answers.specs.Answered.{valuesOf}
-use Rattle.printing.specs.Wrote.{Wrote, fieldMost, spaced}
+use Rattle.spec_counter.specs.Counter.{lineFeed, space, digits, printed}
+use Rattle.spec_counter.proofs.Counter.{digits-one, digits-next, digits-short}
+use Rattle.spec_table.specs.Table.{words}
+use Rattle.spec_table.proofs.Sound.{length-words}
+use Rattle.table_words.specs.Bytes.{IsWord}
+use Rattle.board_answers.specs.declared.Values.{Values}
+use Rattle.board_answers.specs.Answered.{valuesOf}
+use Rattle.counter_printing.specs.Wrote.{Wrote, fieldMost, spaced}
 
 -- nothing
 pub wrote-none : (a : List ℕ) (i : ℕ) → Wrote a a i i []

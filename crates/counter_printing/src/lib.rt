@@ -3,11 +3,11 @@
 ghost use mathlib.Core.List.{[], _∷_};
 ghost use Prim.Native.Nat.{_+_, _*_, _<_, _≤_};
 ghost use lib.ListN.{length, take};
-ghost use Rattle.layout.specs.Table.{words};
-ghost use Rattle.answers.specs.Answered.{valuesOf};
-ghost use Rattle.lines.specs.Counter.{space, digits};
-ghost use Rattle.printing.specs.Wrote.{Wrote, fieldMost, spaced};
-use answers::Values;
+ghost use Rattle.spec_table.specs.Table.{words};
+ghost use Rattle.board_answers.specs.Answered.{valuesOf};
+ghost use Rattle.spec_counter.specs.Counter.{space, digits};
+ghost use Rattle.counter_printing.specs.Wrote.{Wrote, fieldMost, spaced};
+use board_answers::Values;
 
 // One byte.
 pub fn byte(out: &mut [u8], at: usize, b: u8) -> usize
@@ -71,7 +71,7 @@ pub fn listed(out: &mut [u8], at: usize, list: &[u8], count: usize) -> usize
     let mut next = at;
     let mut i = 0;
     while i < count {
-        next = number(out, next, words::read(list, i));
+        next = number(out, next, table_words::read(list, i));
         i += 1;
     }
     next

@@ -2,22 +2,22 @@
 use Prim.Native.Nat.{ℕ}
 use mathlib.Core.Path.{_≡_, refl, sym, ap, subst, _∙_}
 use mathlib.Core.List.{List}
-use Rattle.calls.specs.Answers.{unreadable, refusalNumber}
-use Rattle.lines.specs.Counter as paper
-use Rattle.lines.specs.Counter.{command}
-use Rattle.lines.specs.Stream.{lineText, lineAfter}
-use Rattle.tally.specs.Counts.{tallyOf}
-use Rattle.commands.specs.Read.{commandOf, readingOf}
-use Rattle.commands.specs.declared.Command.{Command}
-use Rattle.commands.specs.declared.Reading.{Reading}
-use Rattle.commands.specs.declared.Reading.the-variants.{Readable, Unreadable}
-use Rattle.answer_lines.specs.AnswerLines.{refusalText}
-use Rattle.state.specs.State.{counterOf, Room, Told}
-use Rattle.state.specs.declared.Counter.{Counter}
-use Rattle.state.specs.declared.Reply.{Reply}
-use Rattle.performing.specs.Performed.{Performs}
-use Rattle.performing.proofs.Performing.{stays}
-use Rattle.replies.specs.Replies.{Answers}
+use Rattle.spec_calls.specs.Answers.{unreadable, refusalNumber}
+use Rattle.spec_counter.specs.Counter as paper
+use Rattle.spec_counter.specs.Counter.{command}
+use Rattle.spec_counter.specs.Stream.{lineText, lineAfter}
+use Rattle.board_tally.specs.Counts.{tallyOf}
+use Rattle.counter_commands.specs.Read.{commandOf, readingOf}
+use Rattle.counter_commands.specs.declared.Command.{Command}
+use Rattle.counter_commands.specs.declared.Reading.{Reading}
+use Rattle.counter_commands.specs.declared.Reading.the-variants.{Readable, Unreadable}
+use Rattle.counter_answer_lines.specs.AnswerLines.{refusalText}
+use Rattle.counter_state.specs.State.{counterOf, Room, Told}
+use Rattle.counter_state.specs.declared.Counter.{Counter}
+use Rattle.counter_state.specs.declared.Reply.{Reply}
+use Rattle.counter_perform.specs.Performed.{Performs}
+use Rattle.counter_perform.proofs.Performing.{stays}
+use Rattle.counter_reply.specs.Replies.{Answers}
 
 -- a command, named otherwise
 pub performs-as : (s : paper.Counter) {m k : Command} {bytes out out' : List ℕ} {at : ℕ} {r : Reply} → m ≡ k → Performs (commandOf k) s bytes out out' at r → Performs (commandOf m) s bytes out out' at r

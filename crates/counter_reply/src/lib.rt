@@ -1,16 +1,16 @@
 // The counter program's reply to a line: its command is performed, or the line is refused.
 ghost use Prim.Native.Nat.{_+_, _≤_};
 ghost use lib.ListN.{length};
-ghost use Rattle.commands.specs.Read.{commandOf};
-ghost use Rattle.answer_lines.specs.AnswerLines.{lineMost};
-ghost use Rattle.state.specs.State.{Room, counterOf};
-ghost use Rattle.performing.specs.Performed.{Performs};
-ghost use Rattle.replies.specs.Replies.{Answers};
-use answers::Refusal;
-use commands::Command;
-use commands::Reading;
-use state::Counter;
-use state::Reply;
+ghost use Rattle.counter_commands.specs.Read.{commandOf};
+ghost use Rattle.counter_answer_lines.specs.AnswerLines.{lineMost};
+ghost use Rattle.counter_state.specs.State.{Room, counterOf};
+ghost use Rattle.counter_perform.specs.Performed.{Performs};
+ghost use Rattle.counter_reply.specs.Replies.{Answers};
+use board_answers::Refusal;
+use counter_commands::Command;
+use counter_commands::Reading;
+use counter_state::Counter;
+use counter_state::Reply;
 
 // A command's call, and its line.
 fn perform(c: Counter, command: Command, bytes: &mut [u8], out: &mut [u8], at: usize) -> Reply
@@ -19,8 +19,8 @@ fn perform(c: Counter, command: Command, bytes: &mut [u8], out: &mut [u8], at: u
     ensures { λ r. ⌜ Performs (commandOf command) (counterOf c (now (bytes .entry))) (now (bytes .exit)) (now (out .entry)) (now (out .exit)) at r ⌝ }
 {
     match command {
-        Command::SetTable(benches, jobs) => performing::set_table(c, benches, jobs, bytes, out, at),
-        Command::TakeIn(job, first, second) => performing::take_in(
+        Command::SetTable(benches, jobs) => counter_perform::set_table(c, benches, jobs, bytes, out, at),
+        Command::TakeIn(job, first, second) => counter_perform::take_in(
             c,
             job,
             first,
@@ -29,9 +29,9 @@ fn perform(c: Counter, command: Command, bytes: &mut [u8], out: &mut [u8], at: u
             out,
             at,
         ),
-        Command::CloseJob(job) => performing::close_job(c, job, bytes, out, at),
-        Command::AskTightSet(height) => performing::ask_tight_set(c, height, bytes, out, at),
-        Command::AskHeaviest => performing::ask_heaviest(c, bytes, out, at),
+        Command::CloseJob(job) => counter_perform::close_job(c, job, bytes, out, at),
+        Command::AskTightSet(height) => counter_perform::ask_tight_set(c, height, bytes, out, at),
+        Command::AskHeaviest => counter_perform::ask_heaviest(c, bytes, out, at),
     }
 }
 
@@ -41,8 +41,8 @@ pub fn to_line(c: Counter, line: &[u8], bytes: &mut [u8], out: &mut [u8], at: us
     requires { ⌜ at + lineMost ≤ length (now out) ⌝ }
     ensures { λ r. ⌜ Answers (now (line .entry)) (counterOf c (now (bytes .entry))) (now (bytes .exit)) (now (out .entry)) (now (out .exit)) at r ⌝ }
 {
-    match commands::read(line) {
-        Reading::Unreadable => state::refuse(c, Refusal::Unreadable, out, at),
+    match counter_commands::read(line) {
+        Reading::Unreadable => counter_state::refuse(c, Refusal::Unreadable, out, at),
         Reading::Readable(command) => perform(c, command, bytes, out, at),
     }
 }

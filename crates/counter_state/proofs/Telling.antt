@@ -2,11 +2,11 @@
 use Prim.Native.Nat.{ℕ, _+_, _≤_}
 use mathlib.Core.Path.{_≡_, refl, subst}
 use mathlib.Core.List.{List}
-use Rattle.tally.specs.Counts.{tallyOf}
-use Rattle.printing.specs.Wrote.{Wrote}
-use Rattle.answer_lines.specs.AnswerLines.{lineMost}
-use Rattle.state.specs.State.{Told}
-use Rattle.state.specs.declared.Counter.{Counter}
+use Rattle.board_tally.specs.Counts.{tallyOf}
+use Rattle.counter_printing.specs.Wrote.{Wrote}
+use Rattle.counter_answer_lines.specs.AnswerLines.{lineMost}
+use Rattle.counter_state.specs.State.{Told}
+use Rattle.counter_state.specs.declared.Counter.{Counter}
 
 -- a state handed back with a line that is written
 pub tells : (c : Counter) {text text' out out' : List ℕ} {at next : ℕ} → text ≡ text' → Wrote out out' at next text → next ≤ at + lineMost → Told (c .length) (tallyOf (c .tally)) text' out out' at (record { counter = c; at = next })

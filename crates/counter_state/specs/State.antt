@@ -1,16 +1,16 @@
--- What the counter program keeps, and a line that it tells, in the words of `Rattle.lines.specs.Counter`.
+-- What the counter program keeps, and a line that it tells, in the words of `Rattle.spec_counter.specs.Counter`.
 use Prim.Native.Nat.{ℕ, _+_, _≤_}
 use mathlib.Core.Path.{_≡_}
 use mathlib.Core.List.{List}
 use lib.ListN.{length, take}
-use Rattle.layout.specs.Table.{lengthFor, mostBenches, mostJobs}
-use Rattle.calls.specs.Tally.{Tally}
-use Rattle.lines.specs.Counter as paper
-use Rattle.tally.specs.Counts.{tallyOf}
-use Rattle.printing.specs.Wrote.{Wrote}
-use Rattle.answer_lines.specs.AnswerLines.{lineMost}
-use Rattle.state.specs.declared.Counter.{Counter}
-use Rattle.state.specs.declared.Reply.{Reply}
+use Rattle.spec_table.specs.Table.{lengthFor, mostBenches, mostJobs}
+use Rattle.spec_calls.specs.Tally.{Tally}
+use Rattle.spec_counter.specs.Counter as paper
+use Rattle.board_tally.specs.Counts.{tallyOf}
+use Rattle.counter_printing.specs.Wrote.{Wrote}
+use Rattle.counter_answer_lines.specs.AnswerLines.{lineMost}
+use Rattle.counter_state.specs.declared.Counter.{Counter}
+use Rattle.counter_state.specs.declared.Reply.{Reply}
 
 -- the most bytes of a table
 abbrev pub tableMost : ℕ

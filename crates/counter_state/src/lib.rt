@@ -3,17 +3,17 @@ ghost use mathlib.Core.Path.{_≡_};
 ghost use mathlib.Core.List.{List, [], _∷_};
 ghost use Prim.Native.Nat.{ℕ, _+_, _≤_};
 ghost use lib.ListN.{length};
-ghost use Rattle.calls.specs.Answers.{refusalNumber};
-ghost use Rattle.calls.specs.Tally.{noted};
-ghost use Rattle.answers.specs.Answered.{refusalOf, answerOf, valuesOf};
-ghost use Rattle.tally.specs.Counts.{tallyOf};
-ghost use Rattle.lines.specs.Counter.{atFirst, counterList};
-ghost use Rattle.answer_lines.specs.AnswerLines.{lineMost, refusalText, answerText};
-ghost use Rattle.state.specs.State.{counterOf, Told};
-use answers::Answer;
-use answers::Refusal;
-use answers::Values;
-use tally::Tally;
+ghost use Rattle.spec_calls.specs.Answers.{refusalNumber};
+ghost use Rattle.spec_calls.specs.Tally.{noted};
+ghost use Rattle.board_answers.specs.Answered.{refusalOf, answerOf, valuesOf};
+ghost use Rattle.board_tally.specs.Counts.{tallyOf};
+ghost use Rattle.spec_counter.specs.Counter.{atFirst, counterList};
+ghost use Rattle.counter_answer_lines.specs.AnswerLines.{lineMost, refusalText, answerText};
+ghost use Rattle.counter_state.specs.State.{counterOf, Told};
+use board_answers::Answer;
+use board_answers::Refusal;
+use board_answers::Values;
+use board_tally::Tally;
 
 // "Its list has 1,000 bytes".
 const LIST_BYTES: usize = 1000;
@@ -48,7 +48,7 @@ impl Counter {
         ensures tally { λ r. ⌜ tallyOf (r .tally) ≡ (noted (tallyOf (self .tally)) (answerOf a)) .tally ⌝ }
     {
         let own = self.tally;
-        let noted = tally::note_own(own, a);
+        let noted = board_tally::note_own(own, a);
         let tally = noted.tally;
         Counter {
             length: self.length,
@@ -105,7 +105,7 @@ pub fn refuse(c: Counter, why: Refusal, out: &mut [u8], at: usize) -> Reply
     requires { ⌜ at + lineMost ≤ length (now out) ⌝ }
     ensures { λ r. ⌜ Told (c .length) (tallyOf (c .tally)) (refusalText (refusalNumber (refusalOf why))) (now (out .entry)) (now (out .exit)) at r ⌝ }
 {
-    let next = answer_lines::refusal(out, at, why.number() as usize);
+    let next = counter_answer_lines::refusal(out, at, why.number() as usize);
     Reply {
         counter: c,
         at: next,
@@ -117,7 +117,7 @@ pub fn tell(c: Counter, letter: u8, repeated: Values, a: Answer, out: &mut [u8],
     requires { ⌜ at + lineMost ≤ length (now out) ⌝ }
     ensures { λ r. ⌜ Told (c .length) (tallyOf (c .tally)) (answerText letter (valuesOf repeated) (answerOf a) []) (now (out .entry)) (now (out .exit)) at r ⌝ }
 {
-    let next = answer_lines::answer(out, at, letter, repeated, a);
+    let next = counter_answer_lines::answer(out, at, letter, repeated, a);
     Reply {
         counter: c,
         at: next,

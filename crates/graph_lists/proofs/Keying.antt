@@ -6,10 +6,10 @@ use mathlib.Core.Path.{_≡_, refl, ap, _∙_}
 use mathlib.Core.List.{List}
 use lib.ListN.{length, set, length-set}
 use lib.Seq.{getD-set-same, getD-set-other}
-use Rattle.layout.specs.Table.{mostBenches, mostJobs}
-use Rattle.size.specs.declared.Size.{Size}
-use Rattle.arrays.specs.Arrays.{at}
-use Rattle.arrays.specs.Keys.{LeastKey, Reversed, WantedIn}
+use Rattle.spec_table.specs.Table.{mostBenches, mostJobs}
+use Rattle.table_size.specs.declared.Size.{Size}
+use Rattle.graph_lists.specs.Arrays.{at}
+use Rattle.graph_lists.specs.Keys.{LeastKey, Reversed, WantedIn}
 
 -- the least key
 

@@ -8,13 +8,13 @@ use mathlib.Core.List.{List}
 use lib.Dec.{T}
 use lib.ListN.{length, getD, set, replicate, length-set, length-replicate, List·getD-eq-default}
 use lib.Seq.{getD-set-same, getD-set-other}
-use Rattle.basics.specs.Lists.{within}
-use Rattle.layout.specs.Table.{mostBenches, mostJobs}
-use Rattle.basics.proofs.Basics.{within-low, within-high, within-both, each-replicate, each-getD}
-use Rattle.size.specs.Sizes.{Limits}
-use Rattle.size.specs.declared.Size.{Size}
-use Rattle.arrays.specs.Arrays.{at, Leads, Arcs, LoadsIn}
-use Rattle.arrays.specs.Lists.{LeastFrom, Listable, ListedBy, On, head, tail, Joins, Ways}
+use Rattle.spec_lists.specs.Lists.{within}
+use Rattle.spec_table.specs.Table.{mostBenches, mostJobs}
+use Rattle.spec_lists.proofs.Basics.{within-low, within-high, within-both, each-replicate, each-getD}
+use Rattle.table_size.specs.Sizes.{Limits}
+use Rattle.table_size.specs.declared.Size.{Size}
+use Rattle.graph_lists.specs.Arrays.{at, Leads, Arcs, LoadsIn}
+use Rattle.graph_lists.specs.Lists.{LeastFrom, Listable, ListedBy, On, head, tail, Joins, Ways}
 
 -- arrays made of one value
 

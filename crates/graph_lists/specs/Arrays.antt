@@ -6,10 +6,10 @@ use mathlib.Core.Bool.{Bool, true, false}
 use mathlib.Core.List.{List}
 use lib.Dec.{T}
 use lib.ListN.{length, getD}
-use Rattle.basics.specs.Lists.{within}
-use Rattle.layout.specs.Table.{mostBenches, mostJobs}
-use Rattle.size.specs.Sizes.{BenchIn}
-use Rattle.size.specs.declared.Size.{Size}
+use Rattle.spec_lists.specs.Lists.{within}
+use Rattle.spec_table.specs.Table.{mostBenches, mostJobs}
+use Rattle.table_size.specs.Sizes.{BenchIn}
+use Rattle.table_size.specs.declared.Size.{Size}
 
 -- what a test tells
 abbrev pub Tells : Type 0 → Bool → Type 0

@@ -5,9 +5,9 @@ use mathlib.Core.Logic.{_⊎_, _≢_}
 use mathlib.Core.List.{List}
 use lib.Dec.{T}
 use lib.ListN.{length}
-use Rattle.basics.specs.Lists.{within}
-use Rattle.layout.specs.Table.{mostBenches, mostJobs}
-use Rattle.arrays.specs.Arrays.{at}
+use Rattle.spec_lists.specs.Lists.{within}
+use Rattle.spec_table.specs.Table.{mostBenches, mostJobs}
+use Rattle.graph_lists.specs.Arrays.{at}
 
 -- r is the least number of i to n whose key is k, 0 where there is none
 pub record LeastFrom (key : List ℕ) (n i k r : ℕ) : Type 0 where

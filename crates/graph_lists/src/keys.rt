@@ -2,11 +2,11 @@
 ghost use mathlib.Core.Path.{_≡_};
 ghost use Prim.Native.Nat.{_+_};
 ghost use lib.ListN.{length};
-ghost use Rattle.layout.specs.Table.{mostBenches};
-ghost use Rattle.size.specs.Sizes.{Limits};
-ghost use Rattle.arrays.specs.Arrays.{Tells};
-ghost use Rattle.arrays.specs.Keys.{KeysIn, LeastKey, Reversed, QueuedIn, WantedIn};
-use size::Size;
+ghost use Rattle.spec_table.specs.Table.{mostBenches};
+ghost use Rattle.table_size.specs.Sizes.{Limits};
+ghost use Rattle.graph_lists.specs.Arrays.{Tells};
+ghost use Rattle.graph_lists.specs.Keys.{KeysIn, LeastKey, Reversed, QueuedIn, WantedIn};
+use table_size::Size;
 
 // The least key of benches 1 to B.
 pub fn least(s: Size, key: &[u16; Size::MOST_BENCHES + 1]) -> u16

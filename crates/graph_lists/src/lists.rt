@@ -1,6 +1,6 @@
 // Numbers listed by a key: the jobs by the bench that they leave, the benches by their load.
 ghost use lib.ListN.{length};
-ghost use Rattle.arrays.specs.Lists.{Listable, ListedBy};
+ghost use Rattle.graph_lists.specs.Lists.{Listable, ListedBy};
 
 // The numbers 1 to n listed by their keys, rising: `first` gets the least with each key, `next` the one after each.
 pub fn list_by(n: usize, key: &[u16], first: &mut [u16], next: &mut [u16])

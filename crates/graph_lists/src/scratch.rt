@@ -2,8 +2,8 @@
 ghost use mathlib.Core.Path.{_≡_};
 ghost use Prim.Native.Nat.{_+_, _≤_};
 ghost use lib.ListN.{replicate, set};
-ghost use Rattle.layout.specs.Table.{mostBenches, mostJobs};
-use size::Size;
+ghost use Rattle.spec_table.specs.Table.{mostBenches, mostJobs};
+use table_size::Size;
 
 // Zeros.
 pub fn benches() -> [u16; Size::MOST_BENCHES + 1]

@@ -9,10 +9,10 @@ use mathlib.Core.List.{List}
 use lib.Dec.{leb, ltb}
 use borrow.Author.Count.{below-more}
 use borrow.Author.Tests.{leb-true, leb-false, ltb-true, ltb-false}
-use Rattle.size.specs.Sizes.{BenchIn}
-use Rattle.size.specs.declared.Size.{Size}
-use Rattle.arrays.specs.Arrays.{at, Tells}
-use Rattle.routes.specs.Ends.{Candidate, Before, Chosen}
+use Rattle.table_size.specs.Sizes.{BenchIn}
+use Rattle.table_size.specs.declared.Size.{Size}
+use Rattle.graph_lists.specs.Arrays.{at, Tells}
+use Rattle.graph_routes.specs.Ends.{Candidate, Before, Chosen}
 
 -- comparisons
 

@@ -8,16 +8,16 @@ use mathlib.Core.List.{List, [], _∷_, _++_, append-assoc, append-nil}
 use lib.Dec.{T}
 use lib.ListN.{length, set, take, length-set}
 use lib.Seq.{take-suc-set}
-use Rattle.basics.specs.Lists.{within}
-use Rattle.layout.specs.Table.{mostBenches, mostJobs}
-use Rattle.size.specs.Sizes.{Limits}
-use Rattle.size.specs.declared.Size.{Size}
-use Rattle.arrays.specs.Arrays.{at, Leads}
-use Rattle.arrays.specs.Lists.{ListedBy, On, head, tail, Ways}
-use Rattle.search.specs.Spread.{Distances}
-use Rattle.routes.specs.Route.{FirstNearer, Falls, Follows, Routed}
-use Rattle.arrays.proofs.Listing.{on-some, on-rest, on-above, on-listed}
-use Rattle.search.proofs.Widening.{bench-within}
+use Rattle.spec_lists.specs.Lists.{within}
+use Rattle.spec_table.specs.Table.{mostBenches, mostJobs}
+use Rattle.table_size.specs.Sizes.{Limits}
+use Rattle.table_size.specs.declared.Size.{Size}
+use Rattle.graph_lists.specs.Arrays.{at, Leads}
+use Rattle.graph_lists.specs.Lists.{ListedBy, On, head, tail, Ways}
+use Rattle.graph_search.specs.Spread.{Distances}
+use Rattle.graph_routes.specs.Route.{FirstNearer, Falls, Follows, Routed}
+use Rattle.graph_lists.proofs.Listing.{on-some, on-rest, on-above, on-listed}
+use Rattle.graph_search.proofs.Widening.{bench-within}
 
 -- distances to v, by arcs taken backwards, fall along arcs
 pub distances-fall : {s : Size} {from to : List ℕ} {Wanted : ℕ → Type 0} {v : ℕ} {dist : List ℕ} → Distances s to from Wanted v dist → Falls s from to dist

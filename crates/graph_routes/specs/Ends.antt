@@ -4,9 +4,9 @@ use Prim.Native.Nat.{ℕ, _+_, _≤_, _<_}
 use mathlib.Core.Path.{_≡_}
 use mathlib.Core.Logic.{_⊎_, _≢_}
 use mathlib.Core.List.{List}
-use Rattle.size.specs.Sizes.{BenchIn}
-use Rattle.size.specs.declared.Size.{Size}
-use Rattle.arrays.specs.Arrays.{at}
+use Rattle.table_size.specs.Sizes.{BenchIn}
+use Rattle.table_size.specs.declared.Size.{Size}
+use Rattle.graph_lists.specs.Arrays.{at}
 
 module _ (s : Size) (weights dist : List ℕ) where
   -- y is found: it has a number in `dist`; and its weight is less than that of x by two or more

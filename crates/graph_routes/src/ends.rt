@@ -1,10 +1,10 @@
 // The other end of an improving path, by the rule's order: of the benches that a search found the one with the least weight, then the nearest,
 // then the lowest.
-ghost use Rattle.size.specs.Sizes.{Limits, BenchIn};
-ghost use Rattle.arrays.specs.Arrays.{Tells};
-ghost use Rattle.arrays.specs.Keys.{KeysIn};
-ghost use Rattle.routes.specs.Ends.{Candidate, Before, Chosen};
-use size::Size;
+ghost use Rattle.table_size.specs.Sizes.{Limits, BenchIn};
+ghost use Rattle.graph_lists.specs.Arrays.{Tells};
+ghost use Rattle.graph_lists.specs.Keys.{KeysIn};
+ghost use Rattle.graph_routes.specs.Ends.{Candidate, Before, Chosen};
+use table_size::Size;
 
 // Whether a path between x and y improves: y is found, and its weight less by two or more.
 fn improves(

@@ -3,13 +3,13 @@ ghost use Prim.Native.Nat.{_≤_, _+_};
 ghost use mathlib.Core.Path.{_≡_};
 ghost use lib.Dec.{T};
 ghost use lib.ListN.{length};
-ghost use Rattle.basics.specs.Lists.{within};
-ghost use Rattle.layout.specs.Table.{mostBenches};
-ghost use Rattle.size.specs.Sizes.{Limits};
-ghost use Rattle.arrays.specs.Arrays.{at, Arcs};
-ghost use Rattle.arrays.specs.Lists.{ListedBy, Ways};
-ghost use Rattle.routes.specs.Route.{FirstNearer, Falls, Routed};
-use size::Size;
+ghost use Rattle.spec_lists.specs.Lists.{within};
+ghost use Rattle.spec_table.specs.Table.{mostBenches};
+ghost use Rattle.table_size.specs.Sizes.{Limits};
+ghost use Rattle.graph_lists.specs.Arrays.{at, Arcs};
+ghost use Rattle.graph_lists.specs.Lists.{ListedBy, Ways};
+ghost use Rattle.graph_routes.specs.Route.{FirstNearer, Falls, Routed};
+use table_size::Size;
 
 // The smallest arc from x to a bench that is one nearer; 0 where there is none.
 fn nearer(

@@ -10,17 +10,17 @@ use lib.Dec.{T, ltb}
 use lib.ListN.{length, set, replicate, length-set}
 use lib.Seq.{getD-set-same, getD-set-other}
 use borrow.Author.Tests.{lt-ltb, le-ltb, eq-eqb, ne-eqb}
-use Rattle.basics.specs.Lists.{bit, within, total}
-use Rattle.layout.specs.Table.{mostBenches, mostJobs}
-use Rattle.basics.proofs.Basics.{Compared, same, other, compared, within-low, within-high, within-both}
-use Rattle.basics.proofs.Counting.{bit-le, total-most, total-but-one}
-use Rattle.size.specs.Sizes.{Limits, BenchIn}
-use Rattle.size.specs.declared.Size.{Size}
-use Rattle.arrays.specs.Arrays.{at, Arcs, Leads, Reached, here, step}
-use Rattle.arrays.specs.Keys.{QueuedIn}
-use Rattle.arrays.specs.Lists.{On, head, Joins, Ways, ListedBy}
-use Rattle.search.specs.Spread.{Queued, FoundOne, Widened, Stays, Spread, Distances}
-use Rattle.arrays.proofs.Listing.{array-at, array-long, on-some, on-next, Rises, on-above, on-most, on-split, left, left-less, joins-leads}
+use Rattle.spec_lists.specs.Lists.{bit, within, total}
+use Rattle.spec_table.specs.Table.{mostBenches, mostJobs}
+use Rattle.spec_lists.proofs.Basics.{Compared, same, other, compared, within-low, within-high, within-both}
+use Rattle.spec_lists.proofs.Counting.{bit-le, total-most, total-but-one}
+use Rattle.table_size.specs.Sizes.{Limits, BenchIn}
+use Rattle.table_size.specs.declared.Size.{Size}
+use Rattle.graph_lists.specs.Arrays.{at, Arcs, Leads, Reached, here, step}
+use Rattle.graph_lists.specs.Keys.{QueuedIn}
+use Rattle.graph_lists.specs.Lists.{On, head, Joins, Ways, ListedBy}
+use Rattle.graph_search.specs.Spread.{Queued, FoundOne, Widened, Stays, Spread, Distances}
+use Rattle.graph_lists.proofs.Listing.{array-at, array-long, on-some, on-next, Rises, on-above, on-most, on-split, left, left-less, joins-leads}
 
 -- the count of found benches
 

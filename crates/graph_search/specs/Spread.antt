@@ -5,11 +5,11 @@ use mathlib.Core.Bool.{cond}
 use mathlib.Core.List.{List}
 use lib.Dec.{T, eqb, ltb}
 use lib.ListN.{length, set}
-use Rattle.basics.specs.Lists.{bit, within, total}
-use Rattle.layout.specs.Table.{mostBenches}
-use Rattle.size.specs.Sizes.{BenchIn}
-use Rattle.size.specs.declared.Size.{Size}
-use Rattle.arrays.specs.Arrays.{at, Leads}
+use Rattle.spec_lists.specs.Lists.{bit, within, total}
+use Rattle.spec_table.specs.Table.{mostBenches}
+use Rattle.table_size.specs.Sizes.{BenchIn}
+use Rattle.table_size.specs.declared.Size.{Size}
+use Rattle.graph_lists.specs.Arrays.{at, Leads}
 
 -- `found` benches have a number in `dist`; no number is more than they are
 pub record Queued (found : ℕ) (queue dist : List ℕ) : Type 0 where

@@ -4,17 +4,17 @@ ghost use Prim.Native.Nat.{suc, _≤_, _+_};
 ghost use mathlib.Core.Path.{_≡_};
 ghost use lib.Dec.{T};
 ghost use lib.ListN.{replicate};
-ghost use Rattle.basics.specs.Lists.{within};
-ghost use Rattle.layout.specs.Table.{mostBenches};
-ghost use Rattle.size.specs.Sizes.{Limits, BenchIn};
-ghost use Rattle.arrays.specs.Arrays.{at, Arcs};
-ghost use Rattle.arrays.specs.Keys.{Wanted};
-ghost use Rattle.arrays.specs.Lists.{ListedBy, Ways, Joins};
-ghost use Rattle.search.specs.Spread.{Queued, FoundOne, Widened, Stays, Spread, Distances};
-use arrays::keys;
-use arrays::lists;
-use arrays::scratch;
-use size::Size;
+ghost use Rattle.spec_lists.specs.Lists.{within};
+ghost use Rattle.spec_table.specs.Table.{mostBenches};
+ghost use Rattle.table_size.specs.Sizes.{Limits, BenchIn};
+ghost use Rattle.graph_lists.specs.Arrays.{at, Arcs};
+ghost use Rattle.graph_lists.specs.Keys.{Wanted};
+ghost use Rattle.graph_lists.specs.Lists.{ListedBy, Ways, Joins};
+ghost use Rattle.graph_search.specs.Spread.{Queued, FoundOne, Widened, Stays, Spread, Distances};
+use graph_lists::keys;
+use graph_lists::lists;
+use graph_lists::scratch;
+use table_size::Size;
 
 // Bench y with number k at the end of the queue, unless it was found before; how many are found then.
 fn find(

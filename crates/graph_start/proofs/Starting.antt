@@ -7,19 +7,19 @@ use mathlib.Core.Logic.{_⊎_, inl, inr, ⊎-elim, _≢_, _↔_}
 use mathlib.Core.List.{List}
 use lib.Dec.{T}
 use lib.ListN.{replicate}
-use Rattle.basics.specs.Lists.{within}
-use Rattle.layout.specs.Table.{mostBenches, mostJobs}
-use Rattle.basics.proofs.Basics.{within-low, within-high, within-both}
-use Rattle.size.specs.Sizes.{Limits, BenchIn}
-use Rattle.size.specs.declared.Size.{Size}
-use Rattle.arrays.specs.Arrays.{at, Leads, Reached, here, step, Arcs, LoadsIn}
-use Rattle.arrays.specs.Keys.{KeysIn, LeastKey, Reversed, Wanted, QueuedIn, WantedIn}
-use Rattle.arrays.specs.Lists.{LeastFrom, ListedBy, Joins, Ways}
-use Rattle.search.specs.Spread.{Spread}
-use Rattle.start.specs.Start.{Between, AsHeavy, StartsLow, FirstStart, StartOf, Searching, Searched}
-use Rattle.start.specs.declared.Range.{Range}
-use Rattle.arrays.proofs.Listing.{array-at, least-some, listed-ways, joins-leads}
-use Rattle.search.proofs.Widening.{reached-same, queued-few, none-queued, none-stays, spread-stays}
+use Rattle.spec_lists.specs.Lists.{within}
+use Rattle.spec_table.specs.Table.{mostBenches, mostJobs}
+use Rattle.spec_lists.proofs.Basics.{within-low, within-high, within-both}
+use Rattle.table_size.specs.Sizes.{Limits, BenchIn}
+use Rattle.table_size.specs.declared.Size.{Size}
+use Rattle.graph_lists.specs.Arrays.{at, Leads, Reached, here, step, Arcs, LoadsIn}
+use Rattle.graph_lists.specs.Keys.{KeysIn, LeastKey, Reversed, Wanted, QueuedIn, WantedIn}
+use Rattle.graph_lists.specs.Lists.{LeastFrom, ListedBy, Joins, Ways}
+use Rattle.graph_search.specs.Spread.{Spread}
+use Rattle.graph_start.specs.Start.{Between, AsHeavy, StartsLow, FirstStart, StartOf, Searching, Searched}
+use Rattle.graph_start.specs.declared.Range.{Range}
+use Rattle.graph_lists.proofs.Listing.{array-at, least-some, listed-ways, joins-leads}
+use Rattle.graph_search.proofs.Widening.{reached-same, queued-few, none-queued, none-stays, spread-stays}
 
 -- the least and the greatest load
 

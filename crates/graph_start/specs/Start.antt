@@ -4,15 +4,15 @@ use mathlib.Core.Path.{_≡_}
 use mathlib.Core.Logic.{_⊎_, _≢_}
 use mathlib.Core.List.{List}
 use lib.Dec.{T}
-use Rattle.basics.specs.Lists.{within}
-use Rattle.layout.specs.Table.{mostBenches, mostJobs}
-use Rattle.arrays.specs.Arrays.{at, Reached}
-use Rattle.arrays.specs.Lists.{LeastFrom}
-use Rattle.search.specs.Spread.{Queued, Stays}
-use Rattle.size.specs.Sizes.{BenchIn}
-use Rattle.size.specs.declared.Size.{Size}
-use Rattle.start.specs.declared.Range.{Range}
-use Rattle.start.specs.declared.Search.{Search}
+use Rattle.spec_lists.specs.Lists.{within}
+use Rattle.spec_table.specs.Table.{mostBenches, mostJobs}
+use Rattle.graph_lists.specs.Arrays.{at, Reached}
+use Rattle.graph_lists.specs.Lists.{LeastFrom}
+use Rattle.graph_search.specs.Spread.{Queued, Stays}
+use Rattle.table_size.specs.Sizes.{BenchIn}
+use Rattle.table_size.specs.declared.Size.{Size}
+use Rattle.graph_start.specs.declared.Range.{Range}
+use Rattle.graph_start.specs.declared.Search.{Search}
 
 -- every load of benches 1 to B is from `low` to `high`
 pub record Between (s : Size) (loads : List ℕ) (r : Range) : Type 0 where

@@ -1,13 +1,13 @@
 // The first bench of the path that levelling turns: of the benches that start an improving path the one with the greatest load, then the
 // lowest. Loads go down and numbers up; what a bench reached need not be searched again from a lighter one.
-ghost use Rattle.size.specs.Sizes.{Limits};
-ghost use Rattle.arrays.specs.Arrays.{Leads, Arcs, LoadsIn};
-ghost use Rattle.arrays.specs.Lists.{Ways, Joins};
-ghost use Rattle.start.specs.Start.{Between, AsHeavy, Searching, Searched, StartOf};
-use arrays::keys;
-use arrays::lists;
-use arrays::scratch;
-use size::Size;
+ghost use Rattle.table_size.specs.Sizes.{Limits};
+ghost use Rattle.graph_lists.specs.Arrays.{Leads, Arcs, LoadsIn};
+ghost use Rattle.graph_lists.specs.Lists.{Ways, Joins};
+ghost use Rattle.graph_start.specs.Start.{Between, AsHeavy, Searching, Searched, StartOf};
+use graph_lists::keys;
+use graph_lists::lists;
+use graph_lists::scratch;
+use table_size::Size;
 
 // The least and the greatest load.
 pub struct Range {
@@ -57,7 +57,7 @@ fn start_among(
     let mut x = x;
     while x != 0 {
         let limit = (load - 2) as u16;
-        let end = search::spread(
+        let end = graph_search::spread(
             first,
             next,
             to,

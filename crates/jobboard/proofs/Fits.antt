@@ -6,23 +6,23 @@ use mathlib.Core.Bool.{Bool, true, false, cond, not, _&&_}
 use mathlib.Core.List.{List, [], _∷_}
 use lib.Dec.{T, eqb}
 use lib.ListN.{length, drop}
-use Rattle.basics.specs.Lists.{bit, member, rising, all, empty, Each}
-use Rattle.layout.specs.Board.{Board, holderOf, namesOf, stands, load, heaviest}
-use Rattle.layout.specs.Table.{mostBenches, mostJobs, sound, decode}
-use Rattle.rules.specs.Sharing.{Levelled, arrive, close, relevel, level, tightSet, inside}
-use Rattle.calls.specs.Answers.{Answer, Outcome, isRefused, inNumbers, refused, blanked, arrived, closed, loadIs, heaviestIs, tightSetIs, isSound, levelYes, levelNo, levelled, stopped}
-use Rattle.calls.specs.Calls.{Call, arrival, closing, levelling, loadOf, heaviestLoad, tightSetOf, formCheck, levelCheck, accepted, outcome, arrivalOutcome, closingOutcome, levellingOutcome, tightSetOutcome}
-use Rattle.rules.specs.Demand2.{handed}
-use Rattle.basics.proofs.Basics.{true→T, false→not, not-false, within-high, is-empty, length-keep, length-rising}
-use Rattle.layout.proofs.Named.{length-shares}
-use Rattle.basics.proofs.Counting.{bit-le, count-most, total-most, greatest-most}
-use Rattle.layout.proofs.Sound.{sound-storable}
-use Rattle.rules.proofs.Paths.{holder-bench, holder-none}
-use Rattle.rules.proofs.TightSet.{tight-rising}
-use Rattle.calls.proofs.Refusals.{accepted-by}
-use Rattle.calls.proofs.Outcomes.{arrival-accepted, levelling-accepted}
-use Rattle.calls.proofs.Results.{arrival-result, closing-result}
-use Rattle.calls.proofs.Questions.{heaviest-answered, tight-says}
+use Rattle.spec_lists.specs.Lists.{bit, member, rising, all, empty, Each}
+use Rattle.spec_table.specs.Board.{Board, holderOf, namesOf, stands, load, heaviest}
+use Rattle.spec_table.specs.Table.{mostBenches, mostJobs, sound, decode}
+use Rattle.spec_sharing.specs.Sharing.{Levelled, arrive, close, relevel, level, tightSet, inside}
+use Rattle.spec_calls.specs.Answers.{Answer, Outcome, isRefused, inNumbers, refused, blanked, arrived, closed, loadIs, heaviestIs, tightSetIs, isSound, levelYes, levelNo, levelled, stopped}
+use Rattle.spec_calls.specs.Calls.{Call, arrival, closing, levelling, loadOf, heaviestLoad, tightSetOf, formCheck, levelCheck, accepted, outcome, arrivalOutcome, closingOutcome, levellingOutcome, tightSetOutcome}
+use Rattle.spec_sharing.specs.Demand2.{handed}
+use Rattle.spec_lists.proofs.Basics.{true→T, false→not, not-false, within-high, is-empty, length-keep, length-rising}
+use Rattle.spec_table.proofs.Named.{length-shares}
+use Rattle.spec_lists.proofs.Counting.{bit-le, count-most, total-most, greatest-most}
+use Rattle.spec_table.proofs.Sound.{sound-storable}
+use Rattle.spec_sharing.proofs.Paths.{holder-bench, holder-none}
+use Rattle.spec_sharing.proofs.TightSet.{tight-rising}
+use Rattle.spec_calls.proofs.Refusals.{accepted-by}
+use Rattle.spec_calls.proofs.Outcomes.{arrival-accepted, levelling-accepted}
+use Rattle.spec_calls.proofs.Results.{arrival-result, closing-result}
+use Rattle.spec_calls.proofs.Questions.{heaviest-answered, tight-says}
 
 -- a call that is not refused was lent a sound table
 accepted-sound : (c : Call) (t : List ℕ) → isRefused ((outcome c t) .answer) ≡ false → T (sound t)

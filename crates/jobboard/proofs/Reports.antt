@@ -5,14 +5,14 @@ use mathlib.Core.List.{List, [], _∷_}
 use lib.ListN.{getD, drop}
 use mir.Syntax.{w32}
 use mir.Val.{Fits}
-use Rattle.basics.specs.Lists.{nth}
-use Rattle.calls.specs.Answers.{Outcome, inNumbers}
-use Rattle.basics.proofs.Basics.{each-nth}
-use Rattle.answers.specs.Answered.{answerOf, returned, valuesOf, Leaves}
-use Rattle.answers.specs.declared.Answer.{Answer}
-use Rattle.answers.specs.declared.Values.{Values}
-use Rattle.desk.specs.Desk.{inPlace, results, Reported}
-use Rattle.desk.proofs.Fits.{Fitting}
+use Rattle.spec_lists.specs.Lists.{nth}
+use Rattle.spec_calls.specs.Answers.{Outcome, inNumbers}
+use Rattle.spec_lists.proofs.Basics.{each-nth}
+use Rattle.board_answers.specs.Answered.{answerOf, returned, valuesOf, Leaves}
+use Rattle.board_answers.specs.declared.Answer.{Answer}
+use Rattle.board_answers.specs.declared.Values.{Values}
+use Rattle.jobboard.specs.Desk.{inPlace, results, Reported}
+use Rattle.jobboard.proofs.Fits.{Fitting}
 
 -- each number left is the value at its place, from i on, counted from 0; the lent number where there is none
 pub data Got (values : List ℕ) : ℕ → List ℕ → List ℕ → Type 0 where

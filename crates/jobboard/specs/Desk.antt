@@ -3,8 +3,8 @@ use Prim.Native.Nat.{ℕ}
 use mathlib.Core.Path.{_≡_}
 use mathlib.Core.List.{List, [], _∷_}
 use lib.ListN.{drop}
-use Rattle.calls.specs.Answers.{Answer, inNumbers, Outcome}
-use Rattle.answers.specs.Answered.{returned}
+use Rattle.spec_calls.specs.Answers.{Answer, inNumbers, Outcome}
+use Rattle.board_answers.specs.Answered.{returned}
 
 -- the values in place of the lent numbers; a number for which there is no value stays
 abbrev pub inPlace : List ℕ → List ℕ → List ℕ

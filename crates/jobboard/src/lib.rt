@@ -1,9 +1,9 @@
 // The calls for C programs, over numbers and the table's bytes; a slice is passed as a pointer and its length in bytes. Each returns the
 // refusal's number, or 0. Results go through lent numbers, which a refused call leaves alone.
 ghost use mathlib.Core.List.{[], _∷_};
-ghost use Rattle.calls.specs.Calls.{outcome, blanking, arrival, closing, levelling, loadOf, heaviestLoad, tightSetOf, formCheck, levelCheck};
-ghost use Rattle.desk.specs.Desk.{Reported};
-use board::changes;
+ghost use Rattle.spec_calls.specs.Calls.{outcome, blanking, arrival, closing, levelling, loadOf, heaviestLoad, tightSetOf, formCheck, levelCheck};
+ghost use Rattle.jobboard.specs.Desk.{Reported};
+use board_changes::changes;
 
 // Writes a table without jobs; 1 where the length is not that of so many benches and jobs.
 #[no_mangle]
@@ -18,7 +18,7 @@ pub extern "C" fn jobboard_blank(table: &mut [u8], benches: u32, jobs: u32) -> u
 pub extern "C" fn jobboard_check(table: &[u8]) -> u32
     ensures { λ r. ⌜ Reported (outcome formCheck (now (table .entry))) r (now (table .entry)) [] [] [] ⌝ }
 {
-    questions::form_check(table).number()
+    board_questions::form_check(table).number()
 }
 
 // Arrival of a job that names two benches. Results: the bench that holds it in the end, the bench whose load rose, the other jobs moved.
@@ -81,7 +81,7 @@ pub extern "C" fn jobboard_levelling(
 pub extern "C" fn jobboard_level_check(table: &[u8], level: &mut u32) -> u32
     ensures { λ r. ⌜ Reported (outcome levelCheck (now (table .entry))) r (now (table .entry)) [] (now (level .entry) ∷ []) (now (level .exit) ∷ []) ⌝ }
 {
-    let a = questions::level_check(table);
+    let a = board_questions::level_check(table);
     let v = a.values();
     *level = v.get(1, *level as usize) as u32;
     a.number()
@@ -92,7 +92,7 @@ pub extern "C" fn jobboard_level_check(table: &[u8], level: &mut u32) -> u32
 pub extern "C" fn jobboard_load(table: &[u8], bench: u32, load: &mut u32) -> u32
     ensures { λ r. ⌜ Reported (outcome (loadOf bench) (now (table .entry))) r (now (table .entry)) [] (now (load .entry) ∷ []) (now (load .exit) ∷ []) ⌝ }
 {
-    let a = questions::load(table, bench as usize);
+    let a = board_questions::load(table, bench as usize);
     let v = a.values();
     *load = v.get(1, *load as usize) as u32;
     a.number()
@@ -103,7 +103,7 @@ pub extern "C" fn jobboard_load(table: &[u8], bench: u32, load: &mut u32) -> u32
 pub extern "C" fn jobboard_heaviest(table: &[u8], load: &mut u32) -> u32
     ensures { λ r. ⌜ Reported (outcome heaviestLoad (now (table .entry))) r (now (table .entry)) [] (now (load .entry) ∷ []) (now (load .exit) ∷ []) ⌝ }
 {
-    let a = questions::heaviest(table);
+    let a = board_questions::heaviest(table);
     let v = a.values();
     *load = v.get(1, *load as usize) as u32;
     a.number()
@@ -120,7 +120,7 @@ pub extern "C" fn jobboard_tight_set(
 ) -> u32
     ensures { λ r. ⌜ Reported (outcome (tightSetOf height (now (list .entry))) (now (table .entry))) r (now (table .entry)) (now (list .exit)) (now (benches .entry) ∷ now (jobs .entry) ∷ []) (now (benches .exit) ∷ now (jobs .exit) ∷ []) ⌝ }
 {
-    let a = questions::tight_set(table, height as usize, list);
+    let a = board_questions::tight_set(table, height as usize, list);
     let v = a.values();
     *benches = v.get(1, *benches as usize) as u32;
     *jobs = v.get(2, *jobs as usize) as u32;

@@ -9,27 +9,27 @@ use lib.Dec.{T}
 use lib.ListN.{length, set, length-set, List·getD-eq-default}
 use lib.Seq.{getD-set-same, getD-set-other}
 use borrow.Author.Tests.{eq-eqb, ne-eqb}
-use Rattle.basics.specs.Lists.{within, In, nth}
-use Rattle.layout.specs.Board.{Board, holderOf, namesOf, stands, load, namesFit}
-use Rattle.layout.specs.Table.{mostBenches, mostJobs, decode}
-use Rattle.rules.specs.Paths.{Step, stepBy, steps, endOf, Walk}
-use Rattle.basics.proofs.Basics.{T→true, within-low, within-high, within-both, is-empty, some-in, each-nth, two-elements, in-numbered, numbered-nth, length-values}
-use Rattle.layout.proofs.Named.{length-shares, pair-fits}
-use Rattle.basics.proofs.Counting.{count-none, count-most}
-use Rattle.rules.proofs.Distances.{storable-one-other}
-use Rattle.rules.proofs.Paths.{named-stands, named-bench, shares-nth, held-named, holder-bench, step-is, is-step}
-use Rattle.rules.proofs.Walks.{Reach, reach-here, reach-first}
-use Rattle.size.specs.Sizes.{BenchIn}
-use Rattle.size.specs.declared.Size.{Size}
-use Rattle.size.proofs.Sizes.{board-bench}
-use Rattle.store.specs.View.{Kept, Loaded, Place, NameOf}
-use Rattle.store.proofs.Boards.{names-job, holder-most, stands-held, names-length}
-use Rattle.store.proofs.Counts.{holders-long}
-use Rattle.arrays.specs.Arrays.{at, Leads, Arcs, Reached, here, step, LoadsIn}
-use Rattle.arrays.specs.Keys.{KeysIn}
-use Rattle.search.specs.Spread.{Distances}
-use Rattle.arcs.specs.Arcs.{otherThan, otherOf, OtherOf, ArcsOf}
-use Rattle.rules.proofs.Search.{NumberedAway, NumberedTo}
+use Rattle.spec_lists.specs.Lists.{within, In, nth}
+use Rattle.spec_table.specs.Board.{Board, holderOf, namesOf, stands, load, namesFit}
+use Rattle.spec_table.specs.Table.{mostBenches, mostJobs, decode}
+use Rattle.spec_sharing.specs.Paths.{Step, stepBy, steps, endOf, Walk}
+use Rattle.spec_lists.proofs.Basics.{T→true, within-low, within-high, within-both, is-empty, some-in, each-nth, two-elements, in-numbered, numbered-nth, length-values}
+use Rattle.spec_table.proofs.Named.{length-shares, pair-fits}
+use Rattle.spec_lists.proofs.Counting.{count-none, count-most}
+use Rattle.spec_sharing.proofs.Distances.{storable-one-other}
+use Rattle.spec_sharing.proofs.Paths.{named-stands, named-bench, shares-nth, held-named, holder-bench, step-is, is-step}
+use Rattle.spec_sharing.proofs.Walks.{Reach, reach-here, reach-first}
+use Rattle.table_size.specs.Sizes.{BenchIn}
+use Rattle.table_size.specs.declared.Size.{Size}
+use Rattle.table_size.proofs.Sizes.{board-bench}
+use Rattle.table_board.specs.View.{Kept, Loaded, Place, NameOf}
+use Rattle.table_board.proofs.Boards.{names-job, holder-most, stands-held, names-length}
+use Rattle.table_board.proofs.Counts.{holders-long}
+use Rattle.graph_lists.specs.Arrays.{at, Leads, Arcs, Reached, here, step, LoadsIn}
+use Rattle.graph_lists.specs.Keys.{KeysIn}
+use Rattle.graph_search.specs.Spread.{Distances}
+use Rattle.sharing_arcs.specs.Arcs.{otherThan, otherOf, OtherOf, ArcsOf}
+use Rattle.spec_sharing.proofs.Search.{NumberedAway, NumberedTo}
 
 -- one job
 

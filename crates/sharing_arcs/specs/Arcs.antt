@@ -5,11 +5,11 @@ use mathlib.Core.Bool.{cond}
 use mathlib.Core.List.{List, [], _∷_}
 use lib.Dec.{T, eqb}
 use lib.ListN.{length}
-use Rattle.basics.specs.Lists.{within}
-use Rattle.layout.specs.Board.{Board, namesOf, holderOf}
-use Rattle.layout.specs.Table.{mostJobs}
-use Rattle.size.specs.declared.Size.{Size}
-use Rattle.arrays.specs.Arrays.{at}
+use Rattle.spec_lists.specs.Lists.{within}
+use Rattle.spec_table.specs.Board.{Board, namesOf, holderOf}
+use Rattle.spec_table.specs.Table.{mostJobs}
+use Rattle.table_size.specs.declared.Size.{Size}
+use Rattle.graph_lists.specs.Arrays.{at}
 
 -- the first-named bench other than h, 0 where there is none
 abbrev pub otherThan : ℕ → List ℕ → ℕ

@@ -2,13 +2,13 @@
 ghost use mathlib.Core.Path.{_≡_};
 ghost use Prim.Native.Nat.{_+_};
 ghost use lib.ListN.{length};
-ghost use Rattle.layout.specs.Board.{holderOf};
-ghost use Rattle.layout.specs.Table.{mostJobs, decode};
-ghost use Rattle.size.specs.Sizes.{JobIn};
-ghost use Rattle.store.specs.View.{Kept};
-ghost use Rattle.arcs.specs.Arcs.{OtherOf, ArcsOf};
-use size::Size;
-use store::jobs;
+ghost use Rattle.spec_table.specs.Board.{holderOf};
+ghost use Rattle.spec_table.specs.Table.{mostJobs, decode};
+ghost use Rattle.table_size.specs.Sizes.{JobIn};
+ghost use Rattle.table_board.specs.View.{Kept};
+ghost use Rattle.sharing_arcs.specs.Arcs.{OtherOf, ArcsOf};
+use table_size::Size;
+use table_board::jobs;
 
 // The other bench that job j names; 0 where it does not stand.
 fn other(t: &[u8], s: Size, j: usize, holder: usize) -> usize

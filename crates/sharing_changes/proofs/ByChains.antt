@@ -6,16 +6,16 @@ use mathlib.Core.Path.{_≡_, ap}
 use mathlib.Core.Logic.{_⊎_, inl, inr}
 use mathlib.Core.List.{List}
 use lib.ListN.{length}
-use Rattle.basics.specs.Lists.{greatest}
-use Rattle.layout.specs.Board.{Board, load, heaviest}
-use Rattle.layout.specs.Table.{mostJobs, decode}
-use Rattle.basics.proofs.Counting.{count-most}
-use Rattle.size.specs.Sizes.{BenchIn, SoundTable}
-use Rattle.size.specs.declared.Size.{Size}
-use Rattle.chains.specs.Chains.{chainFrom, ChainOf, NextOf, Rest}
-use Rattle.store.proofs.Boards.{sound-kept}
-use Rattle.store.proofs.Counts.{holders-long}
-use Rattle.chains.proofs.ChainView.{chain-end, chain-load, rest-first, rest-next, rest-less}
+use Rattle.spec_lists.specs.Lists.{greatest}
+use Rattle.spec_table.specs.Board.{Board, load, heaviest}
+use Rattle.spec_table.specs.Table.{mostJobs, decode}
+use Rattle.spec_lists.proofs.Counting.{count-most}
+use Rattle.table_size.specs.Sizes.{BenchIn, SoundTable}
+use Rattle.table_size.specs.declared.Size.{Size}
+use Rattle.table_chains.specs.Chains.{chainFrom, ChainOf, NextOf, Rest}
+use Rattle.table_board.proofs.Boards.{sound-kept}
+use Rattle.table_board.proofs.Counts.{holders-long}
+use Rattle.table_chains.proofs.ChainView.{chain-end, chain-load, rest-first, rest-next, rest-less}
 
 -- `count` jobs of bench x's chain were met, and those from job j on are left
 pub record Met (t : List ℕ) (x count j : ℕ) : Type 0 where

@@ -9,29 +9,29 @@ use mathlib.Core.Option.{Option, none, some}
 use lib.Dec.{T, eqb}
 use lib.ListN.{length, length-map}
 use borrow.Author.Tests.{lt-ltb, le-ltb}
-use Rattle.basics.specs.Lists.{bit, count, keep, In}
-use Rattle.layout.specs.Board.{Board, Valid, holderOf, stands, put, load, namesFit}
-use Rattle.rules.specs.Paths.{Step, BenchPath, jobs, IsPath}
-use Rattle.rules.specs.Sharing.{Change, getter, arrivalChoice, closingChoice, afterArrival, afterClosing, arrive, close}
-use Rattle.layout.specs.Table.{decode, encode}
-use Rattle.basics.proofs.Basics.{Member, is-in, not-in, membered, in-member, nth-change-same}
-use Rattle.layout.proofs.Named.{fit-bench}
-use Rattle.basics.proofs.Counting.{count-none, count-some, different-count, keep-counts}
-use Rattle.rules.proofs.Paths.{holder-bench, improvingFrom-only}
-use Rattle.rules.proofs.Choice.{arrival-choice}
-use Rattle.rules.proofs.Sets.{getter-in}
-use Rattle.rules.proofs.Flip.{path-jobs, flip-moves, flip-keeps}
-use Rattle.calls.proofs.Outcomes.{MayArrive}
-use Rattle.size.specs.Sizes.{BenchIn, JobIn, SoundTable}
-use Rattle.size.specs.declared.Size.{Size}
-use Rattle.size.proofs.Sizes.{board-job, board-bench}
-use Rattle.store.specs.View.{Kept, Holds, HolderOf, Fillable}
-use Rattle.chains.specs.Chains.{Settled}
-use Rattle.store.proofs.Boards.{sound-kept, stands-job}
-use Rattle.store.proofs.Counts.{holders-long}
-use Rattle.paths.specs.declared.turns.Turn.{Turn}
-use Rattle.paths.specs.Turns.{turnedBy, lengthOf, lastOf, startOf, Turned}
-use Rattle.sharing.specs.Changes.{Arrives, Closes}
+use Rattle.spec_lists.specs.Lists.{bit, count, keep, In}
+use Rattle.spec_table.specs.Board.{Board, Valid, holderOf, stands, put, load, namesFit}
+use Rattle.spec_sharing.specs.Paths.{Step, BenchPath, jobs, IsPath}
+use Rattle.spec_sharing.specs.Sharing.{Change, getter, arrivalChoice, closingChoice, afterArrival, afterClosing, arrive, close}
+use Rattle.spec_table.specs.Table.{decode, encode}
+use Rattle.spec_lists.proofs.Basics.{Member, is-in, not-in, membered, in-member, nth-change-same}
+use Rattle.spec_table.proofs.Named.{fit-bench}
+use Rattle.spec_lists.proofs.Counting.{count-none, count-some, different-count, keep-counts}
+use Rattle.spec_sharing.proofs.Paths.{holder-bench, improvingFrom-only}
+use Rattle.spec_sharing.proofs.Choice.{arrival-choice}
+use Rattle.spec_sharing.proofs.Sets.{getter-in}
+use Rattle.spec_sharing.proofs.Flip.{path-jobs, flip-moves, flip-keeps}
+use Rattle.spec_calls.proofs.Outcomes.{MayArrive}
+use Rattle.table_size.specs.Sizes.{BenchIn, JobIn, SoundTable}
+use Rattle.table_size.specs.declared.Size.{Size}
+use Rattle.table_size.proofs.Sizes.{board-job, board-bench}
+use Rattle.table_board.specs.View.{Kept, Holds, HolderOf, Fillable}
+use Rattle.table_chains.specs.Chains.{Settled}
+use Rattle.table_board.proofs.Boards.{sound-kept, stands-job}
+use Rattle.table_board.proofs.Counts.{holders-long}
+use Rattle.sharing_paths.specs.declared.turns.Turn.{Turn}
+use Rattle.sharing_paths.specs.Turns.{turnedBy, lengthOf, lastOf, startOf, Turned}
+use Rattle.sharing_changes.specs.Changes.{Arrives, Closes}
 
 -- the lighter of two benches: the second if it has less ..
 pub lighter-second : (holders : List ℕ) (x y : ℕ) {m n : ℕ} → m ≡ load holders y → n ≡ load holders x → m < n → y ≡ getter holders (x ∷ y ∷ [])

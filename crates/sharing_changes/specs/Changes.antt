@@ -3,11 +3,11 @@ use Prim.Native.Nat.{ℕ}
 use mathlib.Core.Path.{_≡_}
 use mathlib.Core.List.{List, [], _∷_}
 use lib.ListN.{length}
-use Rattle.layout.specs.Board.{holderOf}
-use Rattle.rules.specs.Sharing.{Change, arrive, close}
-use Rattle.layout.specs.Table.{decode, encode}
-use Rattle.paths.specs.declared.turns.Turn.{Turn}
-use Rattle.sharing.specs.declared.changes.Arrival.{Arrival}
+use Rattle.spec_table.specs.Board.{holderOf}
+use Rattle.spec_sharing.specs.Sharing.{Change, arrive, close}
+use Rattle.spec_table.specs.Table.{decode, encode}
+use Rattle.sharing_paths.specs.declared.turns.Turn.{Turn}
+use Rattle.sharing_changes.specs.declared.changes.Arrival.{Arrival}
 
 -- r and the table u are those of the arrival c of job j
 pub record Arrives (u : List ℕ) (j : ℕ) (c : Change) (r : Arrival) : Type 0 where

@@ -2,20 +2,20 @@
 ghost use mathlib.Core.Path.{_≡_};
 ghost use mathlib.Core.List.{[], _∷_};
 ghost use lib.Dec.{T};
-ghost use Rattle.layout.specs.Board.{stands};
-ghost use Rattle.rules.specs.Sharing.{getter, arrivalChoice, closingChoice};
-ghost use Rattle.layout.specs.Table.{decode};
-ghost use Rattle.calls.proofs.Outcomes.{MayArrive};
-ghost use Rattle.size.specs.Sizes.{BenchIn, SoundTable};
-ghost use Rattle.store.specs.View.{Kept};
-ghost use Rattle.paths.specs.Turns.{lastOf, startOf, Turned};
-ghost use Rattle.sharing.specs.Changes.{ArrivalOf, ClosingOf};
+ghost use Rattle.spec_table.specs.Board.{stands};
+ghost use Rattle.spec_sharing.specs.Sharing.{getter, arrivalChoice, closingChoice};
+ghost use Rattle.spec_table.specs.Table.{decode};
+ghost use Rattle.spec_calls.proofs.Outcomes.{MayArrive};
+ghost use Rattle.table_size.specs.Sizes.{BenchIn, SoundTable};
+ghost use Rattle.table_board.specs.View.{Kept};
+ghost use Rattle.sharing_paths.specs.Turns.{lastOf, startOf, Turned};
+ghost use Rattle.sharing_changes.specs.Changes.{ArrivalOf, ClosingOf};
 use crate::counts;
-use arrays::scratch;
-use paths::turns::Turn;
-use size::Size;
-use store::jobs;
-use store::loads;
+use graph_lists::scratch;
+use sharing_paths::turns::Turn;
+use table_size::Size;
+use table_board::jobs;
+use table_board::loads;
 
 // What an arrival reports: the bench that holds the new job in the end, the bench whose load rose, and the other jobs that changed holder.
 pub struct Arrival {
@@ -46,10 +46,10 @@ fn improve_from(t: &mut [u8], s: Size, x: usize) -> Turn
 {
     let mut from = scratch::jobs();
     let mut to = scratch::jobs();
-    arcs::fill(t, s, &mut from, &mut to);
+    sharing_arcs::fill(t, s, &mut from, &mut to);
     let mut load = scratch::benches();
     loads::loads(t, s, &mut load);
-    paths_from::turn_from(t, s, &from, &to, &load, x)
+    sharing_paths_from::turn_from(t, s, &from, &to, &load, x)
 }
 
 // Of the improving paths to x the closing's is turned.
@@ -60,10 +60,10 @@ fn improve_to(t: &mut [u8], s: Size, x: usize) -> Turn
 {
     let mut from = scratch::jobs();
     let mut to = scratch::jobs();
-    arcs::fill(t, s, &mut from, &mut to);
+    sharing_arcs::fill(t, s, &mut from, &mut to);
     let mut load = scratch::benches();
     loads::loads(t, s, &mut load);
-    paths_to::turn_to(t, s, &from, &to, &load, x)
+    sharing_paths_to::turn_to(t, s, &from, &to, &load, x)
 }
 
 // Arrival of job j for two benches.
@@ -78,7 +78,7 @@ pub fn arrive(t: &mut [u8], s: Size, j: usize, first: usize, second: usize) -> A
     let turn = improve_from(t, s, getter);
     let holder = jobs::holder(t, s, j);
     let others = if holder == getter { 0 } else { 1 };
-    chains::settle(t, s);
+    table_chains::settle(t, s);
     Arrival {
         holder,
         rose: turn.bench,
@@ -95,6 +95,6 @@ pub fn close(t: &mut [u8], s: Size, j: usize) -> Turn
     let x = jobs::holder(t, s, j);
     jobs::remove_job(t, s, j);
     let turn = improve_to(t, s, x);
-    chains::settle(t, s);
+    table_chains::settle(t, s);
     turn
 }

@@ -1,9 +1,9 @@
 // Loads by the chains: of one bench, and the heaviest.
 ghost use mathlib.Core.Path.{_≡_};
-ghost use Rattle.layout.specs.Board.{load, heaviest};
-ghost use Rattle.layout.specs.Table.{decode};
-ghost use Rattle.size.specs.Sizes.{BenchIn, SoundTable};
-use size::Size;
+ghost use Rattle.spec_table.specs.Board.{load, heaviest};
+ghost use Rattle.spec_table.specs.Table.{decode};
+ghost use Rattle.table_size.specs.Sizes.{BenchIn, SoundTable};
+use table_size::Size;
 
 // The load of bench x: the number of jobs on its chain.
 pub fn load(t: &[u8], s: Size, x: usize) -> usize
@@ -12,10 +12,10 @@ pub fn load(t: &[u8], s: Size, x: usize) -> usize
     ensures { λ r. ⌜ r ≡ load (decode (now (t .entry)) .holders) x ⌝ }
 {
     let mut count = 0;
-    let mut j = chains::first(t, s, x);
+    let mut j = table_chains::first(t, s, x);
     while j != 0 {
         count += 1;
-        j = chains::next(t, s, j);
+        j = table_chains::next(t, s, j);
     }
     count
 }

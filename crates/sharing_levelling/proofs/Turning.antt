@@ -10,33 +10,33 @@ use mathlib.Core.List.{List}
 use mathlib.Core.Option.{Option, none, some}
 use lib.Dec.{T, eqb}
 use lib.ListN.{length}
-use Rattle.basics.specs.Lists.{within, In}
-use Rattle.layout.specs.Board.{Board, Valid, load}
-use Rattle.layout.specs.Table.{mostBenches, mostJobs, decode}
-use Rattle.rules.specs.Paths.{BenchPath, steps, improvingFrom, flip}
-use Rattle.rules.specs.Sharing.{arrivalChoice, levellingChoice, level, Levelled}
-use Rattle.rules.specs.Demand2.{Turns, rest}
-use Rattle.size.specs.Sizes.{Limits, BenchIn, SoundTable}
-use Rattle.size.specs.declared.Size.{Size}
-use Rattle.store.specs.View.{Kept, Holds, Loaded}
-use Rattle.chains.specs.Chains.{Settled}
-use Rattle.arrays.specs.Arrays.{at, Leads}
-use Rattle.start.specs.Start.{Between, StartsLow, StartOf}
-use Rattle.start.specs.declared.Range.{Range}
-use Rattle.arcs.specs.Arcs.{ArcsOf}
-use Rattle.paths.specs.Turns.{turnedBy}
-use Rattle.levels.specs.Levels.{Levels, LevellingOf, NextStart}
-use Rattle.levels.specs.declared.Levelling.{Levelling}
-use Rattle.basics.proofs.Basics.{tests-same, T-eqb, eqb-T, within-low, within-both}
-use Rattle.rules.proofs.Paths.{improvingFrom-every, loads-improve}
-use Rattle.rules.proofs.Choice.{arrival-none, level-choice}
-use Rattle.rules.proofs.Walks.{Reach, reach-path, reach-bench}
-use Rattle.rules.proofs.Found.{StartsOne, level-starts, levelling-found}
-use Rattle.rules.proofs.Levelling.{turns-more, turns-relevel}
-use Rattle.size.proofs.Sizes.{board-bench}
-use Rattle.store.proofs.Boards.{sound-kept}
-use Rattle.search.proofs.Widening.{bench-within}
-use Rattle.arcs.proofs.AsArcs.{loads-in, load-at, arcs-reach, steps-reach}
+use Rattle.spec_lists.specs.Lists.{within, In}
+use Rattle.spec_table.specs.Board.{Board, Valid, load}
+use Rattle.spec_table.specs.Table.{mostBenches, mostJobs, decode}
+use Rattle.spec_sharing.specs.Paths.{BenchPath, steps, improvingFrom, flip}
+use Rattle.spec_sharing.specs.Sharing.{arrivalChoice, levellingChoice, level, Levelled}
+use Rattle.spec_sharing.specs.Demand2.{Turns, rest}
+use Rattle.table_size.specs.Sizes.{Limits, BenchIn, SoundTable}
+use Rattle.table_size.specs.declared.Size.{Size}
+use Rattle.table_board.specs.View.{Kept, Holds, Loaded}
+use Rattle.table_chains.specs.Chains.{Settled}
+use Rattle.graph_lists.specs.Arrays.{at, Leads}
+use Rattle.graph_start.specs.Start.{Between, StartsLow, StartOf}
+use Rattle.graph_start.specs.declared.Range.{Range}
+use Rattle.sharing_arcs.specs.Arcs.{ArcsOf}
+use Rattle.sharing_paths.specs.Turns.{turnedBy}
+use Rattle.sharing_levelling.specs.Levels.{Levels, LevellingOf, NextStart}
+use Rattle.sharing_levelling.specs.declared.Levelling.{Levelling}
+use Rattle.spec_lists.proofs.Basics.{tests-same, T-eqb, eqb-T, within-low, within-both}
+use Rattle.spec_sharing.proofs.Paths.{improvingFrom-every, loads-improve}
+use Rattle.spec_sharing.proofs.Choice.{arrival-none, level-choice}
+use Rattle.spec_sharing.proofs.Walks.{Reach, reach-path, reach-bench}
+use Rattle.spec_sharing.proofs.Found.{StartsOne, level-starts, levelling-found}
+use Rattle.spec_sharing.proofs.Levelling.{turns-more, turns-relevel}
+use Rattle.table_size.proofs.Sizes.{board-bench}
+use Rattle.table_board.proofs.Boards.{sound-kept}
+use Rattle.graph_search.proofs.Widening.{bench-within}
+use Rattle.sharing_arcs.proofs.AsArcs.{loads-in, load-at, arcs-reach, steps-reach}
 
 -- a bench that starts an improving path has one that an arrival there would turn
 starts-choice : (b : Board) → Valid b → (x : ℕ) → StartsOne b x → (p : BenchPath) × (arrivalChoice b x ≡ some p)

@@ -5,15 +5,15 @@ use mathlib.Core.Logic.{_≢_}
 use mathlib.Core.List.{List}
 use lib.Dec.{T}
 use lib.ListN.{length}
-use Rattle.rules.specs.Sharing.{Levelled, relevel, level}
-use Rattle.layout.specs.Board.{Board}
-use Rattle.layout.specs.Table.{mostJobs, decode, encode}
-use Rattle.size.specs.declared.Size.{Size}
-use Rattle.store.specs.View.{Loaded}
-use Rattle.arrays.specs.Arrays.{Leads}
-use Rattle.start.specs.Start.{StartOf}
-use Rattle.arcs.specs.Arcs.{ArcsOf}
-use Rattle.levels.specs.declared.Levelling.{Levelling}
+use Rattle.spec_sharing.specs.Sharing.{Levelled, relevel, level}
+use Rattle.spec_table.specs.Board.{Board}
+use Rattle.spec_table.specs.Table.{mostJobs, decode, encode}
+use Rattle.table_size.specs.declared.Size.{Size}
+use Rattle.table_board.specs.View.{Loaded}
+use Rattle.graph_lists.specs.Arrays.{Leads}
+use Rattle.graph_start.specs.Start.{StartOf}
+use Rattle.sharing_arcs.specs.Arcs.{ArcsOf}
+use Rattle.sharing_levelling.specs.declared.Levelling.{Levelling}
 
 -- r and the table u are those of the levelling l
 pub record Levels (u : List ℕ) (l : Levelled) (r : Levelling) : Type 0 where

@@ -2,14 +2,14 @@
 ghost use mathlib.Core.Path.{_≡_};
 ghost use Prim.Native.Nat.{_+_};
 ghost use lib.ListN.{length};
-ghost use Rattle.rules.specs.Sharing.{level};
-ghost use Rattle.layout.specs.Table.{mostJobs, decode};
-ghost use Rattle.size.specs.Sizes.{SoundTable};
-ghost use Rattle.store.specs.View.{Kept};
-ghost use Rattle.levels.specs.Levels.{NextStart, LevellingOf};
-use arrays::scratch;
-use size::Size;
-use store::loads;
+ghost use Rattle.spec_sharing.specs.Sharing.{level};
+ghost use Rattle.spec_table.specs.Table.{mostJobs, decode};
+ghost use Rattle.table_size.specs.Sizes.{SoundTable};
+ghost use Rattle.table_board.specs.View.{Kept};
+ghost use Rattle.sharing_levelling.specs.Levels.{NextStart, LevellingOf};
+use graph_lists::scratch;
+use table_size::Size;
+use table_board::loads;
 
 // What levelling reports: the paths turned, and whether no improving path is left.
 pub struct Levelling {
@@ -32,12 +32,12 @@ fn next_start(
     ensures { λ r. ⌜ NextStart (decode (now (t .entry))) s (now (from .exit)) (now (to .exit)) (now (load .exit)) r ⌝ }
 {
     loads::loads(t, s, load);
-    let range = start::range_of(s, load);
+    let range = graph_start::range_of(s, load);
     if range.high < range.low + 2 {
         return 0;
     }
-    arcs::fill(t, s, from, to);
-    start::first_start(s, from, to, load, range)
+    sharing_arcs::fill(t, s, from, to);
+    graph_start::first_start(s, from, to, load, range)
 }
 
 // Whether no improving path is left.
@@ -62,11 +62,11 @@ pub fn relevel(t: &mut [u8], s: Size, allowance: u32) -> Levelling
     let mut paths = 0;
     let mut x = next_start(t, s, &mut from, &mut to, &mut load);
     while x != 0 && paths < allowance {
-        paths_from::turn_from(t, s, &from, &to, &load, x);
+        sharing_paths_from::turn_from(t, s, &from, &to, &load, x);
         paths += 1;
         x = next_start(t, s, &mut from, &mut to, &mut load);
     }
-    chains::settle(t, s);
+    table_chains::settle(t, s);
     Levelling {
         paths,
         level: x == 0,

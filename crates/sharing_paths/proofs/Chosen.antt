@@ -8,31 +8,31 @@ use mathlib.Core.Option.{Option, none, some}
 use lib.Dec.{T}
 use lib.ListN.{length, take, set, replicate, length-map}
 use lib.Seq.{length-take-le}
-use Rattle.layout.specs.Board.{Board, load, namesOf}
-use Rattle.layout.specs.Table.{mostBenches, mostJobs, decode}
-use Rattle.rules.specs.Paths.{BenchPath, stepBy, steps, pathBy, last, IsPath, improves, improvingFrom, improvingTo, flip}
-use Rattle.rules.specs.Sharing.{arrivalKey, closingKey, arrivalChoice, closingChoice}
-use Rattle.basics.proofs.Basics.{in-member, in-empty}
-use Rattle.rules.proofs.Paths.{step-is, step-bench, improvingFrom-only, improvingTo-only, improves-loads, improves-start}
-use Rattle.rules.proofs.Choice.{least-empty}
-use Rattle.rules.proofs.Walks.{path-reach, reach-bench}
-use Rattle.rules.proofs.Distances.{Stays, Greedy, greedy-walk, storable-one-other}
-use Rattle.rules.proofs.Found.{Lower, ArrivalEnd, Higher, ClosingStart, arrival-not-found, closing-not-found}
-use Rattle.rules.proofs.Search.{arrival-greedy, closing-greedy, away-number, away-right, to-number, to-right, greedy-right}
-use Rattle.size.specs.Sizes.{BenchIn}
-use Rattle.size.specs.declared.Size.{Size}
-use Rattle.size.proofs.Sizes.{job-in, board-bench}
-use Rattle.store.specs.View.{Kept, Holds, Loaded}
-use Rattle.arrays.specs.Arrays.{at}
-use Rattle.arrays.specs.Keys.{LeastKey, Reversed, Wanted}
-use Rattle.search.specs.Spread.{Distances}
-use Rattle.routes.specs.Ends.{Chosen}
-use Rattle.routes.specs.Route.{Follows, Routed}
-use Rattle.arcs.specs.Arcs.{ArcsOf}
-use Rattle.paths.specs.Turns.{stepsBy, Handable, handedBy, Along, lastOf, startOf, Turned}
-use Rattle.rules.proofs.Far.{distance, distance-to, distance-away}
-use Rattle.arcs.proofs.AsArcs.{loads-keys, on-board, load-at, arc-step, step-arc, distances-away, distances-to}
-use Rattle.paths.proofs.Stopping.{Beside, nearest-right, only-goal, goal-right, Lighter, Lightest, none-lighter, best-nearest, best-lightest}
+use Rattle.spec_table.specs.Board.{Board, load, namesOf}
+use Rattle.spec_table.specs.Table.{mostBenches, mostJobs, decode}
+use Rattle.spec_sharing.specs.Paths.{BenchPath, stepBy, steps, pathBy, last, IsPath, improves, improvingFrom, improvingTo, flip}
+use Rattle.spec_sharing.specs.Sharing.{arrivalKey, closingKey, arrivalChoice, closingChoice}
+use Rattle.spec_lists.proofs.Basics.{in-member, in-empty}
+use Rattle.spec_sharing.proofs.Paths.{step-is, step-bench, improvingFrom-only, improvingTo-only, improves-loads, improves-start}
+use Rattle.spec_sharing.proofs.Choice.{least-empty}
+use Rattle.spec_sharing.proofs.Walks.{path-reach, reach-bench}
+use Rattle.spec_sharing.proofs.Distances.{Stays, Greedy, greedy-walk, storable-one-other}
+use Rattle.spec_sharing.proofs.Found.{Lower, ArrivalEnd, Higher, ClosingStart, arrival-not-found, closing-not-found}
+use Rattle.spec_sharing.proofs.Search.{arrival-greedy, closing-greedy, away-number, away-right, to-number, to-right, greedy-right}
+use Rattle.table_size.specs.Sizes.{BenchIn}
+use Rattle.table_size.specs.declared.Size.{Size}
+use Rattle.table_size.proofs.Sizes.{job-in, board-bench}
+use Rattle.table_board.specs.View.{Kept, Holds, Loaded}
+use Rattle.graph_lists.specs.Arrays.{at}
+use Rattle.graph_lists.specs.Keys.{LeastKey, Reversed, Wanted}
+use Rattle.graph_search.specs.Spread.{Distances}
+use Rattle.graph_routes.specs.Ends.{Chosen}
+use Rattle.graph_routes.specs.Route.{Follows, Routed}
+use Rattle.sharing_arcs.specs.Arcs.{ArcsOf}
+use Rattle.sharing_paths.specs.Turns.{stepsBy, Handable, handedBy, Along, lastOf, startOf, Turned}
+use Rattle.spec_sharing.proofs.Far.{distance, distance-to, distance-away}
+use Rattle.sharing_arcs.proofs.AsArcs.{loads-keys, on-board, load-at, arc-step, step-arc, distances-away, distances-to}
+use Rattle.sharing_paths.proofs.Stopping.{Beside, nearest-right, only-goal, goal-right, Lighter, Lightest, none-lighter, best-nearest, best-lightest}
 
 -- where each weight and its load add up to m, the weights come in the other order
 turn-round : {D : Type 0} {m v w k n : ℕ} → v + k ≡ m → w + n ≡ m → (v < w) ⊎ ((v ≡ w) × D) → (n < k) ⊎ ((k ≡ n) × D)

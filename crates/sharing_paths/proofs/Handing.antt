@@ -7,18 +7,18 @@ use mathlib.Core.List.{List, [], _∷_, _++_}
 use lib.Dec.{T}
 use lib.ListN.{length, take}
 use lib.Seq.{length-take-le, take-suc, getD-take}
-use Rattle.basics.specs.Lists.{member, change}
-use Rattle.layout.specs.Board.{Board, namesOf, heldBy}
-use Rattle.layout.specs.Table.{mostBenches, mostJobs, decode}
-use Rattle.rules.specs.Paths.{handOver}
-use Rattle.basics.proofs.Basics.{each-in, in-getD, member-in}
-use Rattle.rules.proofs.Paths.{named-bench}
-use Rattle.size.specs.Sizes.{JobIn}
-use Rattle.size.specs.declared.Size.{Size}
-use Rattle.size.proofs.Sizes.{board-bench}
-use Rattle.store.specs.View.{Kept, Holds}
-use Rattle.arrays.specs.Arrays.{at}
-use Rattle.paths.specs.Turns.{stepsBy, Handable, handedBy}
+use Rattle.spec_lists.specs.Lists.{member, change}
+use Rattle.spec_table.specs.Board.{Board, namesOf, heldBy}
+use Rattle.spec_table.specs.Table.{mostBenches, mostJobs, decode}
+use Rattle.spec_sharing.specs.Paths.{handOver}
+use Rattle.spec_lists.proofs.Basics.{each-in, in-getD, member-in}
+use Rattle.spec_sharing.proofs.Paths.{named-bench}
+use Rattle.table_size.specs.Sizes.{JobIn}
+use Rattle.table_size.specs.declared.Size.{Size}
+use Rattle.table_size.proofs.Sizes.{board-bench}
+use Rattle.table_board.specs.View.{Kept, Holds}
+use Rattle.graph_lists.specs.Arrays.{at}
+use Rattle.sharing_paths.specs.Turns.{stepsBy, Handable, handedBy}
 
 -- one job more is one more change of holders
 hand-more : (holders to path : List ℕ) (j : ℕ) → handOver holders (stepsBy to (path ++ (j ∷ []))) ≡ change (handOver holders (stepsBy to path)) j (at to j)

@@ -7,12 +7,12 @@ use mathlib.Core.Logic.{_⊎_, inl, inr}
 use mathlib.Core.List.{List}
 use lib.ListN.{set, replicate, getD-replicate}
 use lib.Seq.{getD-set-other}
-use Rattle.layout.specs.Table.{mostJobs}
-use Rattle.size.specs.Sizes.{BenchIn}
-use Rattle.size.specs.declared.Size.{Size}
-use Rattle.arrays.specs.Arrays.{at}
-use Rattle.arrays.specs.Keys.{KeysIn, LeastKey, Reversed, Wanted}
-use Rattle.routes.specs.Ends.{Candidate, Best}
+use Rattle.spec_table.specs.Table.{mostJobs}
+use Rattle.table_size.specs.Sizes.{BenchIn}
+use Rattle.table_size.specs.declared.Size.{Size}
+use Rattle.graph_lists.specs.Arrays.{at}
+use Rattle.graph_lists.specs.Keys.{KeysIn, LeastKey, Reversed, Wanted}
+use Rattle.graph_routes.specs.Ends.{Candidate, Best}
 
 -- keys
 

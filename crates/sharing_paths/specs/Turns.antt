@@ -5,16 +5,16 @@ use mathlib.Core.List.{List, map}
 use mathlib.Core.Option.{Option, none, some}
 use lib.Dec.{T}
 use lib.ListN.{length}
-use Rattle.basics.specs.Lists.{member, Each}
-use Rattle.layout.specs.Board.{Board, namesOf, heldBy}
-use Rattle.layout.specs.Table.{decode}
-use Rattle.rules.specs.Paths.{Step, BenchPath, stepBy, last, handOver, flip}
-use Rattle.size.specs.Sizes.{JobIn}
-use Rattle.size.specs.declared.Size.{Size}
-use Rattle.store.specs.View.{Holds}
-use Rattle.arrays.specs.Arrays.{at}
-use Rattle.routes.specs.Route.{Follows}
-use Rattle.paths.specs.declared.turns.Turn.{Turn}
+use Rattle.spec_lists.specs.Lists.{member, Each}
+use Rattle.spec_table.specs.Board.{Board, namesOf, heldBy}
+use Rattle.spec_table.specs.Table.{decode}
+use Rattle.spec_sharing.specs.Paths.{Step, BenchPath, stepBy, last, handOver, flip}
+use Rattle.table_size.specs.Sizes.{JobIn}
+use Rattle.table_size.specs.declared.Size.{Size}
+use Rattle.table_board.specs.View.{Holds}
+use Rattle.graph_lists.specs.Arrays.{at}
+use Rattle.graph_routes.specs.Route.{Follows}
+use Rattle.sharing_paths.specs.declared.turns.Turn.{Turn}
 
 -- jobs as steps, each to the bench at its number in `to`
 abbrev pub stepsBy : List ℕ → List ℕ → List Step

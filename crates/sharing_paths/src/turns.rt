@@ -1,18 +1,18 @@
-// A path that was found is turned. A change of holders leaves the chains as they were: see chains::settle.
+// A path that was found is turned. A change of holders leaves the chains as they were: see table_chains::settle.
 ghost use Prim.Native.Nat.{_+_, _≤_};
 ghost use mathlib.Core.Path.{_≡_};
 ghost use lib.ListN.{length, take};
-ghost use Rattle.layout.specs.Table.{mostBenches, decode};
-ghost use Rattle.store.specs.View.{Kept, Holds};
-ghost use Rattle.arrays.specs.Arrays.{at};
-ghost use Rattle.arrays.specs.Lists.{ListedBy};
-ghost use Rattle.routes.specs.Route.{Falls};
-ghost use Rattle.arcs.specs.Arcs.{ArcsOf};
-ghost use Rattle.paths.specs.Turns.{Handable, handedBy, Along};
-use arrays::scratch;
-use routes::route;
-use size::Size;
-use store::jobs;
+ghost use Rattle.spec_table.specs.Table.{mostBenches, decode};
+ghost use Rattle.table_board.specs.View.{Kept, Holds};
+ghost use Rattle.graph_lists.specs.Arrays.{at};
+ghost use Rattle.graph_lists.specs.Lists.{ListedBy};
+ghost use Rattle.graph_routes.specs.Route.{Falls};
+ghost use Rattle.sharing_arcs.specs.Arcs.{ArcsOf};
+ghost use Rattle.sharing_paths.specs.Turns.{Handable, handedBy, Along};
+use graph_lists::scratch;
+use graph_routes::route;
+use table_size::Size;
+use table_board::jobs;
 
 // What turning a path did: the path's other end, and how many jobs were handed over; where there is no path, the bench asked for, and 0.
 pub struct Turn {

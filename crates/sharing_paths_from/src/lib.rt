@@ -1,18 +1,18 @@
 // The arrival's path, which levelling turns too.
 ghost use Prim.Native.Nat.{_+_};
-ghost use Rattle.rules.specs.Sharing.{arrivalChoice};
-ghost use Rattle.layout.specs.Table.{decode};
-ghost use Rattle.size.specs.Sizes.{BenchIn};
-ghost use Rattle.store.specs.View.{Kept, Loaded};
-ghost use Rattle.arcs.specs.Arcs.{ArcsOf};
-ghost use Rattle.paths.specs.Turns.{lastOf, Turned};
-use arrays::keys;
-use arrays::lists;
-use arrays::scratch;
-use paths::turns;
-use paths::turns::Turn;
-use routes::ends;
-use size::Size;
+ghost use Rattle.spec_sharing.specs.Sharing.{arrivalChoice};
+ghost use Rattle.spec_table.specs.Table.{decode};
+ghost use Rattle.table_size.specs.Sizes.{BenchIn};
+ghost use Rattle.table_board.specs.View.{Kept, Loaded};
+ghost use Rattle.sharing_arcs.specs.Arcs.{ArcsOf};
+ghost use Rattle.sharing_paths.specs.Turns.{lastOf, Turned};
+use graph_lists::keys;
+use graph_lists::lists;
+use graph_lists::scratch;
+use sharing_paths::turns;
+use sharing_paths::turns::Turn;
+use graph_routes::ends;
+use table_size::Size;
 
 // Of the improving paths from x the one that the arrival's order names is turned: its last bench and its jobs; x and 0 where there is none.
 // No bench has a lower load than the lightest: a search need go no farther than the nearest of those.
@@ -38,14 +38,14 @@ pub fn turn_from(
     let mut next = scratch::jobs();
     lists::list_by(s.jobs(), from, &mut first, &mut next);
     let mut away = scratch::benches();
-    search::distances_along(s, from, to, &first, &next, loads, low, x, &mut away);
+    graph_search::distances_along(s, from, to, &first, &next, loads, low, x, &mut away);
     let y = ends::choose(s, loads, &away, x);
     if y == 0 {
         return Turn { bench: x, jobs: 0 };
     }
     let mut near = scratch::benches();
     let goal = scratch::all_but(x);
-    search::distances(s, to, from, &goal, 0, y, &mut near);
+    graph_search::distances(s, to, from, &goal, 0, y, &mut near);
     let jobs = turns::turn_along(t, s, from, to, &first, &next, &near, x);
     Turn { bench: y, jobs }
 }

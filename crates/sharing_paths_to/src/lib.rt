@@ -1,18 +1,18 @@
 // The closing's path.
 ghost use Prim.Native.Nat.{_+_};
-ghost use Rattle.rules.specs.Sharing.{closingChoice};
-ghost use Rattle.layout.specs.Table.{decode};
-ghost use Rattle.size.specs.Sizes.{BenchIn};
-ghost use Rattle.store.specs.View.{Kept, Loaded};
-ghost use Rattle.arcs.specs.Arcs.{ArcsOf};
-ghost use Rattle.paths.specs.Turns.{startOf, Turned};
-use arrays::keys;
-use arrays::lists;
-use arrays::scratch;
-use paths::turns;
-use paths::turns::Turn;
-use routes::ends;
-use size::Size;
+ghost use Rattle.spec_sharing.specs.Sharing.{closingChoice};
+ghost use Rattle.spec_table.specs.Table.{decode};
+ghost use Rattle.table_size.specs.Sizes.{BenchIn};
+ghost use Rattle.table_board.specs.View.{Kept, Loaded};
+ghost use Rattle.sharing_arcs.specs.Arcs.{ArcsOf};
+ghost use Rattle.sharing_paths.specs.Turns.{startOf, Turned};
+use graph_lists::keys;
+use graph_lists::lists;
+use graph_lists::scratch;
+use sharing_paths::turns;
+use sharing_paths::turns::Turn;
+use graph_routes::ends;
+use table_size::Size;
 
 // Of the improving paths to x the one that the closing's order names is turned: its first bench and its jobs; x and 0 where there is none.
 pub fn turn_to(
@@ -36,7 +36,7 @@ pub fn turn_to(
         return Turn { bench: x, jobs: 0 };
     }
     let mut near = scratch::benches();
-    search::distances(s, to, from, &weights, low, x, &mut near);
+    graph_search::distances(s, to, from, &weights, low, x, &mut near);
     let z = ends::choose(s, &weights, &near, x);
     if z == 0 {
         return Turn { bench: x, jobs: 0 };

@@ -8,36 +8,36 @@ use mathlib.Core.List.{List, [], _∷_, _++_, append-nil}
 use lib.Dec.{T, eqb}
 use lib.ListN.{length, getD, set, drop, replicate, length-append}
 use lib.Seq.{getD-set-same, getD-set-other}
-use Rattle.basics.specs.Lists.{bit, within, count, member, rising, total, keep, In}
-use Rattle.layout.specs.Board.{Board, Valid, load, Shares}
-use Rattle.rules.specs.Paths.{Step, stepBy, steps}
-use Rattle.rules.specs.Sharing.{tightSet, inside}
-use Rattle.layout.specs.Table.{mostBenches, mostJobs, decode, bytesOf}
-use Rattle.basics.proofs.Basics.{true→T, false→not, never→false, Compared, same, other, compared, T-eqb, within-low, within-both, in-each, keep-in, member-in, Member, is-in, not-in, membered, member-marked, length-keep, length-rising}
-use Rattle.layout.proofs.Named.{length-shares}
-use Rattle.basics.proofs.Counting.{bit-other, total-same, total-count, keep-counts}
-use Rattle.rules.proofs.Paths.{is-step}
-use Rattle.rules.proofs.Sets.{inside-skips, inside-counts}
-use Rattle.layout.proofs.Sound.{two-more, two-more-high}
-use Rattle.rules.proofs.TightSet.{tight-marked, tight-bench, tight-reached}
-use Rattle.rules.proofs.Walks.{Reach, reach-here, reach-more, reach-all}
-use Rattle.words.specs.Bytes.{setWord}
-use Rattle.size.specs.Sizes.{Limits, BenchIn}
-use Rattle.size.specs.declared.Size.{Size}
-use Rattle.words.proofs.Bytes.{length-setWord}
-use Rattle.size.proofs.Sizes.{board-bench}
-use Rattle.store.specs.View.{Kept, Loaded}
-use Rattle.arrays.specs.Arrays.{at, Leads, LoadsIn}
-use Rattle.arrays.specs.Keys.{LeastKey}
-use Rattle.arrays.specs.Lists.{ListedBy, Joins}
-use Rattle.arrays.proofs.Listing.{array-at, joins-leads}
-use Rattle.search.proofs.Widening.{reached-same}
-use Rattle.arcs.specs.Arcs.{ArcsOf}
-use Rattle.arcs.proofs.AsArcs.{on-board, load-at, arcs-forth, step-arc, arcs-reach}
-use Rattle.visits.specs.Marks.{mark, Marks, Brings}
-use Rattle.visits.proofs.Visiting.{marks-set}
-use Rattle.tight.specs.Sets.{AllMarked, marked, Measured, TightSet}
-use Rattle.tight.specs.declared.set.Extent.{Extent}
+use Rattle.spec_lists.specs.Lists.{bit, within, count, member, rising, total, keep, In}
+use Rattle.spec_table.specs.Board.{Board, Valid, load, Shares}
+use Rattle.spec_sharing.specs.Paths.{Step, stepBy, steps}
+use Rattle.spec_sharing.specs.Sharing.{tightSet, inside}
+use Rattle.spec_table.specs.Table.{mostBenches, mostJobs, decode, bytesOf}
+use Rattle.spec_lists.proofs.Basics.{true→T, false→not, never→false, Compared, same, other, compared, T-eqb, within-low, within-both, in-each, keep-in, member-in, Member, is-in, not-in, membered, member-marked, length-keep, length-rising}
+use Rattle.spec_table.proofs.Named.{length-shares}
+use Rattle.spec_lists.proofs.Counting.{bit-other, total-same, total-count, keep-counts}
+use Rattle.spec_sharing.proofs.Paths.{is-step}
+use Rattle.spec_sharing.proofs.Sets.{inside-skips, inside-counts}
+use Rattle.spec_table.proofs.Sound.{two-more, two-more-high}
+use Rattle.spec_sharing.proofs.TightSet.{tight-marked, tight-bench, tight-reached}
+use Rattle.spec_sharing.proofs.Walks.{Reach, reach-here, reach-more, reach-all}
+use Rattle.table_words.specs.Bytes.{setWord}
+use Rattle.table_size.specs.Sizes.{Limits, BenchIn}
+use Rattle.table_size.specs.declared.Size.{Size}
+use Rattle.table_words.proofs.Bytes.{length-setWord}
+use Rattle.table_size.proofs.Sizes.{board-bench}
+use Rattle.table_board.specs.View.{Kept, Loaded}
+use Rattle.graph_lists.specs.Arrays.{at, Leads, LoadsIn}
+use Rattle.graph_lists.specs.Keys.{LeastKey}
+use Rattle.graph_lists.specs.Lists.{ListedBy, Joins}
+use Rattle.graph_lists.proofs.Listing.{array-at, joins-leads}
+use Rattle.graph_search.proofs.Widening.{reached-same}
+use Rattle.sharing_arcs.specs.Arcs.{ArcsOf}
+use Rattle.sharing_arcs.proofs.AsArcs.{on-board, load-at, arcs-forth, step-arc, arcs-reach}
+use Rattle.sharing_visits.specs.Marks.{mark, Marks, Brings}
+use Rattle.sharing_visits.proofs.Visiting.{marks-set}
+use Rattle.sharing_tight_set.specs.Sets.{AllMarked, marked, Measured, TightSet}
+use Rattle.sharing_tight_set.specs.declared.set.Extent.{Extent}
 
 -- what is marked of the benches 1 to n
 

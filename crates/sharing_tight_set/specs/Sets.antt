@@ -5,14 +5,14 @@ use mathlib.Core.Bool.{Bool, cond}
 use mathlib.Core.List.{List}
 use lib.Dec.{T}
 use lib.ListN.{length}
-use Rattle.basics.specs.Lists.{rising, keep, total}
-use Rattle.layout.specs.Board.{Board}
-use Rattle.rules.specs.Sharing.{tightSet, inside}
-use Rattle.size.specs.Sizes.{BenchIn}
-use Rattle.size.specs.declared.Size.{Size}
-use Rattle.arrays.specs.Arrays.{at}
-use Rattle.visits.specs.Marks.{mark}
-use Rattle.tight.specs.declared.set.Extent.{Extent}
+use Rattle.spec_lists.specs.Lists.{rising, keep, total}
+use Rattle.spec_table.specs.Board.{Board}
+use Rattle.spec_sharing.specs.Sharing.{tightSet, inside}
+use Rattle.table_size.specs.Sizes.{BenchIn}
+use Rattle.table_size.specs.declared.Size.{Size}
+use Rattle.graph_lists.specs.Arrays.{at}
+use Rattle.sharing_visits.specs.Marks.{mark}
+use Rattle.sharing_tight_set.specs.declared.set.Extent.{Extent}
 
 -- every bench of 1 to B is marked
 pub record AllMarked (s : Size) (marks : List Bool) : Type 0 where

@@ -4,18 +4,18 @@ ghost use mathlib.Core.Bool.{false};
 ghost use mathlib.Core.List.{_++_};
 ghost use Prim.Native.Nat.{_≤_, _+_, _*_};
 ghost use lib.ListN.{length, drop, replicate};
-ghost use Rattle.layout.specs.Table.{mostBenches, decode, bytesOf};
-ghost use Rattle.rules.specs.Sharing.{tightSet};
-ghost use Rattle.size.specs.Sizes.{Limits};
-ghost use Rattle.store.specs.View.{Kept, Loaded};
-ghost use Rattle.arrays.specs.Arrays.{LoadsIn};
-ghost use Rattle.visits.specs.Marks.{Marks};
-ghost use Rattle.tight.specs.Sets.{AllMarked, marked, Measured, TightSet};
-use arrays::keys;
-use arrays::lists;
-use arrays::scratch;
-use size::Size;
-use store::loads;
+ghost use Rattle.spec_table.specs.Table.{mostBenches, decode, bytesOf};
+ghost use Rattle.spec_sharing.specs.Sharing.{tightSet};
+ghost use Rattle.table_size.specs.Sizes.{Limits};
+ghost use Rattle.table_board.specs.View.{Kept, Loaded};
+ghost use Rattle.graph_lists.specs.Arrays.{LoadsIn};
+ghost use Rattle.sharing_visits.specs.Marks.{Marks};
+ghost use Rattle.sharing_tight_set.specs.Sets.{AllMarked, marked, Measured, TightSet};
+use graph_lists::keys;
+use graph_lists::lists;
+use graph_lists::scratch;
+use table_size::Size;
+use table_board::loads;
 
 // How many benches are in a set, and how many jobs they hold.
 pub struct Extent {
@@ -86,11 +86,11 @@ fn mark_brought(
 {
     let mut from = scratch::jobs();
     let mut to = scratch::jobs();
-    arcs::fill(t, s, &mut from, &mut to);
+    sharing_arcs::fill(t, s, &mut from, &mut to);
     let mut first = scratch::benches();
     let mut next = scratch::jobs();
     lists::list_by(s.jobs(), &from, &mut first, &mut next);
-    visits::visit_heavy(s, &first, &next, &to, loads, h, marks);
+    sharing_visits::visit_heavy(s, &first, &next, &to, loads, h, marks);
 }
 
 // The tight set of height h, marked: the number of its benches and of the jobs inside. Where every bench has load h or more, it is all
@@ -122,7 +122,7 @@ pub fn write(s: Size, marks: &[bool; Size::MOST_BENCHES + 1], list: &mut [u8])
     let mut x = 1;
     while x <= benches {
         if marks[x] {
-            words::write(list, count, x);
+            table_words::write(list, count, x);
             count += 1;
         }
         x += 1;

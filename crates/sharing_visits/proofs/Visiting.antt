@@ -9,16 +9,16 @@ use mathlib.Core.List.{List}
 use lib.Dec.{T, T-not}
 use lib.ListN.{length, set, length-set}
 use lib.Seq.{getD-set-same, getD-set-other}
-use Rattle.basics.specs.Lists.{bit, within, total}
-use Rattle.layout.specs.Table.{mostBenches, mostJobs}
-use Rattle.basics.proofs.Basics.{true→T, T→true, false→not, within-low, within-high, Compared, same, other, compared}
-use Rattle.basics.proofs.Counting.{total-le, total-but-one}
-use Rattle.size.specs.Sizes.{BenchIn}
-use Rattle.size.specs.declared.Size.{Size}
-use Rattle.arrays.specs.Arrays.{at, Reached, here, step}
-use Rattle.arrays.specs.Lists.{On, head, tail, Joins, Ways}
-use Rattle.arrays.proofs.Listing.{on-some, on-next, on-most, left, left-less}
-use Rattle.visits.specs.Marks.{mark, Marks, OnChain, FromList, Brings}
+use Rattle.spec_lists.specs.Lists.{bit, within, total}
+use Rattle.spec_table.specs.Table.{mostBenches, mostJobs}
+use Rattle.spec_lists.proofs.Basics.{true→T, T→true, false→not, within-low, within-high, Compared, same, other, compared}
+use Rattle.spec_lists.proofs.Counting.{total-le, total-but-one}
+use Rattle.table_size.specs.Sizes.{BenchIn}
+use Rattle.table_size.specs.declared.Size.{Size}
+use Rattle.graph_lists.specs.Arrays.{at, Reached, here, step}
+use Rattle.graph_lists.specs.Lists.{On, head, tail, Joins, Ways}
+use Rattle.graph_lists.proofs.Listing.{on-some, on-next, on-most, left, left-less}
+use Rattle.sharing_visits.specs.Marks.{mark, Marks, OnChain, FromList, Brings}
 
 -- chains
 

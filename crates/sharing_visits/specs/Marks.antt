@@ -6,10 +6,10 @@ use mathlib.Core.Bool.{Bool, false, not}
 use mathlib.Core.List.{List}
 use lib.Dec.{T}
 use lib.ListN.{length, getD}
-use Rattle.basics.specs.Lists.{within}
-use Rattle.layout.specs.Table.{mostBenches}
-use Rattle.arrays.specs.Arrays.{at, Reached}
-use Rattle.arrays.specs.Lists.{On}
+use Rattle.spec_lists.specs.Lists.{within}
+use Rattle.spec_table.specs.Table.{mostBenches}
+use Rattle.graph_lists.specs.Arrays.{at, Reached}
+use Rattle.graph_lists.specs.Lists.{On}
 
 -- whether bench y is marked
 abbrev pub mark : List Bool → ℕ → Bool

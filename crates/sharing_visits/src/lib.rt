@@ -3,13 +3,13 @@
 ghost use mathlib.Core.Path.{_≡_};
 ghost use Prim.Native.Nat.{_≤_};
 ghost use lib.Dec.{T};
-ghost use Rattle.basics.specs.Lists.{within};
-ghost use Rattle.layout.specs.Table.{mostBenches};
-ghost use Rattle.size.specs.Sizes.{Limits, BenchIn};
-ghost use Rattle.arrays.specs.Arrays.{at, LoadsIn};
-ghost use Rattle.arrays.specs.Lists.{Ways, Joins};
-ghost use Rattle.visits.specs.Marks.{Marks, OnChain, FromList, Brings};
-use size::Size;
+ghost use Rattle.spec_lists.specs.Lists.{within};
+ghost use Rattle.spec_table.specs.Table.{mostBenches};
+ghost use Rattle.table_size.specs.Sizes.{Limits, BenchIn};
+ghost use Rattle.graph_lists.specs.Arrays.{at, LoadsIn};
+ghost use Rattle.graph_lists.specs.Lists.{Ways, Joins};
+ghost use Rattle.sharing_visits.specs.Marks.{Marks, OnChain, FromList, Brings};
+use table_size::Size;
 
 // Bench x and what it brings in are marked.
 fn visit(

@@ -2,13 +2,13 @@
 use Prim.Native.Nat.{ℕ}
 use mathlib.Core.List.{List, [], _∷_, _++_, map}
 use lib.ListN.{replicate}
-use Rattle.basics.specs.Lists.{rising}
-use Rattle.layout.specs.Table.{bytesOf, lengthFor, decode}
-use Rattle.calls.specs.Answers.{Outcome, inNumbers}
-use Rattle.calls.specs.Calls.{Call, blanking, arrival, closing, levelling, loadOf, heaviestLoad, tightSetOf, formCheck}
-use Rattle.calls.specs.JobBook.{run, tableAfter}
-use Rattle.lines.specs.Counter.{counter}
-use Rattle.lines.specs.Text.{text}
+use Rattle.spec_lists.specs.Lists.{rising}
+use Rattle.spec_table.specs.Table.{bytesOf, lengthFor, decode}
+use Rattle.spec_calls.specs.Answers.{Outcome, inNumbers}
+use Rattle.spec_calls.specs.Calls.{Call, blanking, arrival, closing, levelling, loadOf, heaviestLoad, tightSetOf, formCheck}
+use Rattle.spec_calls.specs.JobBook.{run, tableAfter}
+use Rattle.spec_counter.specs.Counter.{counter}
+use Rattle.spec_counter.specs.Text.{text}
 
 -- bytes that are no blank table's: blanking must not look at them
 abbrev pub someBytes : ℕ → List ℕ

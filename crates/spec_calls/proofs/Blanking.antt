@@ -7,14 +7,14 @@ use mathlib.Core.List.{List, [], flatMap}
 use lib.Dec.{T}
 use lib.ListN.{length, replicate, length-replicate, replicate-append-replicate}
 use borrow.Author.Tests.{ne-eqb}
-use Rattle.basics.specs.Lists.{within, keep, empty}
-use Rattle.layout.specs.Board.{Board, Shares, namesFit}
-use Rattle.layout.specs.Table.{paired, mostBenches, mostJobs, sizesFit, firstHeld, entriesFrom, layoutOf, entryWords, flat, sound, decode, encode, blankTable, Storable}
-use Rattle.calls.specs.Answers.{Outcome, blanked, refused, sizes}
-use Rattle.calls.specs.Calls.{blanking}
-use Rattle.basics.proofs.Basics.{true→T, each-replicate, values-replicate}
-use Rattle.layout.proofs.Sound.{sized}
-use Rattle.layout.proofs.Encode.{encode-sound, decode-encode}
+use Rattle.spec_lists.specs.Lists.{within, keep, empty}
+use Rattle.spec_table.specs.Board.{Board, Shares, namesFit}
+use Rattle.spec_table.specs.Table.{paired, mostBenches, mostJobs, sizesFit, firstHeld, entriesFrom, layoutOf, entryWords, flat, sound, decode, encode, blankTable, Storable}
+use Rattle.spec_calls.specs.Answers.{Outcome, blanked, refused, sizes}
+use Rattle.spec_calls.specs.Calls.{blanking}
+use Rattle.spec_lists.proofs.Basics.{true→T, each-replicate, values-replicate}
+use Rattle.spec_table.proofs.Sound.{sized}
+use Rattle.spec_table.proofs.Encode.{encode-sound, decode-encode}
 
 -- a board without jobs
 abbrev pub emptyBoard : ℕ → ℕ → Board

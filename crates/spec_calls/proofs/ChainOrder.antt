@@ -6,13 +6,13 @@ use mathlib.Core.List.{List, _++_}
 use mathlib.Core.Option.{Option, none, some}
 use Prim.Native.Nat.{ℕ}
 use lib.Dec.{T}
-use Rattle.layout.specs.Board.{Board}
-use Rattle.layout.specs.Table.{fits, sound, decode}
-use Rattle.calls.specs.Answers.{Refusal, Answer, Condition, firstHolding, isRefused, settled}
-use Rattle.calls.specs.Calls.{Call, arrival, closing, levelling, loadOf, heaviestLoad, tightSetOf, formCheck, levelCheck, formConditions, conditions, lentList, accepted, outcome, tightSetOutcome}
-use Rattle.basics.proofs.Basics.{T→true}
-use Rattle.layout.proofs.Sound.{sound-fits}
-use Rattle.calls.proofs.Refusals.{isQuestion, accepted-by}
+use Rattle.spec_table.specs.Board.{Board}
+use Rattle.spec_table.specs.Table.{fits, sound, decode}
+use Rattle.spec_calls.specs.Answers.{Refusal, Answer, Condition, firstHolding, isRefused, settled}
+use Rattle.spec_calls.specs.Calls.{Call, arrival, closing, levelling, loadOf, heaviestLoad, tightSetOf, formCheck, levelCheck, formConditions, conditions, lentList, accepted, outcome, tightSetOutcome}
+use Rattle.spec_lists.proofs.Basics.{T→true}
+use Rattle.spec_table.proofs.Sound.{sound-fits}
+use Rattle.spec_calls.proofs.Refusals.{isQuestion, accepted-by}
 
 -- on a sound table refusals 1 and 2 do not apply
 pub form-passes : (t : List ℕ) → T (sound t) → (cs : List Condition) → firstHolding (formConditions t ++ cs) ≡ firstHolding cs

@@ -6,24 +6,24 @@ use mathlib.Core.Bool.{Bool, true, not, false≢true}
 use mathlib.Core.List.{List, [], _∷_}
 use lib.Dec.{T}
 use lib.ListN.{length, getD, replicate}
-use Rattle.layout.specs.Board.{Board, Valid, holderOf, stands, Shares, excess}
-use Rattle.basics.specs.Lists.{empty}
-use Rattle.layout.specs.Table.{sizesFit, lengthFor, sound, decode}
-use Rattle.rules.specs.Sharing.{arrive, close, level, Levelled, relevel}
-use Rattle.calls.specs.Answers.{Answer, Outcome, isRefused}
-use Rattle.calls.specs.Calls.{Call, arrival, closing, levelling, loadOf, heaviestLoad, tightSetOf, formCheck, levelCheck, blanking, outcome, arrivalOutcome, closingOutcome, levellingOutcome}
-use Rattle.rules.specs.Demand2.{Demand2}
-use Rattle.calls.specs.JobBook.{Book, entered, tableAfter, OneLoad, Runs, AsDefined, Start, fromBlank, fromLevel, Claim, Demand3}
-use Rattle.basics.proofs.Basics.{true→T}
-use Rattle.rules.proofs.Paths.{jobless-level}
-use Rattle.layout.proofs.Sound.{sized, sound-storable}
-use Rattle.calls.proofs.Blanking.{emptyBoard, storable-empty, blank-sound, blank-decodes}
-use Rattle.calls.proofs.Refusals.{isQuestion}
-use Rattle.calls.proofs.JobBook.{refused-enters, question-enters}
-use Rattle.rules.proofs.Levels.{level-least, level-demand2}
-use Rattle.rules.proofs.KeepsLevel.{arrival-keeps-level, closing-keeps-level}
-use Rattle.rules.proofs.Levelling.{level-rests}
-use Rattle.calls.proofs.Outcomes.{Written, Arrives, Closes, Relevelled, Left, by-call}
+use Rattle.spec_table.specs.Board.{Board, Valid, holderOf, stands, Shares, excess}
+use Rattle.spec_lists.specs.Lists.{empty}
+use Rattle.spec_table.specs.Table.{sizesFit, lengthFor, sound, decode}
+use Rattle.spec_sharing.specs.Sharing.{arrive, close, level, Levelled, relevel}
+use Rattle.spec_calls.specs.Answers.{Answer, Outcome, isRefused}
+use Rattle.spec_calls.specs.Calls.{Call, arrival, closing, levelling, loadOf, heaviestLoad, tightSetOf, formCheck, levelCheck, blanking, outcome, arrivalOutcome, closingOutcome, levellingOutcome}
+use Rattle.spec_sharing.specs.Demand2.{Demand2}
+use Rattle.spec_calls.specs.JobBook.{Book, entered, tableAfter, OneLoad, Runs, AsDefined, Start, fromBlank, fromLevel, Claim, Demand3}
+use Rattle.spec_lists.proofs.Basics.{true→T}
+use Rattle.spec_sharing.proofs.Paths.{jobless-level}
+use Rattle.spec_table.proofs.Sound.{sized, sound-storable}
+use Rattle.spec_calls.proofs.Blanking.{emptyBoard, storable-empty, blank-sound, blank-decodes}
+use Rattle.spec_calls.proofs.Refusals.{isQuestion}
+use Rattle.spec_calls.proofs.JobBook.{refused-enters, question-enters}
+use Rattle.spec_sharing.proofs.Levels.{level-least, level-demand2}
+use Rattle.spec_sharing.proofs.KeepsLevel.{arrival-keeps-level, closing-keeps-level}
+use Rattle.spec_sharing.proofs.Levelling.{level-rests}
+use Rattle.spec_calls.proofs.Outcomes.{Written, Arrives, Closes, Relevelled, Left, by-call}
 
 -- what a call leaves of a sound level table: such a table again, its jobs as the book has them, one load changed as the answer says
 record Carried (c : Call) (t : List ℕ) (o : Outcome) : Type 0 where

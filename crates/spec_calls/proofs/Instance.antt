@@ -4,15 +4,15 @@ use Prim.Native.Nat.{ℕ}
 use mathlib.Core.Path.{_≡_, refl}
 use mathlib.Core.List.{List, [], _∷_, map, flatMap}
 use lib.ListN.{replicate}
-use Rattle.layout.specs.Board.{heaviest}
-use Rattle.rules.specs.Paths.{steps, pathsFrom, improves, improvingFrom, improving, improvingTo, flip}
-use Rattle.rules.specs.Sharing.{arrivalChoice, closingChoice, levellingChoice, arrive, close, level, widen, tightSet}
-use Rattle.layout.specs.Table.{sizesFit, layout, fits, formed, sound, boardOf, decode, flat, layoutOf, encode, blankTable, bytesOf}
-use Rattle.calls.specs.Answers.{inNumbers}
-use Rattle.calls.specs.Calls.{Call, arrival, closing, levelling, loadOf, heaviestLoad, tightSetOf, formCheck, levelCheck, conditions, arrivalOutcome, closingOutcome, levellingOutcome, tightSetOutcome, accepted, outcome}
-use Rattle.calls.specs.Tally.{Tally, zeroTally, noted, tallyAfter, NoNine}
-use Rattle.calls.specs.JobBook.{Book, bookAfter, refusedEach, run, Runs, AsDefined, Start, fromBlank, fromLevel, Claim}
-use Rattle.calls.proofs.Demand3.{demand-3}
+use Rattle.spec_table.specs.Board.{heaviest}
+use Rattle.spec_sharing.specs.Paths.{steps, pathsFrom, improves, improvingFrom, improving, improvingTo, flip}
+use Rattle.spec_sharing.specs.Sharing.{arrivalChoice, closingChoice, levellingChoice, arrive, close, level, widen, tightSet}
+use Rattle.spec_table.specs.Table.{sizesFit, layout, fits, formed, sound, boardOf, decode, flat, layoutOf, encode, blankTable, bytesOf}
+use Rattle.spec_calls.specs.Answers.{inNumbers}
+use Rattle.spec_calls.specs.Calls.{Call, arrival, closing, levelling, loadOf, heaviestLoad, tightSetOf, formCheck, levelCheck, conditions, arrivalOutcome, closingOutcome, levellingOutcome, tightSetOutcome, accepted, outcome}
+use Rattle.spec_calls.specs.Tally.{Tally, zeroTally, noted, tallyAfter, NoNine}
+use Rattle.spec_calls.specs.JobBook.{Book, bookAfter, refusedEach, run, Runs, AsDefined, Start, fromBlank, fromLevel, Claim}
+use Rattle.spec_calls.proofs.Demand3.{demand-3}
 
 -- the definition's own run of a list of calls is a run
 pub run-runs : (t : List ℕ) (cs : List Call) → Runs AsDefined t cs (run t cs)

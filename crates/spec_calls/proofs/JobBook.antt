@@ -6,11 +6,11 @@ use mathlib.Core.Bool.{Bool, true, false}
 use mathlib.Core.List.{List, [], _∷_}
 use lib.Dec.{T}
 use lib.ListN.{length}
-use Rattle.basics.specs.Lists.{nth}
-use Rattle.calls.specs.Calls.{Call, arrival, closing, levelling, loadOf, heaviestLoad, tightSetOf, formCheck, levelCheck}
-use Rattle.calls.specs.JobBook.{Book, entered}
-use Rattle.basics.proofs.Basics.{nth-change-same, nth-change-other}
-use Rattle.calls.proofs.Refusals.{isQuestion}
+use Rattle.spec_lists.specs.Lists.{nth}
+use Rattle.spec_calls.specs.Calls.{Call, arrival, closing, levelling, loadOf, heaviestLoad, tightSetOf, formCheck, levelCheck}
+use Rattle.spec_calls.specs.JobBook.{Book, entered}
+use Rattle.spec_lists.proofs.Basics.{nth-change-same, nth-change-other}
+use Rattle.spec_calls.proofs.Refusals.{isQuestion}
 
 -- what a call does to the number j of the book: it holds these benches now, and no other number changes
 pub record Writes (before after : Book) (j : ℕ) (benches : List ℕ) : Type 0 where

@@ -8,24 +8,24 @@ use mathlib.Core.Option.{Option, none, some}
 use lib.Dec.{T, eqb}
 use lib.ListN.{length}
 use borrow.Author.Tests.{eqb-false}
-use Rattle.basics.specs.Lists.{within, Each}
-use Rattle.layout.specs.Board.{Board, stands, namesFit}
-use Rattle.layout.specs.Table.{paired, sound, decode, encode, Storable}
-use Rattle.rules.specs.Sharing.{Change, arrive, close, Levelled, relevel, level}
-use Rattle.calls.specs.Answers.{Refusal, Outcome, firstHolding, isRefused, settled, levelYes, levelNo, levelled, stopped}
-use Rattle.calls.specs.Calls.{Call, arrival, closing, levelling, loadOf, heaviestLoad, tightSetOf, formCheck, levelCheck, noBench, conditions, lentList, accepted, outcome, arrivalOutcome, closingOutcome, levellingOutcome, tightSetOutcome}
-use Rattle.rules.specs.Demand2.{OneMore}
-use Rattle.basics.proofs.Basics.{not-false, neither, false→not}
-use Rattle.layout.proofs.Named.{pair-fits, resized, changed-storable}
-use Rattle.calls.proofs.Refusals.{accepted-by, accepted-answers, isQuestion, question-leaves}
-use Rattle.calls.proofs.ChainOrder.{sound-outcome}
-use Rattle.calls.proofs.Tally.{isChange}
-use Rattle.layout.proofs.Sound.{sound-storable}
-use Rattle.layout.proofs.Encode.{encode-sound, decode-encode}
-use Rattle.rules.proofs.Changes.{Changed, arrival-does, closing-does}
-use Rattle.rules.proofs.Levelling.{Relevels, levelling-does, enough-allowance}
-use Rattle.calls.proofs.Stops.{levelling-says-level}
-use Rattle.rules.proofs.Paths.{level-exact}
+use Rattle.spec_lists.specs.Lists.{within, Each}
+use Rattle.spec_table.specs.Board.{Board, stands, namesFit}
+use Rattle.spec_table.specs.Table.{paired, sound, decode, encode, Storable}
+use Rattle.spec_sharing.specs.Sharing.{Change, arrive, close, Levelled, relevel, level}
+use Rattle.spec_calls.specs.Answers.{Refusal, Outcome, firstHolding, isRefused, settled, levelYes, levelNo, levelled, stopped}
+use Rattle.spec_calls.specs.Calls.{Call, arrival, closing, levelling, loadOf, heaviestLoad, tightSetOf, formCheck, levelCheck, noBench, conditions, lentList, accepted, outcome, arrivalOutcome, closingOutcome, levellingOutcome, tightSetOutcome}
+use Rattle.spec_sharing.specs.Demand2.{OneMore}
+use Rattle.spec_lists.proofs.Basics.{not-false, neither, false→not}
+use Rattle.spec_table.proofs.Named.{pair-fits, resized, changed-storable}
+use Rattle.spec_calls.proofs.Refusals.{accepted-by, accepted-answers, isQuestion, question-leaves}
+use Rattle.spec_calls.proofs.ChainOrder.{sound-outcome}
+use Rattle.spec_calls.proofs.Tally.{isChange}
+use Rattle.spec_table.proofs.Sound.{sound-storable}
+use Rattle.spec_table.proofs.Encode.{encode-sound, decode-encode}
+use Rattle.spec_sharing.proofs.Changes.{Changed, arrival-does, closing-does}
+use Rattle.spec_sharing.proofs.Levelling.{Relevels, levelling-does, enough-allowance}
+use Rattle.spec_calls.proofs.Stops.{levelling-says-level}
+use Rattle.spec_sharing.proofs.Paths.{level-exact}
 
 -- a table that a change writes: sound, and of that board
 pub record Written (u : List ℕ) (b : Board) : Type 0 where

@@ -9,21 +9,21 @@ use lib.Dec.{T, eqb, ltb, lt→ltb}
 use lib.ListN.{length, take, drop, length-drop, length-append}
 use lib.Seq.{take-at, drop-at}
 use borrow.Author.Tests.{eqb-false, ltb-false, ne-eqb, lt-ltb, le-ltb}
-use Rattle.basics.specs.Lists.{within, Each}
-use Rattle.layout.specs.Board.{load, heaviest, excess}
-use Rattle.layout.specs.Table.{mostBenches, words, bytesOf, fits, sound, decode}
-use Rattle.rules.specs.Paths.{BenchPath, IsPath, improves}
-use Rattle.rules.specs.Sharing.{level, tightSet, inside, density}
-use Rattle.calls.specs.Answers.{Refusal, firstHolding, isRefused, refuse, settled, refused, sizes, unsound, benchNumber, height, listTooShort, loadIs, heaviestIs, tightSetIs, isSound, levelYes, levelNo}
-use Rattle.calls.specs.Calls.{loadOf, heaviestLoad, tightSetOf, formCheck, levelCheck, conditions, answering, accepted, outcome, tightSetOutcome}
-use Rattle.basics.proofs.Basics.{or-left, or-right, eqb-T, within-high, in-each, neither, true→T, T→true, never→false}
-use Rattle.layout.proofs.Sound.{sound-storable}
-use Rattle.rules.proofs.Paths.{level-exact, unlevel-improves}
-use Rattle.rules.proofs.Levels.{level-demand2, tight-density}
-use Rattle.calls.proofs.Refusals.{accepted-by, refused-by}
-use Rattle.rules.proofs.TightSet.{tight-bench}
-use Rattle.layout.proofs.Words.{words-append, length-bytesOf}
-use Rattle.calls.proofs.ChainOrder.{sound-outcome}
+use Rattle.spec_lists.specs.Lists.{within, Each}
+use Rattle.spec_table.specs.Board.{load, heaviest, excess}
+use Rattle.spec_table.specs.Table.{mostBenches, words, bytesOf, fits, sound, decode}
+use Rattle.spec_sharing.specs.Paths.{BenchPath, IsPath, improves}
+use Rattle.spec_sharing.specs.Sharing.{level, tightSet, inside, density}
+use Rattle.spec_calls.specs.Answers.{Refusal, firstHolding, isRefused, refuse, settled, refused, sizes, unsound, benchNumber, height, listTooShort, loadIs, heaviestIs, tightSetIs, isSound, levelYes, levelNo}
+use Rattle.spec_calls.specs.Calls.{loadOf, heaviestLoad, tightSetOf, formCheck, levelCheck, conditions, answering, accepted, outcome, tightSetOutcome}
+use Rattle.spec_lists.proofs.Basics.{or-left, or-right, eqb-T, within-high, in-each, neither, true→T, T→true, never→false}
+use Rattle.spec_table.proofs.Sound.{sound-storable}
+use Rattle.spec_sharing.proofs.Paths.{level-exact, unlevel-improves}
+use Rattle.spec_sharing.proofs.Levels.{level-demand2, tight-density}
+use Rattle.spec_calls.proofs.Refusals.{accepted-by, refused-by}
+use Rattle.spec_sharing.proofs.TightSet.{tight-bench}
+use Rattle.spec_table.proofs.Words.{words-append, length-bytesOf}
+use Rattle.spec_calls.proofs.ChainOrder.{sound-outcome}
 
 -- "A refused call changes no lent byte": the lent list is as it was
 pub tight-refused-leaves : (t : List ℕ) (h : ℕ) (list : List ℕ) (r : Refusal) → (outcome (tightSetOf h list) t) .answer ≡ refused r → (outcome (tightSetOf h list) t) .list ≡ list

@@ -7,12 +7,12 @@ use mathlib.Core.Bool.{Bool, true, false, cond, _&&_, false≢true}
 use mathlib.Core.List.{List, [], _∷_, _++_, map}
 use mathlib.Core.Option.{Option, none, some, Option·some-injective, Option·none-ne-some, Option·some-ne-none}
 use lib.Dec.{T, ltb}
-use Rattle.basics.specs.Lists.{rising, Each}
-use Rattle.layout.specs.Table.{decode}
-use Rattle.rules.specs.Sharing.{level, relevel}
-use Rattle.layout.specs.Board.{Board}
-use Rattle.calls.specs.Answers.{Refusal, Condition, refusalNumber, inNumbers, firstHolding, isRefused, settled, refused, levelYes, levelNo, levelled, stopped, sizes, unsound, jobNumber, benchNumber, alreadyStanding, notStanding, height, listTooShort, countFull, unreadable}
-use Rattle.calls.specs.Calls.{Call, arrival, closing, levelling, loadOf, heaviestLoad, tightSetOf, formCheck, levelCheck, formConditions, conditions, lentList, accepted, outcome, arrivalOutcome, closingOutcome, levellingOutcome, tightSetOutcome}
+use Rattle.spec_lists.specs.Lists.{rising, Each}
+use Rattle.spec_table.specs.Table.{decode}
+use Rattle.spec_sharing.specs.Sharing.{level, relevel}
+use Rattle.spec_table.specs.Board.{Board}
+use Rattle.spec_calls.specs.Answers.{Refusal, Condition, refusalNumber, inNumbers, firstHolding, isRefused, settled, refused, levelYes, levelNo, levelled, stopped, sizes, unsound, jobNumber, benchNumber, alreadyStanding, notStanding, height, listTooShort, countFull, unreadable}
+use Rattle.spec_calls.specs.Calls.{Call, arrival, closing, levelling, loadOf, heaviestLoad, tightSetOf, formCheck, levelCheck, formConditions, conditions, lentList, accepted, outcome, arrivalOutcome, closingOutcome, levellingOutcome, tightSetOutcome}
 
 -- "returned": 1 to 10, in the table's order
 pub refusals-told : map refusalNumber (sizes ∷ unsound ∷ jobNumber ∷ benchNumber ∷ alreadyStanding ∷ notStanding ∷ height ∷ listTooShort ∷ countFull ∷ unreadable ∷ []) ≡ rising 1 10

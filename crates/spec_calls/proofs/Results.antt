@@ -6,16 +6,16 @@ use mathlib.Core.Path.{_≡_, sym, ap, subst, _∙_}
 use mathlib.Core.List.{List, [], _∷_}
 use lib.Dec.{T, T-not}
 use lib.ListN.{length}
-use Rattle.layout.specs.Board.{Board, holderOf}
-use Rattle.layout.specs.Table.{sound, decode}
-use Rattle.rules.specs.Paths.{BenchPath, IsPath, improves}
-use Rattle.rules.specs.Sharing.{arrive, close, relevel, level}
-use Rattle.calls.specs.Answers.{isRefused, arrived, closed, levelled, stopped}
-use Rattle.calls.specs.Calls.{arrival, closing, levelling, outcome, arrivalOutcome, closingOutcome, levellingOutcome}
-use Rattle.rules.specs.Demand2.{OneMore, ArrivalReport, ClosingReport, LevellingReport}
-use Rattle.rules.proofs.Paths.{level-exact, unlevel-improves}
-use Rattle.calls.proofs.Stops.{says-level, says-stopped}
-use Rattle.calls.proofs.Outcomes.{arrival-accepted, closing-accepted, levelling-accepted}
+use Rattle.spec_table.specs.Board.{Board, holderOf}
+use Rattle.spec_table.specs.Table.{sound, decode}
+use Rattle.spec_sharing.specs.Paths.{BenchPath, IsPath, improves}
+use Rattle.spec_sharing.specs.Sharing.{arrive, close, relevel, level}
+use Rattle.spec_calls.specs.Answers.{isRefused, arrived, closed, levelled, stopped}
+use Rattle.spec_calls.specs.Calls.{arrival, closing, levelling, outcome, arrivalOutcome, closingOutcome, levellingOutcome}
+use Rattle.spec_sharing.specs.Demand2.{OneMore, ArrivalReport, ClosingReport, LevellingReport}
+use Rattle.spec_sharing.proofs.Paths.{level-exact, unlevel-improves}
+use Rattle.spec_calls.proofs.Stops.{says-level, says-stopped}
+use Rattle.spec_calls.proofs.Outcomes.{arrival-accepted, closing-accepted, levelling-accepted}
 
 module _ (t : List ℕ) (s : T (sound t)) where
   -- an arrival's answer

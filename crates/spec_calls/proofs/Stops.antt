@@ -4,13 +4,13 @@ use mathlib.Core.Path.{_≡_, refl, ap}
 use mathlib.Core.Logic.{_↔_}
 use mathlib.Core.Bool.{Bool, true, false, cond, not}
 use lib.Dec.{T, not-T}
-use Rattle.layout.specs.Board.{Valid}
-use Rattle.basics.proofs.Basics.{true→T}
-use Rattle.calls.specs.Answers.{levelled, stopped}
-use Rattle.calls.specs.Calls.{levellingOutcome}
-use Rattle.rules.specs.Sharing.{Levelled, level}
-use Rattle.rules.specs.Paths.{BenchPath, improves, IsPath}
-use Rattle.rules.proofs.Paths.{level-exact, unlevel-improves}
+use Rattle.spec_table.specs.Board.{Valid}
+use Rattle.spec_lists.proofs.Basics.{true→T}
+use Rattle.spec_calls.specs.Answers.{levelled, stopped}
+use Rattle.spec_calls.specs.Calls.{levellingOutcome}
+use Rattle.spec_sharing.specs.Sharing.{Levelled, level}
+use Rattle.spec_sharing.specs.Paths.{BenchPath, improves, IsPath}
+use Rattle.spec_sharing.proofs.Paths.{level-exact, unlevel-improves}
 
 -- what an answer says of the test and the count behind it
 pub says-level : (n m : ℕ) (z : Bool) → (cond z (levelled n) (stopped n) ≡ levelled m) ↔ (T z × (n ≡ m))

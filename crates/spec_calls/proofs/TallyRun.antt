@@ -8,21 +8,21 @@ use mathlib.Core.List.{List, [], _∷_}
 use mathlib.Core.Option.{none}
 use lib.Dec.{T}
 use lib.ListN.{length}
-use Rattle.basics.specs.Lists.{bit, within, keep, empty, change}
-use Rattle.layout.specs.Board.{Board, stands, standing}
-use Rattle.layout.specs.Table.{sizesFit, lengthFor, sound, decode, blankTable}
-use Rattle.rules.specs.Sharing.{arrive, close, relevel}
-use Rattle.calls.specs.Answers.{Answer, Outcome}
-use Rattle.calls.specs.Calls.{Call, arrival, closing, levelling, outcome, arrivalOutcome, closingOutcome, levellingOutcome}
-use Rattle.calls.specs.JobBook.{tableAfter, Runs, AsDefined}
-use Rattle.calls.specs.Tally.{Tally, Noted, zeroTally, noted, tallyAfter, NoNine}
-use Rattle.basics.proofs.Basics.{true→T, T→true, not→false, within-low, within-high}
-use Rattle.basics.proofs.Counting.{keep-change}
-use Rattle.layout.proofs.Sound.{sized}
-use Rattle.calls.proofs.Blanking.{standing-empty, blank-sound, blank-decodes}
-use Rattle.rules.proofs.Paths.{stands-within}
-use Rattle.calls.proofs.Outcomes.{Written, Arrives, Closes, levelling-quiet, by-call}
-use Rattle.calls.proofs.Tally.{isChange, raised-new, other-noted}
+use Rattle.spec_lists.specs.Lists.{bit, within, keep, empty, change}
+use Rattle.spec_table.specs.Board.{Board, stands, standing}
+use Rattle.spec_table.specs.Table.{sizesFit, lengthFor, sound, decode, blankTable}
+use Rattle.spec_sharing.specs.Sharing.{arrive, close, relevel}
+use Rattle.spec_calls.specs.Answers.{Answer, Outcome}
+use Rattle.spec_calls.specs.Calls.{Call, arrival, closing, levelling, outcome, arrivalOutcome, closingOutcome, levellingOutcome}
+use Rattle.spec_calls.specs.JobBook.{tableAfter, Runs, AsDefined}
+use Rattle.spec_calls.specs.Tally.{Tally, Noted, zeroTally, noted, tallyAfter, NoNine}
+use Rattle.spec_lists.proofs.Basics.{true→T, T→true, not→false, within-low, within-high}
+use Rattle.spec_lists.proofs.Counting.{keep-change}
+use Rattle.spec_table.proofs.Sound.{sized}
+use Rattle.spec_calls.proofs.Blanking.{standing-empty, blank-sound, blank-decodes}
+use Rattle.spec_sharing.proofs.Paths.{stands-within}
+use Rattle.spec_calls.proofs.Outcomes.{Written, Arrives, Closes, levelling-quiet, by-call}
+use Rattle.spec_calls.proofs.Tally.{isChange, raised-new, other-noted}
 
 -- arrivals are closings and the jobs standing together
 abbrev pub Balanced : Tally → Board → Type 0

@@ -5,11 +5,11 @@ use mathlib.Core.Bool.{Bool, cond, not, _||_}
 use mathlib.Core.List.{List, [], _∷_, _++_}
 use lib.Dec.{eqb, ltb}
 use lib.ListN.{length, drop}
-use Rattle.basics.specs.Lists.{within}
-use Rattle.layout.specs.Board.{Board, holderOf, stands, load, heaviest}
-use Rattle.layout.specs.Table.{bytesOf, sizesFit, fits, sound, decode, encode, blankTable}
-use Rattle.rules.specs.Sharing.{Change, arrive, close, level, Levelled, relevel, tightSet, inside}
-use Rattle.calls.specs.Answers.{Answer, Outcome, Condition, refuse, unless, sizes, unsound, jobNumber, benchNumber, alreadyStanding, notStanding, height, listTooShort, blanked, arrived, closed, loadIs, heaviestIs, tightSetIs, isSound, levelYes, levelNo, levelled, stopped}
+use Rattle.spec_lists.specs.Lists.{within}
+use Rattle.spec_table.specs.Board.{Board, holderOf, stands, load, heaviest}
+use Rattle.spec_table.specs.Table.{bytesOf, sizesFit, fits, sound, decode, encode, blankTable}
+use Rattle.spec_sharing.specs.Sharing.{Change, arrive, close, level, Levelled, relevel, tightSet, inside}
+use Rattle.spec_calls.specs.Answers.{Answer, Outcome, Condition, refuse, unless, sizes, unsound, jobNumber, benchNumber, alreadyStanding, notStanding, height, listTooShort, blanked, arrived, closed, loadIs, heaviestIs, tightSetIs, isSound, levelYes, levelNo, levelled, stopped}
 
 -- a call on a table: its numbers, and for a tight set the bytes of the lent list
 pub data Call : Type 0 where

@@ -4,13 +4,13 @@ use mathlib.Core.Path.{_≡_}
 use mathlib.Core.Bool.{Bool, true, false}
 use mathlib.Core.List.{List, [], _∷_, map}
 use lib.ListN.{replicate}
-use Rattle.basics.specs.Lists.{change}
-use Rattle.layout.specs.Board.{Board, excess, Shares}
-use Rattle.layout.specs.Table.{lengthFor, sizesFit, sound, decode, blankTable}
-use Rattle.rules.specs.Sharing.{level}
-use Rattle.rules.specs.Demand2.{OneMore}
-use Rattle.calls.specs.Answers.{Answer, Outcome, isRefused, arrived, closed}
-use Rattle.calls.specs.Calls.{Call, outcome, arrival, closing, levelling, loadOf, heaviestLoad, tightSetOf, formCheck, levelCheck}
+use Rattle.spec_lists.specs.Lists.{change}
+use Rattle.spec_table.specs.Board.{Board, excess, Shares}
+use Rattle.spec_table.specs.Table.{lengthFor, sizesFit, sound, decode, blankTable}
+use Rattle.spec_sharing.specs.Sharing.{level}
+use Rattle.spec_sharing.specs.Demand2.{OneMore}
+use Rattle.spec_calls.specs.Answers.{Answer, Outcome, isRefused, arrived, closed}
+use Rattle.spec_calls.specs.Calls.{Call, outcome, arrival, closing, levelling, loadOf, heaviestLoad, tightSetOf, formCheck, levelCheck}
 
 -- "For each job number it has nothing, or the benches the job names, in their order"
 abbrev pub Book : Type 0

@@ -5,7 +5,7 @@ use mathlib.Core.List.{List, [], _∷_}
 use mathlib.Core.Option.{Option, none, some}
 use mathlib.Core.Path.{_≡_}
 use lib.Dec.{leb}
-use Rattle.calls.specs.Answers.{Refusal, Answer, Outcome, countFull, refused, blanked, arrived, closed, loadIs, heaviestIs, tightSetIs, isSound, levelYes, levelNo, levelled, stopped}
+use Rattle.spec_calls.specs.Answers.{Refusal, Answer, Outcome, countFull, refused, blanked, arrived, closed, loadIs, heaviestIs, tightSetIs, isSound, levelYes, levelNo, levelled, stopped}
 
 -- "Three 32-bit counts: arrivals, closings, jobs moved"
 pub record Tally : Type 0 where

@@ -12,11 +12,11 @@ use mathlib.Core.Option.{Option, none, some, Option·some-injective, Option·non
 use lib.Dec.{T, eqb, leb}
 use lib.ListN.{length, getD, length-append}
 use borrow.Author.Tests.{lt-ltb, le-ltb, le-leb, ne-eqb}
-use Rattle.basics.specs.Lists.{all, empty, Each}
-use Rattle.layout.specs.Table.{mostBenches}
-use Rattle.lines.specs.Counter.{Counter, Command, setTable, takeIn, closeJob, askTightSet, askHeaviest, space, onto, pieces, digit, digits, value, number, numbers, joined, commandFor, fieldsCommand, command, letterOf, printed, prints, counterList}
-use Rattle.lines.specs.Text.{text}
-use Rattle.basics.proofs.Basics.{true→T, T→true, both, left, right, or-right, T-leb, Compared, same, other, compared, within-low, within-high, within-both, differ, each-map}
+use Rattle.spec_lists.specs.Lists.{all, empty, Each}
+use Rattle.spec_table.specs.Table.{mostBenches}
+use Rattle.spec_counter.specs.Counter.{Counter, Command, setTable, takeIn, closeJob, askTightSet, askHeaviest, space, onto, pieces, digit, digits, value, number, numbers, joined, commandFor, fieldsCommand, command, letterOf, printed, prints, counterList}
+use Rattle.spec_counter.specs.Text.{text}
+use Rattle.spec_lists.proofs.Basics.{true→T, T→true, both, left, right, or-right, T-leb, Compared, same, other, compared, within-low, within-high, within-both, differ, each-map}
 
 -- what has no value is none
 is-none : {A : Type 0} (o : Option A) → ((a : A) → o ≡ some a → ⊥) → o ≡ none

@@ -8,21 +8,21 @@ use mathlib.Core.List.{List, [], _∷_, _++_, flatMap}
 use mathlib.Core.Option.{none}
 use lib.Dec.{T}
 use lib.ListN.{length, replicate, length-take, length-replicate}
-use Rattle.layout.specs.Board.{heaviest, standing}
-use Rattle.layout.specs.Table.{mostBenches, mostJobs, sizesFit, lengthFor, layout, fits, formed, sound, boardOf, decode, layoutOf, flat, encode, blankTable}
-use Rattle.rules.specs.Paths.{steps, pathsFrom, improves, improvingFrom, improving, improvingTo, flip}
-use Rattle.rules.specs.Sharing.{arrivalChoice, closingChoice, levellingChoice, arrive, close, level, widen, tightSet}
-use Rattle.calls.specs.Answers.{Outcome, isRefused, tightSetIs}
-use Rattle.calls.specs.Calls.{arrival, closing, heaviestLoad, tightSetOf, conditions, arrivalOutcome, closingOutcome, levellingOutcome, tightSetOutcome, accepted, outcome, blanking}
-use Rattle.calls.specs.Tally.{zeroTally, noted}
-use Rattle.lines.specs.Counter.{Counter, Command, setTable, takeIn, closeJob, askTightSet, askHeaviest, number, commandFor, command, printed, lineFor, done, after, prints, counter, atFirst, room, counterList}
-use Rattle.lines.specs.Text.{text}
-use Rattle.basics.proofs.Basics.{true→T, within-high}
-use Rattle.layout.proofs.Sound.{sized}
-use Rattle.calls.proofs.Blanking.{standing-empty, blank-sound, blank-decodes}
-use Rattle.calls.proofs.ChainOrder.{sound-outcome}
-use Rattle.calls.proofs.Questions.{tight-list}
-use Rattle.calls.proofs.TallyRun.{Balanced, keeps}
+use Rattle.spec_table.specs.Board.{heaviest, standing}
+use Rattle.spec_table.specs.Table.{mostBenches, mostJobs, sizesFit, lengthFor, layout, fits, formed, sound, boardOf, decode, layoutOf, flat, encode, blankTable}
+use Rattle.spec_sharing.specs.Paths.{steps, pathsFrom, improves, improvingFrom, improving, improvingTo, flip}
+use Rattle.spec_sharing.specs.Sharing.{arrivalChoice, closingChoice, levellingChoice, arrive, close, level, widen, tightSet}
+use Rattle.spec_calls.specs.Answers.{Outcome, isRefused, tightSetIs}
+use Rattle.spec_calls.specs.Calls.{arrival, closing, heaviestLoad, tightSetOf, conditions, arrivalOutcome, closingOutcome, levellingOutcome, tightSetOutcome, accepted, outcome, blanking}
+use Rattle.spec_calls.specs.Tally.{zeroTally, noted}
+use Rattle.spec_counter.specs.Counter.{Counter, Command, setTable, takeIn, closeJob, askTightSet, askHeaviest, number, commandFor, command, printed, lineFor, done, after, prints, counter, atFirst, room, counterList}
+use Rattle.spec_counter.specs.Text.{text}
+use Rattle.spec_lists.proofs.Basics.{true→T, within-high}
+use Rattle.spec_table.proofs.Sound.{sized}
+use Rattle.spec_calls.proofs.Blanking.{standing-empty, blank-sound, blank-decodes}
+use Rattle.spec_calls.proofs.ChainOrder.{sound-outcome}
+use Rattle.spec_calls.proofs.Questions.{tight-list}
+use Rattle.spec_calls.proofs.TallyRun.{Balanced, keeps}
 
 -- "Before the first B its table has length 0"
 pub first-table : length (atFirst .table) ≡ 0

@@ -8,10 +8,10 @@ use mathlib.Core.List.{List, [], _∷_, _++_, append-assoc, append-nil, flatMap}
 use mathlib.Core.Option.{Option, none, some}
 use lib.Dec.{eqb}
 use lib.ListN.{length, length-append}
-use Rattle.lines.specs.Counter.{Counter, Command, lineFeed, pieces, onto, command, lineFor, done, after, unreadableLine, prints, counter}
-use Rattle.lines.specs.Stream.{lineText, lineAfter, Place, beginning, Unended, still, Goes, Run, ended, then, atEnd}
-use Rattle.lines.proofs.Counter.{before-piece, long-unreadable}
-use Rattle.lines.proofs.CounterRun.{unreadable-line}
+use Rattle.spec_counter.specs.Counter.{Counter, Command, lineFeed, pieces, onto, command, lineFor, done, after, unreadableLine, prints, counter}
+use Rattle.spec_counter.specs.Stream.{lineText, lineAfter, Place, beginning, Unended, still, Goes, Run, ended, then, atEnd}
+use Rattle.spec_counter.proofs.Counter.{before-piece, long-unreadable}
+use Rattle.spec_counter.proofs.CounterRun.{unreadable-line}
 
 -- a list has a first piece
 first-piece : (sep : ℕ) (l : List ℕ) → (g : List ℕ) × (gs : List (List ℕ)) × (pieces sep l ≡ g ∷ gs)

@@ -6,11 +6,11 @@ use mathlib.Core.List.{List, [], _∷_, _++_, flatMap}
 use mathlib.Core.Option.{Option, none, some}
 use lib.Dec.{eqb, leb, ltb}
 use lib.ListN.{length, take, drop, replicate}
-use Rattle.basics.specs.Lists.{within, all, empty, nth}
-use Rattle.layout.specs.Table.{words, lengthFor, mostBenches, mostJobs}
-use Rattle.calls.specs.Answers.{Outcome, inNumbers, isRefused, refused, unreadable}
-use Rattle.calls.specs.Calls.{outcome, blanking, arrival, closing, heaviestLoad, tightSetOf}
-use Rattle.calls.specs.Tally.{Tally, zeroTally, noted}
+use Rattle.spec_lists.specs.Lists.{within, all, empty, nth}
+use Rattle.spec_table.specs.Table.{words, lengthFor, mostBenches, mostJobs}
+use Rattle.spec_calls.specs.Answers.{Outcome, inNumbers, isRefused, refused, unreadable}
+use Rattle.spec_calls.specs.Calls.{outcome, blanking, arrival, closing, heaviestLoad, tightSetOf}
+use Rattle.spec_calls.specs.Tally.{Tally, zeroTally, noted}
 
 -- the byte that ends a line
 abbrev pub lineFeed : ℕ

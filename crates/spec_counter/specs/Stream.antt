@@ -5,8 +5,8 @@ use mathlib.Core.Logic.{_≢_}
 use mathlib.Core.Bool.{cond}
 use mathlib.Core.List.{List, [], _∷_, _++_}
 use mathlib.Core.Option.{none, some}
-use Rattle.basics.specs.Lists.{Each, empty}
-use Rattle.lines.specs.Counter.{Counter, lineFeed, pieces, command, lineFor, done, after, unreadableLine, prints, atFirst}
+use Rattle.spec_lists.specs.Lists.{Each, empty}
+use Rattle.spec_counter.specs.Counter.{Counter, lineFeed, pieces, command, lineFor, done, after, unreadableLine, prints, atFirst}
 
 -- what is printed for a line
 unfoldable pub lineText : Counter → List ℕ → List ℕ

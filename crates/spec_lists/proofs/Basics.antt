@@ -9,7 +9,7 @@ use lib.Dec.{T, T-not, not-T, eqb, leb}
 use lib.ListN.{length, getD, set, replicate, length-set, length-map, List·getD-map}
 use lib.Seq.{getD-set-same, getD-set-other, set-set, set-getD, ext-getD}
 use borrow.Author.Tests.{eqb-true, eqb-false, eq-eqb, leb-true, le-leb}
-use Rattle.basics.specs.Lists.{within, member, different, rising, keep, all, Each, In, empty, nth, change, numbered}
+use Rattle.spec_lists.specs.Lists.{within, member, different, rising, keep, all, Each, In, empty, nth, change, numbered}
 
 -- tests
 

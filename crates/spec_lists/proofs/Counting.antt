@@ -10,8 +10,8 @@ use mathlib.Core.List.{List, [], _∷_, _++_}
 use lib.Dec.{T, eqb}
 use lib.ListN.{length, getD, set}
 use borrow.Author.Tests.{eq-eqb, ne-eqb}
-use Rattle.basics.specs.Lists.{bit, within, count, member, different, total, greatest, keep, Each, In, nth, change}
-use Rattle.basics.proofs.Basics.{Compared, same, other, compared, within-low, within-high, in-each, member-in, in-member, different-head, different-tail}
+use Rattle.spec_lists.specs.Lists.{bit, within, count, member, different, total, greatest, keep, Each, In, nth, change}
+use Rattle.spec_lists.proofs.Basics.{Compared, same, other, compared, within-low, within-high, in-each, member-in, in-member, different-head, different-tail}
 
 -- bits
 

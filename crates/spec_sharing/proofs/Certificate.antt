@@ -8,16 +8,16 @@ use mathlib.Core.Bool.{Bool, true, false}
 use mathlib.Core.List.{List, [], _∷_}
 use lib.Dec.{T}
 use lib.ListN.{length, getD}
-use Rattle.basics.specs.Lists.{bit, within, member, different, total, greatest, all, Each, In}
-use Rattle.layout.specs.Board.{Board, Valid, load, excess, Shares, namesFit}
-use Rattle.rules.specs.Paths.{Step, stepBy, steps}
-use Rattle.rules.specs.Sharing.{inside, density}
-use Rattle.basics.proofs.Basics.{true→T, Compared, same, other, compared, T-eqb, within-low, within-high, within-both, all-in, in-each, member-in, Member, is-in, not-in, membered}
-use Rattle.layout.proofs.Named.{length-shares, fit-bench}
-use Rattle.basics.proofs.Counting.{bit-same, bit-other, total-add, total-times, total-same, total-le, total-but-one, size, size-le, size-once, greatest-above}
-use Rattle.rules.proofs.Paths.{is-step}
-use Rattle.rules.proofs.Sets.{density-least, inside-skips, inside-counts}
-use Rattle.layout.proofs.Loads.{excess-none}
+use Rattle.spec_lists.specs.Lists.{bit, within, member, different, total, greatest, all, Each, In}
+use Rattle.spec_table.specs.Board.{Board, Valid, load, excess, Shares, namesFit}
+use Rattle.spec_sharing.specs.Paths.{Step, stepBy, steps}
+use Rattle.spec_sharing.specs.Sharing.{inside, density}
+use Rattle.spec_lists.proofs.Basics.{true→T, Compared, same, other, compared, T-eqb, within-low, within-high, within-both, all-in, in-each, member-in, Member, is-in, not-in, membered}
+use Rattle.spec_table.proofs.Named.{length-shares, fit-bench}
+use Rattle.spec_lists.proofs.Counting.{bit-same, bit-other, total-add, total-times, total-same, total-le, total-but-one, size, size-le, size-once, greatest-above}
+use Rattle.spec_sharing.proofs.Paths.{is-step}
+use Rattle.spec_sharing.proofs.Sets.{density-least, inside-skips, inside-counts}
+use Rattle.spec_table.proofs.Loads.{excess-none}
 
 -- the load of a bench of the set, 0 for other benches
 abbrev loadIn : List ℕ → List ℕ → ℕ → ℕ

@@ -9,20 +9,20 @@ use mathlib.Core.Option.{Option, none, some}
 use lib.Dec.{T, eqb}
 use borrow.Author.Tests.{lt-ltb, le-ltb}
 use lib.ListN.{length}
-use Rattle.basics.specs.Lists.{within, different, keep, In, empty, nth, change}
-use Rattle.layout.specs.Board.{load, Board, Valid, namesOf, holderOf, stands, put, namesFit}
-use Rattle.rules.specs.Paths.{BenchPath, last, jobs, IsPath, flip}
-use Rattle.rules.specs.Sharing.{Change, getter, arrivalChoice, closingChoice, afterArrival, afterClosing, arrive, close}
-use Rattle.rules.specs.Demand2.{OneMore, handed}
-use Rattle.basics.proofs.Basics.{both, left, right, differ, within-low, within-high, within-both, not-empty, is-empty, nth-change-same, nth-change-other, Member, is-in, not-in, membered, keep-different, others-in}
-use Rattle.layout.proofs.Named.{length-shares, fit-bench}
-use Rattle.basics.proofs.Counting.{total-tested}
-use Rattle.rules.proofs.Paths.{stands-within, named-may, holder-bench, holder-none, improvingFrom-only, improvingTo-only}
-use Rattle.rules.proofs.Choice.{arrival-choice, closing-choice}
-use Rattle.rules.proofs.Sets.{getter-in}
-use Rattle.rules.proofs.Walks.{path-reach, reach-bench}
-use Rattle.rules.proofs.Flip.{put-valid, path-stands, path-jobs, flip-loads, flip-valid, flip-moves, flip-keeps}
-use Rattle.rules.proofs.OneLoad.{one-more, more-load, given-one, taken-one}
+use Rattle.spec_lists.specs.Lists.{within, different, keep, In, empty, nth, change}
+use Rattle.spec_table.specs.Board.{load, Board, Valid, namesOf, holderOf, stands, put, namesFit}
+use Rattle.spec_sharing.specs.Paths.{BenchPath, last, jobs, IsPath, flip}
+use Rattle.spec_sharing.specs.Sharing.{Change, getter, arrivalChoice, closingChoice, afterArrival, afterClosing, arrive, close}
+use Rattle.spec_sharing.specs.Demand2.{OneMore, handed}
+use Rattle.spec_lists.proofs.Basics.{both, left, right, differ, within-low, within-high, within-both, not-empty, is-empty, nth-change-same, nth-change-other, Member, is-in, not-in, membered, keep-different, others-in}
+use Rattle.spec_table.proofs.Named.{length-shares, fit-bench}
+use Rattle.spec_lists.proofs.Counting.{total-tested}
+use Rattle.spec_sharing.proofs.Paths.{stands-within, named-may, holder-bench, holder-none, improvingFrom-only, improvingTo-only}
+use Rattle.spec_sharing.proofs.Choice.{arrival-choice, closing-choice}
+use Rattle.spec_sharing.proofs.Sets.{getter-in}
+use Rattle.spec_sharing.proofs.Walks.{path-reach, reach-bench}
+use Rattle.spec_sharing.proofs.Flip.{put-valid, path-stands, path-jobs, flip-loads, flip-valid, flip-moves, flip-keeps}
+use Rattle.spec_sharing.proofs.OneLoad.{one-more, more-load, given-one, taken-one}
 
 -- "the number of other jobs that changed holder": the new job is not among them
 pub moved-others : (b : Board) (j : ℕ) (names : List ℕ) (i : ℕ) → In i ((arrive b j names) .moved) → i ≢ j

@@ -9,13 +9,13 @@ use mathlib.Core.List.{List, [], _∷_}
 use mathlib.Core.Option.{Option, none, some}
 use lib.Dec.{T, eqb, ltb, ltb→lt, lt→ltb}
 use lib.ListN.{length}
-use Rattle.basics.specs.Lists.{within, dictionary, In, empty, better, least}
-use Rattle.layout.specs.Board.{Board, holderOf, load}
-use Rattle.rules.specs.Paths.{Step, steps, BenchPath, endOf, last, jobs, Walk, IsPath, improves, improvingFrom, improving, improvingTo}
-use Rattle.rules.specs.Sharing.{below, arrivalKey, closingKey, levellingKey, arrivalChoice, closingChoice, levellingChoice, level}
-use Rattle.basics.proofs.Basics.{true→T, both, left, right, either, or-left, or-right, T-eqb, eqb-T}
-use Rattle.rules.proofs.Paths.{step-is, jobsOf, improvingFrom-only, improving-only, improvingTo-only}
-use Rattle.layout.proofs.Loads.{load-heaviest}
+use Rattle.spec_lists.specs.Lists.{within, dictionary, In, empty, better, least}
+use Rattle.spec_table.specs.Board.{Board, holderOf, load}
+use Rattle.spec_sharing.specs.Paths.{Step, steps, BenchPath, endOf, last, jobs, Walk, IsPath, improves, improvingFrom, improving, improvingTo}
+use Rattle.spec_sharing.specs.Sharing.{below, arrivalKey, closingKey, levellingKey, arrivalChoice, closingChoice, levellingChoice, level}
+use Rattle.spec_lists.proofs.Basics.{true→T, both, left, right, either, or-left, or-right, T-eqb, eqb-T}
+use Rattle.spec_sharing.proofs.Paths.{step-is, jobsOf, improvingFrom-only, improving-only, improvingTo-only}
+use Rattle.spec_table.proofs.Loads.{load-heaviest}
 
 -- the dictionary order
 

@@ -7,14 +7,14 @@ use mathlib.Core.Logic.{inl, inr, _≢_}
 use mathlib.Core.List.{List, [], _∷_}
 use lib.Dec.{T, leb}
 use lib.ListN.{length}
-use Rattle.basics.specs.Lists.{within, different, dictionary, Each, In}
-use Rattle.layout.specs.Board.{Board, Valid, namesOf, holderOf}
-use Rattle.rules.specs.Paths.{Step, steps, endOf, Walk}
-use Rattle.layout.specs.Table.{paired, Storable}
-use Rattle.basics.proofs.Basics.{T-eqb, T-leb, leb-T, each-in, in-each, each-nth}
-use Rattle.rules.proofs.Paths.{shares-nth, held-named, step-is, benchesOf, jobsOf}
-use Rattle.rules.proofs.Choice.{dictionary-lower, dictionary-same}
-use Rattle.rules.proofs.Walks.{fewest-once}
+use Rattle.spec_lists.specs.Lists.{within, different, dictionary, Each, In}
+use Rattle.spec_table.specs.Board.{Board, Valid, namesOf, holderOf}
+use Rattle.spec_sharing.specs.Paths.{Step, steps, endOf, Walk}
+use Rattle.spec_table.specs.Table.{paired, Storable}
+use Rattle.spec_lists.proofs.Basics.{T-eqb, T-leb, leb-T, each-in, in-each, each-nth}
+use Rattle.spec_sharing.proofs.Paths.{shares-nth, held-named, step-is, benchesOf, jobsOf}
+use Rattle.spec_sharing.proofs.Choice.{dictionary-lower, dictionary-same}
+use Rattle.spec_sharing.proofs.Walks.{fewest-once}
 
 module _ (benches : ℕ) (out : ℕ → List Step) where
   -- for every bench of 1 to B: one more than the steps of a shortest walk from there to t, 0 where no walk leads to t

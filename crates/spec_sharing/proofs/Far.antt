@@ -8,14 +8,14 @@ use mathlib.Core.List.{List, [], _∷_}
 use mathlib.Core.Option.{Option, none, some}
 use lib.Dec.{T, eqb, ltb, ltb→lt}
 use lib.ListN.{length}
-use Rattle.basics.specs.Lists.{within, different, dictionary, keep, In, least}
-use Rattle.layout.specs.Board.{Board, Valid}
-use Rattle.rules.specs.Paths.{Step, steps, BenchPath, pathBy, endOf, last, Walk, pathsFrom}
-use Rattle.basics.proofs.Basics.{T→true, left, either, T-eqb, eqb-T, in-keep, keep-in}
-use Rattle.rules.proofs.Paths.{benchesOf, listed-is-path, path-is-listed}
-use Rattle.rules.proofs.Choice.{least-in, least-first, least-none}
-use Rattle.rules.proofs.Walks.{walk-shortens}
-use Rattle.rules.proofs.Distances.{To, Away}
+use Rattle.spec_lists.specs.Lists.{within, different, dictionary, keep, In, least}
+use Rattle.spec_table.specs.Board.{Board, Valid}
+use Rattle.spec_sharing.specs.Paths.{Step, steps, BenchPath, pathBy, endOf, last, Walk, pathsFrom}
+use Rattle.spec_lists.proofs.Basics.{T→true, left, either, T-eqb, eqb-T, in-keep, keep-in}
+use Rattle.spec_sharing.proofs.Paths.{benchesOf, listed-is-path, path-is-listed}
+use Rattle.spec_sharing.proofs.Choice.{least-in, least-first, least-none}
+use Rattle.spec_sharing.proofs.Walks.{walk-shortens}
+use Rattle.spec_sharing.proofs.Distances.{To, Away}
 
 -- how many steps a path has, as a key
 abbrev stepsKey : BenchPath → List ℕ

@@ -8,13 +8,13 @@ use mathlib.Core.Bool.{not}
 use mathlib.Core.List.{List, [], _∷_}
 use lib.Dec.{T, eqb}
 use lib.ListN.{length}
-use Rattle.basics.specs.Lists.{bit, within, member, different, In, nth, change}
-use Rattle.layout.specs.Board.{Board, Valid, namesOf, holderOf, stands, put, load, mayHold, Shares, namesFit}
-use Rattle.rules.specs.Paths.{Step, steps, BenchPath, endOf, last, jobs, Walk, IsPath, handOver, flip}
-use Rattle.basics.proofs.Basics.{true→T, both, within-low, within-high, nth-change-same, nth-change-other, length-change, change-same, each-change, map-in, not-member, different-head, different-tail}
-use Rattle.layout.proofs.Named.{length-shares}
-use Rattle.basics.proofs.Counting.{count-change}
-use Rattle.rules.proofs.Paths.{stands-within, named-stands, named-may, step-is, benchesOf, jobsOf}
+use Rattle.spec_lists.specs.Lists.{bit, within, member, different, In, nth, change}
+use Rattle.spec_table.specs.Board.{Board, Valid, namesOf, holderOf, stands, put, load, mayHold, Shares, namesFit}
+use Rattle.spec_sharing.specs.Paths.{Step, steps, BenchPath, endOf, last, jobs, Walk, IsPath, handOver, flip}
+use Rattle.spec_lists.proofs.Basics.{true→T, both, within-low, within-high, nth-change-same, nth-change-other, length-change, change-same, each-change, map-in, not-member, different-head, different-tail}
+use Rattle.spec_table.proofs.Named.{length-shares}
+use Rattle.spec_lists.proofs.Counting.{count-change}
+use Rattle.spec_sharing.proofs.Paths.{stands-within, named-stands, named-may, step-is, benchesOf, jobsOf}
 
 -- writing a job's names and its bench anew leaves a sharing ..
 pub shares-written : (named : List (List ℕ)) (holders : List ℕ) (j : ℕ) (names : List ℕ) (a : ℕ) → Shares named holders → T (mayHold names a) → Shares (change named j names) (change holders j a)

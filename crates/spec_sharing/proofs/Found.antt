@@ -8,15 +8,15 @@ use mathlib.Core.List.{List, _∷_}
 use mathlib.Core.Option.{none, some}
 use lib.Dec.{T}
 use lib.ListN.{length}
-use Rattle.basics.specs.Lists.{within, different, dictionary, In}
-use Rattle.layout.specs.Board.{Board, Valid, load}
-use Rattle.rules.specs.Paths.{Step, steps, BenchPath, pathBy, endOf, last, jobs, Walk, IsPath, improves, improvingFrom, improvingTo, improving}
-use Rattle.rules.specs.Sharing.{arrivalKey, closingKey, arrivalChoice, closingChoice, levellingChoice, level}
-use Rattle.basics.proofs.Basics.{T→true, in-empty}
-use Rattle.rules.proofs.Paths.{benchesOf, jobsOf, improvingFrom-only, improvingFrom-every, improves-loads, loads-improve, improves-start, improving-only, improving-every, improvingTo-only, improvingTo-every, level-exact}
-use Rattle.rules.proofs.Choice.{least-empty, ArrivalFirst, ClosingFirst, LevellingFirst, First, arrival-choice, closing-choice, levelling-choice}
-use Rattle.rules.proofs.Walks.{Reach, reach-more, reach-all, fewest-once, path-reach, reach-bench, level-reach}
-use Rattle.rules.proofs.Distances.{To, Away}
+use Rattle.spec_lists.specs.Lists.{within, different, dictionary, In}
+use Rattle.spec_table.specs.Board.{Board, Valid, load}
+use Rattle.spec_sharing.specs.Paths.{Step, steps, BenchPath, pathBy, endOf, last, jobs, Walk, IsPath, improves, improvingFrom, improvingTo, improving}
+use Rattle.spec_sharing.specs.Sharing.{arrivalKey, closingKey, arrivalChoice, closingChoice, levellingChoice, level}
+use Rattle.spec_lists.proofs.Basics.{T→true, in-empty}
+use Rattle.spec_sharing.proofs.Paths.{benchesOf, jobsOf, improvingFrom-only, improvingFrom-every, improves-loads, loads-improve, improves-start, improving-only, improving-every, improvingTo-only, improvingTo-every, level-exact}
+use Rattle.spec_sharing.proofs.Choice.{least-empty, ArrivalFirst, ClosingFirst, LevellingFirst, First, arrival-choice, closing-choice, levelling-choice}
+use Rattle.spec_sharing.proofs.Walks.{Reach, reach-more, reach-all, fewest-once, path-reach, reach-bench, level-reach}
+use Rattle.spec_sharing.proofs.Distances.{To, Away}
 
 -- r is a walk from x to y with d - 1 steps, and its list of jobs is the first among the walks with so many
 pub record FirstList (b : Board) (x y d : ℕ) (r : List Step) : Type 0 where

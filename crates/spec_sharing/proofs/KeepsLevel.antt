@@ -8,22 +8,22 @@ use mathlib.Core.Bool.{Bool, not, _||_}
 use mathlib.Core.List.{List, []}
 use lib.Dec.{T, eqb, ltb, ltb→lt, lt→ltb}
 use lib.ListN.{length}
-use Rattle.basics.specs.Lists.{bit, within, In, empty, nth, change}
-use Rattle.layout.specs.Board.{Board, Valid, namesOf, holderOf, stands, put, load, excess, mayHold, Shares, namesFit, heldBy}
-use Rattle.rules.specs.Paths.{Step, steps}
-use Rattle.rules.specs.Sharing.{arrivalChoice, closingChoice, getter, arrive, close, level}
-use Rattle.rules.specs.Demand2.{OneMore}
-use Rattle.basics.proofs.Basics.{either, or-left, or-right, Compared, same, other, compared, T-eqb, eqb-T, within-low, within-high, within-both, is-empty, nth-change-same, length-change}
-use Rattle.layout.proofs.Named.{length-shares, fit-bench}
-use Rattle.basics.proofs.Counting.{bit-other}
-use Rattle.rules.proofs.Paths.{stands-within, named-may, shares-nth, holder-bench, step-is}
-use Rattle.rules.proofs.Sets.{getter-in}
-use Rattle.rules.proofs.Walks.{Reach, reach-here, reach-more, reach-all, reach-bench, level-reach}
-use Rattle.rules.proofs.Flip.{put-valid}
-use Rattle.rules.proofs.OneLoad.{more-load, excess-rises, excess-stays, excess-grows}
-use Rattle.rules.proofs.Levels.{level-least}
-use Rattle.rules.proofs.Changes.{put-rises, put-falls, arrival-does, taken-names, closing-does}
-use Rattle.rules.proofs.OneJob.{same-step, shares-back, held-valid, arrival-low, closing-high, brought-least, does-level}
+use Rattle.spec_lists.specs.Lists.{bit, within, In, empty, nth, change}
+use Rattle.spec_table.specs.Board.{Board, Valid, namesOf, holderOf, stands, put, load, excess, mayHold, Shares, namesFit, heldBy}
+use Rattle.spec_sharing.specs.Paths.{Step, steps}
+use Rattle.spec_sharing.specs.Sharing.{arrivalChoice, closingChoice, getter, arrive, close, level}
+use Rattle.spec_sharing.specs.Demand2.{OneMore}
+use Rattle.spec_lists.proofs.Basics.{either, or-left, or-right, Compared, same, other, compared, T-eqb, eqb-T, within-low, within-high, within-both, is-empty, nth-change-same, length-change}
+use Rattle.spec_table.proofs.Named.{length-shares, fit-bench}
+use Rattle.spec_lists.proofs.Counting.{bit-other}
+use Rattle.spec_sharing.proofs.Paths.{stands-within, named-may, shares-nth, holder-bench, step-is}
+use Rattle.spec_sharing.proofs.Sets.{getter-in}
+use Rattle.spec_sharing.proofs.Walks.{Reach, reach-here, reach-more, reach-all, reach-bench, level-reach}
+use Rattle.spec_sharing.proofs.Flip.{put-valid}
+use Rattle.spec_sharing.proofs.OneLoad.{more-load, excess-rises, excess-stays, excess-grows}
+use Rattle.spec_sharing.proofs.Levels.{level-least}
+use Rattle.spec_sharing.proofs.Changes.{put-rises, put-falls, arrival-does, taken-names, closing-does}
+use Rattle.spec_sharing.proofs.OneJob.{same-step, shares-back, held-valid, arrival-low, closing-high, brought-least, does-level}
 
 -- an arrival: the load of bench `risen` rises
 

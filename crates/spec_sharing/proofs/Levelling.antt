@@ -9,19 +9,19 @@ use mathlib.Core.Option.{Option, none, some}
 use lib.Dec.{T, eqb}
 use lib.ListN.{length}
 use borrow.Author.Tests.{ne-eqb}
-use Rattle.basics.specs.Lists.{bit, within, total}
-use Rattle.layout.specs.Board.{Board, Valid, load}
-use Rattle.layout.specs.Table.{Storable}
-use Rattle.rules.specs.Paths.{BenchPath, last, IsPath, improves, flip}
-use Rattle.rules.specs.Sharing.{levellingChoice, level, Levelled, relevel}
-use Rattle.rules.specs.Demand2.{Turns, rest, turn, LevellingReport}
-use Rattle.basics.proofs.Basics.{Compared, same, other, compared, eqb-refl, within-low, within-high}
-use Rattle.layout.proofs.Named.{length-shares}
-use Rattle.basics.proofs.Counting.{bit-same, bit-other, total-but-one, total-count-le}
-use Rattle.rules.proofs.Paths.{improves-loads, improves-start, level-exact}
-use Rattle.rules.proofs.Choice.{choice-improves, choice-level, level-choice}
-use Rattle.rules.proofs.Walks.{path-reach, reach-bench}
-use Rattle.rules.proofs.Flip.{flip-loads, flip-valid}
+use Rattle.spec_lists.specs.Lists.{bit, within, total}
+use Rattle.spec_table.specs.Board.{Board, Valid, load}
+use Rattle.spec_table.specs.Table.{Storable}
+use Rattle.spec_sharing.specs.Paths.{BenchPath, last, IsPath, improves, flip}
+use Rattle.spec_sharing.specs.Sharing.{levellingChoice, level, Levelled, relevel}
+use Rattle.spec_sharing.specs.Demand2.{Turns, rest, turn, LevellingReport}
+use Rattle.spec_lists.proofs.Basics.{Compared, same, other, compared, eqb-refl, within-low, within-high}
+use Rattle.spec_table.proofs.Named.{length-shares}
+use Rattle.spec_lists.proofs.Counting.{bit-same, bit-other, total-but-one, total-count-le}
+use Rattle.spec_sharing.proofs.Paths.{improves-loads, improves-start, level-exact}
+use Rattle.spec_sharing.proofs.Choice.{choice-improves, choice-level, level-choice}
+use Rattle.spec_sharing.proofs.Walks.{path-reach, reach-bench}
+use Rattle.spec_sharing.proofs.Flip.{flip-loads, flip-valid}
 
 -- what levelling does to a valid board
 pub record Relevels (allowance : ℕ) (b : Board) (r : Levelled) : Type 0 where

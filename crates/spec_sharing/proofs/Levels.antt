@@ -7,21 +7,21 @@ use mathlib.Core.Bool.{Bool, not}
 use mathlib.Core.List.{List, [], _∷_}
 use lib.Dec.{T, leb, eqb}
 use lib.ListN.{length}
-use Rattle.basics.specs.Lists.{bit, within, greatest, keep, Each, empty}
-use Rattle.layout.specs.Board.{Board, Valid, standing, load, heaviest, excess, Shares, heldBy, namesFit}
-use Rattle.rules.specs.Paths.{BenchPath, last, IsPath, improves, flip}
-use Rattle.rules.specs.Sharing.{level, tightSet, inside, density}
-use Rattle.rules.specs.Demand2.{LeastOverhang, Demand2}
-use Rattle.basics.proofs.Basics.{Compared, same, other, compared, T-leb, leb-T, within-low, within-high, within-both, member-in}
-use Rattle.layout.proofs.Named.{fit-bench}
-use Rattle.basics.proofs.Counting.{bit-same, bit-other, total-but-one, greatest-above, greatest-most, greatest-reached}
-use Rattle.rules.proofs.Paths.{improves-loads, improves-start, level-exact}
-use Rattle.layout.proofs.Loads.{load-heaviest, excess-none, excess-load}
-use Rattle.rules.proofs.Sets.{density-between}
-use Rattle.rules.proofs.Walks.{level-reach}
-use Rattle.rules.proofs.Certificate.{Proves, attained, proved-least, certificate}
-use Rattle.rules.proofs.TightSet.{brought-proves}
-use Rattle.rules.proofs.Flip.{flip-loads, flip-valid}
+use Rattle.spec_lists.specs.Lists.{bit, within, greatest, keep, Each, empty}
+use Rattle.spec_table.specs.Board.{Board, Valid, standing, load, heaviest, excess, Shares, heldBy, namesFit}
+use Rattle.spec_sharing.specs.Paths.{BenchPath, last, IsPath, improves, flip}
+use Rattle.spec_sharing.specs.Sharing.{level, tightSet, inside, density}
+use Rattle.spec_sharing.specs.Demand2.{LeastOverhang, Demand2}
+use Rattle.spec_lists.proofs.Basics.{Compared, same, other, compared, T-leb, leb-T, within-low, within-high, within-both, member-in}
+use Rattle.spec_table.proofs.Named.{fit-bench}
+use Rattle.spec_lists.proofs.Counting.{bit-same, bit-other, total-but-one, greatest-above, greatest-most, greatest-reached}
+use Rattle.spec_sharing.proofs.Paths.{improves-loads, improves-start, level-exact}
+use Rattle.spec_table.proofs.Loads.{load-heaviest, excess-none, excess-load}
+use Rattle.spec_sharing.proofs.Sets.{density-between}
+use Rattle.spec_sharing.proofs.Walks.{level-reach}
+use Rattle.spec_sharing.proofs.Certificate.{Proves, attained, proved-least, certificate}
+use Rattle.spec_sharing.proofs.TightSet.{brought-proves}
+use Rattle.spec_sharing.proofs.Flip.{flip-loads, flip-valid}
 
 -- on a level board the tight set of height h + 1 proves the overhang above h
 pub tight-proves : (b : Board) → Valid b → T (level b) → (h : ℕ) → Proves b (tightSet b (suc h)) h

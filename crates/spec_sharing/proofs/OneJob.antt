@@ -8,21 +8,21 @@ use mathlib.Core.Bool.{Bool}
 use mathlib.Core.List.{List, []}
 use mathlib.Core.Option.{Option, none, some}
 use lib.Dec.{T, eqb}
-use Rattle.basics.specs.Lists.{bit, within, In, change}
-use Rattle.layout.specs.Board.{Board, Valid, namesOf, put, load, excess, mayHold, Shares, heldBy}
-use Rattle.rules.specs.Paths.{Step, steps, BenchPath, last, IsPath, improvingFrom, improvingTo}
-use Rattle.rules.specs.Sharing.{Change, level, arrivalChoice, closingChoice, afterArrival, afterClosing}
-use Rattle.basics.proofs.Basics.{Compared, same, other, compared, nth-change-other, change-back}
-use Rattle.layout.proofs.Named.{length-shares}
-use Rattle.basics.proofs.Counting.{bit-same, bit-other, bit-le}
-use Rattle.rules.proofs.Paths.{step-is, is-step, improvingFrom-only, improvingFrom-every, improves-loads, loads-improve, improvingTo-only, improvingTo-every}
-use Rattle.rules.proofs.Choice.{ArrivalFirst, ClosingFirst, First, arrival-choice, arrival-none, closing-choice, closing-none}
-use Rattle.rules.proofs.Walks.{Reach, reach-path}
-use Rattle.rules.proofs.Certificate.{proved-least}
-use Rattle.rules.proofs.TightSet.{broughtIn, brought-proves}
-use Rattle.rules.proofs.Flip.{shares-written}
-use Rattle.rules.proofs.Levels.{least-level}
-use Rattle.rules.proofs.Changes.{Changed}
+use Rattle.spec_lists.specs.Lists.{bit, within, In, change}
+use Rattle.spec_table.specs.Board.{Board, Valid, namesOf, put, load, excess, mayHold, Shares, heldBy}
+use Rattle.spec_sharing.specs.Paths.{Step, steps, BenchPath, last, IsPath, improvingFrom, improvingTo}
+use Rattle.spec_sharing.specs.Sharing.{Change, level, arrivalChoice, closingChoice, afterArrival, afterClosing}
+use Rattle.spec_lists.proofs.Basics.{Compared, same, other, compared, nth-change-other, change-back}
+use Rattle.spec_table.proofs.Named.{length-shares}
+use Rattle.spec_lists.proofs.Counting.{bit-same, bit-other, bit-le}
+use Rattle.spec_sharing.proofs.Paths.{step-is, is-step, improvingFrom-only, improvingFrom-every, improves-loads, loads-improve, improvingTo-only, improvingTo-every}
+use Rattle.spec_sharing.proofs.Choice.{ArrivalFirst, ClosingFirst, First, arrival-choice, arrival-none, closing-choice, closing-none}
+use Rattle.spec_sharing.proofs.Walks.{Reach, reach-path}
+use Rattle.spec_sharing.proofs.Certificate.{proved-least}
+use Rattle.spec_sharing.proofs.TightSet.{broughtIn, brought-proves}
+use Rattle.spec_sharing.proofs.Flip.{shares-written}
+use Rattle.spec_sharing.proofs.Levels.{least-level}
+use Rattle.spec_sharing.proofs.Changes.{Changed}
 
 module _ (b : Board) (v : Valid b) (j : ℕ) where
   -- the steps by other jobs, after job j is written anew, are steps of the board

@@ -6,11 +6,11 @@ use mathlib.Core.Bool.{Bool}
 use mathlib.Core.List.{List}
 use lib.Dec.{T, eqb}
 use lib.ListN.{length}
-use Rattle.basics.specs.Lists.{bit, within, nth, change}
-use Rattle.layout.specs.Board.{load, excess}
-use Rattle.rules.specs.Demand2.{OneMore}
-use Rattle.basics.proofs.Basics.{Compared, same, other, compared, within-low, within-high}
-use Rattle.basics.proofs.Counting.{bit-same, bit-other, total-but-one, count-change}
+use Rattle.spec_lists.specs.Lists.{bit, within, nth, change}
+use Rattle.spec_table.specs.Board.{load, excess}
+use Rattle.spec_sharing.specs.Demand2.{OneMore}
+use Rattle.spec_lists.proofs.Basics.{Compared, same, other, compared, within-low, within-high}
+use Rattle.spec_lists.proofs.Counting.{bit-same, bit-other, total-but-one, count-change}
 
 -- "one more at x" from a sum ..
 pub one-more : (benches : ℕ) (less more : List ℕ) (x : ℕ) → T (within 1 benches x) → ((y : ℕ) → 1 ≤ y → y ≤ benches → load more y ≡ load less y + bit (eqb x y)) → OneMore benches less more x

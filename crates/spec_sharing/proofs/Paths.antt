@@ -8,13 +8,13 @@ use mathlib.Core.List.{List, [], _∷_, _++_, map}
 use lib.Dec.{T, eqb, not-T}
 use lib.ListN.{length, getD, length-map}
 use borrow.Author.Tests.{eq-eqb}
-use Rattle.basics.specs.Lists.{within, member, different, rising, keep, Each, In, empty}
-use Rattle.layout.specs.Board.{Board, Valid, namesOf, holderOf, stands, load, mayHold, Shares, namesFit}
-use Rattle.rules.specs.Paths.{Step, stepBy, stepsFrom, steps, BenchPath, pathBy, endOf, last, Walk, IsPath, routes, pathsFrom, improves, improvingFrom, improving, improvingTo}
-use Rattle.rules.specs.Sharing.{level}
-use Rattle.basics.proofs.Basics.{true→T, T→true, both, Compared, same, other, compared, T-eqb, eqb-T, T-leb, leb-T, within-both, in-left, in-right, in-either, in-keep, keep-in, empty-in, in-empty, some-in, nth-within, each-nth, in-map, map-in, in-flatMap, flatMap-in, member-in, in-member, bench-listed, listed-bench, not-member, member-not, different-head, different-tail, others-in}
-use Rattle.layout.proofs.Named.{fit-bench}
-use Rattle.basics.proofs.Counting.{few, different-count}
+use Rattle.spec_lists.specs.Lists.{within, member, different, rising, keep, Each, In, empty}
+use Rattle.spec_table.specs.Board.{Board, Valid, namesOf, holderOf, stands, load, mayHold, Shares, namesFit}
+use Rattle.spec_sharing.specs.Paths.{Step, stepBy, stepsFrom, steps, BenchPath, pathBy, endOf, last, Walk, IsPath, routes, pathsFrom, improves, improvingFrom, improving, improvingTo}
+use Rattle.spec_sharing.specs.Sharing.{level}
+use Rattle.spec_lists.proofs.Basics.{true→T, T→true, both, Compared, same, other, compared, T-eqb, eqb-T, T-leb, leb-T, within-both, in-left, in-right, in-either, in-keep, keep-in, empty-in, in-empty, some-in, nth-within, each-nth, in-map, map-in, in-flatMap, flatMap-in, member-in, in-member, bench-listed, listed-bench, not-member, member-not, different-head, different-tail, others-in}
+use Rattle.spec_table.proofs.Named.{fit-bench}
+use Rattle.spec_lists.proofs.Counting.{few, different-count}
 
 -- the benches that a job names, and the one that holds it
 

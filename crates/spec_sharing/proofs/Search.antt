@@ -8,15 +8,15 @@ use mathlib.Core.List.{List, [], _∷_, _++_}
 use mathlib.Core.Option.{some}
 use lib.Dec.{T}
 use lib.ListN.{length, length-append, length-map}
-use Rattle.basics.specs.Lists.{within, In}
-use Rattle.layout.specs.Board.{Board, Valid, holderOf}
-use Rattle.rules.specs.Paths.{Step, stepBy, steps, pathBy, endOf, Walk}
-use Rattle.rules.specs.Sharing.{arrivalChoice, closingChoice}
-use Rattle.basics.proofs.Counting.{different-count, few}
-use Rattle.rules.proofs.Paths.{named-stands, holder-bench, step-is, step-bench, benchesOf, walk-benches}
-use Rattle.rules.proofs.Walks.{walk-join, end-join, fewest-once}
-use Rattle.rules.proofs.Distances.{To, Away, Stays, Nearer, Next, Smallest, Greedy, OneOther, greedy-walk, smallest-first, greedy-smallest}
-use Rattle.rules.proofs.Found.{FirstList, ArrivalEnd, ClosingStart, arrival-found, closing-found}
+use Rattle.spec_lists.specs.Lists.{within, In}
+use Rattle.spec_table.specs.Board.{Board, Valid, holderOf}
+use Rattle.spec_sharing.specs.Paths.{Step, stepBy, steps, pathBy, endOf, Walk}
+use Rattle.spec_sharing.specs.Sharing.{arrivalChoice, closingChoice}
+use Rattle.spec_lists.proofs.Counting.{different-count, few}
+use Rattle.spec_sharing.proofs.Paths.{named-stands, holder-bench, step-is, step-bench, benchesOf, walk-benches}
+use Rattle.spec_sharing.proofs.Walks.{walk-join, end-join, fewest-once}
+use Rattle.spec_sharing.proofs.Distances.{To, Away, Stays, Nearer, Next, Smallest, Greedy, OneOther, greedy-walk, smallest-first, greedy-smallest}
+use Rattle.spec_sharing.proofs.Found.{FirstList, ArrivalEnd, ClosingStart, arrival-found, closing-found}
 
 module _ (benches : ℕ) (out : ℕ → List Step) where
   -- numbers away from v, as far as m: v alone has 1, each higher one comes by a step from one lower, and no step leads from a bench with a

@@ -8,16 +8,16 @@ use mathlib.Core.List.{List, [], _∷_}
 use mathlib.Core.Option.{some}
 use lib.Dec.{T}
 use lib.ListN.{getD}
-use Rattle.basics.specs.Lists.{within, In}
-use Rattle.layout.specs.Board.{Board, Valid, load}
-use Rattle.rules.specs.Paths.{Step, stepBy, steps, pathBy}
-use Rattle.rules.specs.Sharing.{arrivalChoice}
-use Rattle.basics.proofs.Basics.{within-high}
-use Rattle.rules.proofs.Paths.{step-bench}
-use Rattle.rules.proofs.Distances.{Stays, Greedy, pairs-one-other}
-use Rattle.rules.proofs.Found.{ArrivalEnd}
-use Rattle.rules.proofs.Far.{distance, distance-to, distance-away}
-use Rattle.rules.proofs.Search.{NumberedAway, NumberedTo, away-number, away-right, to-number, to-right, greedy-right, arrival-greedy}
+use Rattle.spec_lists.specs.Lists.{within, In}
+use Rattle.spec_table.specs.Board.{Board, Valid, load}
+use Rattle.spec_sharing.specs.Paths.{Step, stepBy, steps, pathBy}
+use Rattle.spec_sharing.specs.Sharing.{arrivalChoice}
+use Rattle.spec_lists.proofs.Basics.{within-high}
+use Rattle.spec_sharing.proofs.Paths.{step-bench}
+use Rattle.spec_sharing.proofs.Distances.{Stays, Greedy, pairs-one-other}
+use Rattle.spec_sharing.proofs.Found.{ArrivalEnd}
+use Rattle.spec_sharing.proofs.Far.{distance, distance-to, distance-away}
+use Rattle.spec_sharing.proofs.Search.{NumberedAway, NumberedTo, away-number, away-right, to-number, to-right, greedy-right, arrival-greedy}
 
 -- jobs 1 and 3 name benches 1 and 2 and are held by bench 1, job 2 names 2 and 3 and is held by 2
 abbrev printedRun : Board

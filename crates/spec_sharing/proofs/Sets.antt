@@ -9,10 +9,10 @@ use mathlib.Core.Bool.{Bool, true, false, cond, not, _&&_}
 use mathlib.Core.List.{List, [], _∷_, _++_}
 use lib.Dec.{T, ltb}
 use borrow.Author.Tests.{ltb-true, ltb-false}
-use Rattle.basics.specs.Lists.{bit, member, all, Each, In, empty}
-use Rattle.layout.specs.Board.{load}
-use Rattle.rules.specs.Sharing.{lightest, getter, inside, density}
-use Rattle.basics.proofs.Basics.{T→true, right, in-right, all-in, in-all, each-in, member-in, in-member}
+use Rattle.spec_lists.specs.Lists.{bit, member, all, Each, In, empty}
+use Rattle.spec_table.specs.Board.{load}
+use Rattle.spec_sharing.specs.Sharing.{lightest, getter, inside, density}
+use Rattle.spec_lists.proofs.Basics.{T→true, right, in-right, all-in, in-all, each-in, member-in, in-member}
 
 -- a density rounded up is enough for the inside jobs
 pub density-enough : (i n : ℕ) → 1 ≤ n → i ≤ density i n * n

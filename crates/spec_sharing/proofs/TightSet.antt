@@ -8,14 +8,14 @@ use mathlib.Core.List.{List, [], _∷_, flatMap}
 use lib.Dec.{T, eqb, leb}
 use lib.ListN.{length}
 use borrow.Author.Tests.{eqb-true, eqb-false}
-use Rattle.basics.specs.Lists.{within, member, different, rising, keep, In}
-use Rattle.layout.specs.Board.{Board, Valid, load}
-use Rattle.rules.specs.Paths.{Step, BenchPath, steps, last, IsPath, improves}
-use Rattle.rules.specs.Sharing.{level, widen, widest, tightSet}
-use Rattle.basics.proofs.Basics.{either, or-left, or-right, tests-same, T-leb, leb-T, in-keep, keep-in, keep-same, length-keep, in-map, map-in, in-flatMap, flatMap-in, member-in, in-member, bench-listed, listed-bench, length-rising, keep-different, keep-own, rising-different}
-use Rattle.rules.proofs.Paths.{step-bench, benchesOf, improves-loads, improves-start, level-exact}
-use Rattle.rules.proofs.Walks.{Reach, reach-here, reach-more, reach-all, reach-path, path-reach, level-reach}
-use Rattle.rules.proofs.Certificate.{Proves}
+use Rattle.spec_lists.specs.Lists.{within, member, different, rising, keep, In}
+use Rattle.spec_table.specs.Board.{Board, Valid, load}
+use Rattle.spec_sharing.specs.Paths.{Step, BenchPath, steps, last, IsPath, improves}
+use Rattle.spec_sharing.specs.Sharing.{level, widen, widest, tightSet}
+use Rattle.spec_lists.proofs.Basics.{either, or-left, or-right, tests-same, T-leb, leb-T, in-keep, keep-in, keep-same, length-keep, in-map, map-in, in-flatMap, flatMap-in, member-in, in-member, bench-listed, listed-bench, length-rising, keep-different, keep-own, rising-different}
+use Rattle.spec_sharing.proofs.Paths.{step-bench, benchesOf, improves-loads, improves-start, level-exact}
+use Rattle.spec_sharing.proofs.Walks.{Reach, reach-here, reach-more, reach-all, reach-path, path-reach, level-reach}
+use Rattle.spec_sharing.proofs.Certificate.{Proves}
 
 -- the benches that those which pass the test bring in, themselves among them
 abbrev pub broughtIn : Board → (ℕ → Bool) → List ℕ

@@ -8,12 +8,12 @@ use mathlib.Core.Bool.{Bool, not}
 use mathlib.Core.List.{List, [], _∷_, _++_}
 use lib.Dec.{T}
 use lib.ListN.{length}
-use Rattle.basics.specs.Lists.{within, member, different, In}
-use Rattle.layout.specs.Board.{Board, Valid, load}
-use Rattle.rules.specs.Paths.{Step, steps, BenchPath, pathBy, endOf, last, Walk, IsPath}
-use Rattle.rules.specs.Sharing.{level}
-use Rattle.basics.proofs.Basics.{T→true, both, not-member, Member, is-in, not-in, membered, different-tail}
-use Rattle.rules.proofs.Paths.{step-bench, benchesOf, improves-loads, loads-improve, level-exact}
+use Rattle.spec_lists.specs.Lists.{within, member, different, In}
+use Rattle.spec_table.specs.Board.{Board, Valid, load}
+use Rattle.spec_sharing.specs.Paths.{Step, steps, BenchPath, pathBy, endOf, last, Walk, IsPath}
+use Rattle.spec_sharing.specs.Sharing.{level}
+use Rattle.spec_lists.proofs.Basics.{T→true, both, not-member, Member, is-in, not-in, membered, different-tail}
+use Rattle.spec_sharing.proofs.Paths.{step-bench, benchesOf, improves-loads, loads-improve, level-exact}
 
 module _ (out : ℕ → List Step) where
   -- a walk leads from x to y; a walk may come to a bench twice

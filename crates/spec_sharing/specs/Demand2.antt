@@ -7,10 +7,10 @@ use mathlib.Core.List.{List, []}
 use mathlib.Core.Option.{some}
 use lib.Dec.{eqb}
 use lib.ListN.{length}
-use Rattle.basics.specs.Lists.{bit, total, change}
-use Rattle.layout.specs.Board.{Board, holderOf, standing, load, heaviest, excess, Shares, heldBy}
-use Rattle.rules.specs.Paths.{BenchPath, flip}
-use Rattle.rules.specs.Sharing.{levellingChoice, tightSet, inside, density}
+use Rattle.spec_lists.specs.Lists.{bit, total, change}
+use Rattle.spec_table.specs.Board.{Board, holderOf, standing, load, heaviest, excess, Shares, heldBy}
+use Rattle.spec_sharing.specs.Paths.{BenchPath, flip}
+use Rattle.spec_sharing.specs.Sharing.{levellingChoice, tightSet, inside, density}
 
 -- above every height the overhang is at most that of every other sharing of the same jobs
 abbrev pub LeastOverhang : Board → Type 0

@@ -4,8 +4,8 @@ use mathlib.Core.Path.{_≡_}
 use mathlib.Core.Bool.{Bool, true, cond, not}
 use mathlib.Core.List.{List, [], _∷_, _++_, map, flatMap}
 use lib.Dec.{eqb, leb}
-use Rattle.basics.specs.Lists.{member, different, rising, keep, In, change}
-use Rattle.layout.specs.Board.{Board, load}
+use Rattle.spec_lists.specs.Lists.{member, different, rising, keep, In, change}
+use Rattle.spec_table.specs.Board.{Board, load}
 
 -- by this job, to this bench
 pub record Step : Type 0 where

@@ -5,9 +5,9 @@ use mathlib.Core.List.{List, [], _∷_, map, flatMap}
 use mathlib.Core.Option.{Option, none, some}
 use lib.Dec.{eqb, leb, ltb}
 use lib.ListN.{length}
-use Rattle.basics.specs.Lists.{bit, member, rising, keep, all, empty, least}
-use Rattle.layout.specs.Board.{Board, holderOf, put, load, heaviest}
-use Rattle.rules.specs.Paths.{BenchPath, steps, last, jobs, improvingFrom, improvingTo, improving, flip}
+use Rattle.spec_lists.specs.Lists.{bit, member, rising, keep, all, empty, least}
+use Rattle.spec_table.specs.Board.{Board, holderOf, put, load, heaviest}
+use Rattle.spec_sharing.specs.Paths.{BenchPath, steps, last, jobs, improvingFrom, improvingTo, improving, flip}
 
 -- how far bench x is below the heaviest: the greatest load comes first
 abbrev pub below : Board → ℕ → ℕ

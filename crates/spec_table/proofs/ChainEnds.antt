@@ -5,10 +5,10 @@ use mathlib.Core.Logic.{inl, inr}
 use mathlib.Core.Bool.{not}
 use mathlib.Core.List.{List, _∷_}
 use lib.Dec.{T}
-use Rattle.basics.specs.Lists.{member, different, In, nth}
-use Rattle.layout.specs.Table.{Entry, vacant, follow}
-use Rattle.basics.proofs.Basics.{both, not-member}
-use Rattle.layout.proofs.Sound.{Ends}
+use Rattle.spec_lists.specs.Lists.{member, different, In, nth}
+use Rattle.spec_table.specs.Table.{Entry, vacant, follow}
+use Rattle.spec_lists.proofs.Basics.{both, not-member}
+use Rattle.spec_table.proofs.Sound.{Ends}
 
 module _ (es : List Entry) where
   -- the job after job j

@@ -3,11 +3,11 @@ use Prim.Native.Nat.{ℕ}
 use mathlib.Core.Path.{_≡_, ap}
 use mathlib.Core.List.{List}
 use lib.Dec.{T}
-use Rattle.layout.specs.Board.{Board}
-use Rattle.layout.specs.Table.{words, layout, formed, fits, sound, decode, encode, Storable}
-use Rattle.basics.proofs.Basics.{both}
-use Rattle.layout.proofs.Words.{layout-encode, fits-encode}
-use Rattle.layout.proofs.Layouts.{boardOf-layoutOf, formed-layoutOf}
+use Rattle.spec_table.specs.Board.{Board}
+use Rattle.spec_table.specs.Table.{words, layout, formed, fits, sound, decode, encode, Storable}
+use Rattle.spec_lists.proofs.Basics.{both}
+use Rattle.spec_table.proofs.Words.{layout-encode, fits-encode}
+use Rattle.spec_table.proofs.Layouts.{boardOf-layoutOf, formed-layoutOf}
 
 -- an encoded board is sound
 pub encode-sound : (b : Board) → Storable b → T (sound (encode b))

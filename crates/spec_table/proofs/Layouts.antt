@@ -12,12 +12,12 @@ use lib.Dec.{T, eqb}
 use lib.ListN.{length, getD, drop}
 use lib.Seq.{getD-drop, drop-drop}
 use borrow.Author.Tests.{eq-eqb, ne-eqb}
-use Rattle.basics.specs.Lists.{bit, within, count, rising, keep, all, Each, In, empty, nth, numbered}
-use Rattle.layout.specs.Board.{Board, Valid, mayHold, Shares, namesFit}
-use Rattle.layout.specs.Table.{Entry, vacant, filled, holderIn, follow, chains, standingIn, entryFits, placed, onlyStanding, formed, boardOf, firstHeld, placeOf, entryFor, entriesFrom, layoutOf}
-use Rattle.basics.proofs.Counting.{bit-same, bit-other, keep-counts}
-use Rattle.basics.proofs.Basics.{true→T, both, five, Compared, same, other, compared, T-eqb, eqb-T, within-low, within-both, keep-in, in-all, map-in, member-in, rising-low}
-use Rattle.layout.proofs.Named.{length-shares, fit-bench}
+use Rattle.spec_lists.specs.Lists.{bit, within, count, rising, keep, all, Each, In, empty, nth, numbered}
+use Rattle.spec_table.specs.Board.{Board, Valid, mayHold, Shares, namesFit}
+use Rattle.spec_table.specs.Table.{Entry, vacant, filled, holderIn, follow, chains, standingIn, entryFits, placed, onlyStanding, formed, boardOf, firstHeld, placeOf, entryFor, entriesFrom, layoutOf}
+use Rattle.spec_lists.proofs.Counting.{bit-same, bit-other, keep-counts}
+use Rattle.spec_lists.proofs.Basics.{true→T, both, five, Compared, same, other, compared, T-eqb, eqb-T, within-low, within-both, keep-in, in-all, map-in, member-in, rising-low}
+use Rattle.spec_table.proofs.Named.{length-shares, fit-bench}
 
 -- the jobs from number i on that bench x holds, rising
 abbrev pub heldBy : ℕ → ℕ → List ℕ → List ℕ

@@ -1,7 +1,7 @@
 -- The limits of a table, in the words of 01.
 use mathlib.Core.Path.{_≡_, refl}
 use mathlib.Core.Bool.{true, false}
-use Rattle.layout.specs.Table.{lengthFor, sizesFit}
+use Rattle.spec_table.specs.Table.{lengthFor, sizesFit}
 
 -- "Benches are numbered 1 to 500, jobs 1 to 4,000"
 pub greatest-fits : sizesFit (lengthFor 500 4000) 500 4000 ≡ true

@@ -4,10 +4,10 @@ use native.Mathlib.Omega.{arith}
 use mathlib.Core.Path.{_≡_, refl}
 use mathlib.Core.List.{List}
 use lib.Dec.{T}
-use Rattle.basics.specs.Lists.{within}
-use Rattle.layout.specs.Board.{Board, load, heaviest, excess}
-use Rattle.basics.proofs.Basics.{within-low, within-high}
-use Rattle.basics.proofs.Counting.{greatest-above, total-at}
+use Rattle.spec_lists.specs.Lists.{within}
+use Rattle.spec_table.specs.Board.{Board, load, heaviest, excess}
+use Rattle.spec_lists.proofs.Basics.{within-low, within-high}
+use Rattle.spec_lists.proofs.Counting.{greatest-above, total-at}
 
 -- no bench is above the heaviest
 pub load-heaviest : (b : Board) (x : ℕ) → T (within 1 (b .benches) x) → load (b .holders) x ≤ heaviest b

@@ -6,10 +6,10 @@ use mathlib.Core.Bool.{true, not}
 use mathlib.Core.List.{List, [], _∷_}
 use lib.Dec.{T}
 use lib.ListN.{length}
-use Rattle.basics.specs.Lists.{within, member, In, all, different, Each, change}
-use Rattle.layout.specs.Board.{Shares, namesFit, Board, Valid}
-use Rattle.basics.proofs.Basics.{left, both, right, not-member, all-in, different-head, length-change, each-change}
-use Rattle.layout.specs.Table.{mostBenches, mostJobs, paired, Storable}
+use Rattle.spec_lists.specs.Lists.{within, member, In, all, different, Each, change}
+use Rattle.spec_table.specs.Board.{Shares, namesFit, Board, Valid}
+use Rattle.spec_lists.proofs.Basics.{left, both, right, not-member, all-in, different-head, length-change, each-change}
+use Rattle.spec_table.specs.Table.{mostBenches, mostJobs, paired, Storable}
 
 -- there are as many holders as job numbers
 pub length-shares : (named : List (List ℕ)) (holders : List ℕ) → Shares named holders → length holders ≡ length named

@@ -10,12 +10,12 @@ use mathlib.Core.List.{List, [], _∷_, _++_, map}
 use lib.Dec.{T, eqb, leb}
 use lib.ListN.{length, getD, drop, length-take, length-drop, length-map, List·getD-eq-default}
 use lib.Seq.{getD-take, getD-drop}
-use Rattle.basics.specs.Lists.{keep, bit, within, count, all, Each, In, empty, nth, numbered}
-use Rattle.layout.specs.Board.{holderOf, stands, standing, Shares, mayHold, namesFit}
-use Rattle.layout.specs.Table.{paired, words, lengthFor, mostBenches, mostJobs, sizesFit, Entry, vacant, filled, holderIn, Layout, entriesIn, layout, follow, chains, standingIn, entryFits, placed, onlyStanding, formed, fits, sound, boardOf, decode, entryWords, Storable}
-use Rattle.basics.proofs.Basics.{true→T, T→true, never→false, not-false, both, left, right, five, or-right, Compared, same, other, compared, T-eqb, eqb-T, T-leb, within-low, within-high, within-both, two-elements, in-right, in-keep, keep-in, all-in, in-all, each-in, in-each, in-getD, in-nth, nth-within, in-numbered, in-numbered-nth, numbered-nth, in-map, nth-map, each-map, in-member, Member, is-in, not-in, membered}
-use Rattle.layout.proofs.Named.{pair-fits}
-use Rattle.basics.proofs.Counting.{bit-le, bit-same, bit-other, count-none, count-some, few, keep-counts}
+use Rattle.spec_lists.specs.Lists.{keep, bit, within, count, all, Each, In, empty, nth, numbered}
+use Rattle.spec_table.specs.Board.{holderOf, stands, standing, Shares, mayHold, namesFit}
+use Rattle.spec_table.specs.Table.{paired, words, lengthFor, mostBenches, mostJobs, sizesFit, Entry, vacant, filled, holderIn, Layout, entriesIn, layout, follow, chains, standingIn, entryFits, placed, onlyStanding, formed, fits, sound, boardOf, decode, entryWords, Storable}
+use Rattle.spec_lists.proofs.Basics.{true→T, T→true, never→false, not-false, both, left, right, five, or-right, Compared, same, other, compared, T-eqb, eqb-T, T-leb, within-low, within-high, within-both, two-elements, in-right, in-keep, keep-in, all-in, in-all, each-in, in-each, in-getD, in-nth, nth-within, in-numbered, in-numbered-nth, numbered-nth, in-map, nth-map, each-map, in-member, Member, is-in, not-in, membered}
+use Rattle.spec_table.proofs.Named.{pair-fits}
+use Rattle.spec_lists.proofs.Counting.{bit-le, bit-same, bit-other, count-none, count-some, few, keep-counts}
 
 -- the table's places
 

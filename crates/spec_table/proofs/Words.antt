@@ -7,11 +7,11 @@ use mathlib.Core.List.{List, [], _∷_, _++_, map, flatMap, append-nil}
 use lib.Dec.{T, eqb, leb}
 use lib.ListN.{length, take, drop, length-append}
 use lib.Seq.{take-at, drop-at}
-use Rattle.basics.specs.Lists.{within, rising, Each, empty}
-use Rattle.layout.specs.Board.{Board, Shares, namesFit}
-use Rattle.layout.specs.Table.{paired, words, bytesOf, mostBenches, mostJobs, lengthFor, sizesFit, Entry, Layout, entriesIn, layout, fits, firstHeld, placeOf, entryFor, entriesFrom, layoutOf, entryWords, flat, encode, Storable}
-use Rattle.basics.proofs.Basics.{five, cond-le, two-elements, T-eqb, eqb-T, leb-T, within-high, in-each, each-append, each-map, length-keep, length-values}
-use Rattle.layout.proofs.Named.{length-shares, fit-bench}
+use Rattle.spec_lists.specs.Lists.{within, rising, Each, empty}
+use Rattle.spec_table.specs.Board.{Board, Shares, namesFit}
+use Rattle.spec_table.specs.Table.{paired, words, bytesOf, mostBenches, mostJobs, lengthFor, sizesFit, Entry, Layout, entriesIn, layout, fits, firstHeld, placeOf, entryFor, entriesFrom, layoutOf, entryWords, flat, encode, Storable}
+use Rattle.spec_lists.proofs.Basics.{five, cond-le, two-elements, T-eqb, eqb-T, leb-T, within-high, in-each, each-append, each-map, length-keep, length-values}
+use Rattle.spec_table.proofs.Named.{length-shares, fit-bench}
 
 -- words and bytes
 

@@ -5,7 +5,7 @@ use mathlib.Core.Bool.{Bool, _&&_, not}
 use mathlib.Core.List.{List, [], _∷_}
 use lib.Dec.{T, eqb}
 use lib.ListN.{length}
-use Rattle.basics.specs.Lists.{within, count, member, different, total, greatest, keep, all, Each, empty, nth, change}
+use Rattle.spec_lists.specs.Lists.{within, count, member, different, total, greatest, keep, all, Each, empty, nth, change}
 
 -- benches 1 to `benches`; for each job number in order the benches that the job names, [] for no job; and the bench that
 -- holds it, 0 for no job

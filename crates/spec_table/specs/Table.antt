@@ -4,8 +4,8 @@ use mathlib.Core.Bool.{Bool, cond, not, _&&_, _||_}
 use mathlib.Core.List.{List, [], _∷_, _++_, map, flatMap}
 use lib.Dec.{T, eqb, leb}
 use lib.ListN.{length, getD, take, drop, replicate}
-use Rattle.basics.specs.Lists.{bit, within, count, rising, keep, all, Each, empty, nth, numbered}
-use Rattle.layout.specs.Board.{Board, Valid, namesFit, standing}
+use Rattle.spec_lists.specs.Lists.{bit, within, count, rising, keep, all, Each, empty, nth, numbered}
+use Rattle.spec_table.specs.Board.{Board, Valid, namesFit, standing}
 
 -- "A word is 16 bits, two bytes, low byte first"
 abbrev pub words : List ℕ → List ℕ

@@ -8,23 +8,23 @@ use mathlib.Core.List.{List, [], _∷_, _++_}
 use lib.Dec.{T, eqb}
 use lib.ListN.{length, getD}
 use borrow.Author.Tests.{eq-eqb, ne-eqb}
-use Rattle.basics.specs.Lists.{member, Each, In, empty, nth, change}
-use Rattle.layout.specs.Board.{Board, namesOf, holderOf, stands, put, heldBy, mayHold, namesFit}
-use Rattle.layout.specs.Table.{words, Entry, vacant, filled, holderIn, entryWords, placeOf, entryFor, boardOf, decode, paired, entryFits, Storable}
-use Rattle.basics.proofs.Basics.{cond-le, T-eqb, within-low, within-high, within-both, not-empty, two-elements, each-nth, in-getD, in-nth, nth-within, nth-map, map-change, change-same, member-in}
-use Rattle.layout.proofs.Named.{fit-bench, changed-storable}
-use Rattle.rules.proofs.Paths.{named-may, holder-bench, stands-within, named-stands, named-bench}
-use Rattle.rules.proofs.Flip.{put-valid}
-use Rattle.layout.proofs.Layouts.{kept-entry, holder-entry}
-use Rattle.layout.proofs.Sound.{vacant-words, namesIn, two-paired, entry-tests, layout-pairs, TwoBenches, two-benches, holder-within, holder-record}
-use Rattle.words.specs.Bytes.{laid}
-use Rattle.size.specs.Sizes.{Limits, JobIn, SoundTable, SizeOf}
-use Rattle.size.specs.Written.{recordIn, withHolder, withEntry, Laid}
-use Rattle.records.specs.Records.{entryOf, RecordOf}
-use Rattle.size.proofs.Sizes.{board-job, board-bench}
-use Rattle.records.specs.declared.Record.{Record}
-use Rattle.store.specs.View.{Place, NameOf, Kept, Holds, Fillable, HolderOf}
-use Rattle.size.specs.declared.Size.{Size}
+use Rattle.spec_lists.specs.Lists.{member, Each, In, empty, nth, change}
+use Rattle.spec_table.specs.Board.{Board, namesOf, holderOf, stands, put, heldBy, mayHold, namesFit}
+use Rattle.spec_table.specs.Table.{words, Entry, vacant, filled, holderIn, entryWords, placeOf, entryFor, boardOf, decode, paired, entryFits, Storable}
+use Rattle.spec_lists.proofs.Basics.{cond-le, T-eqb, within-low, within-high, within-both, not-empty, two-elements, each-nth, in-getD, in-nth, nth-within, nth-map, map-change, change-same, member-in}
+use Rattle.spec_table.proofs.Named.{fit-bench, changed-storable}
+use Rattle.spec_sharing.proofs.Paths.{named-may, holder-bench, stands-within, named-stands, named-bench}
+use Rattle.spec_sharing.proofs.Flip.{put-valid}
+use Rattle.spec_table.proofs.Layouts.{kept-entry, holder-entry}
+use Rattle.spec_table.proofs.Sound.{vacant-words, namesIn, two-paired, entry-tests, layout-pairs, TwoBenches, two-benches, holder-within, holder-record}
+use Rattle.table_words.specs.Bytes.{laid}
+use Rattle.table_size.specs.Sizes.{Limits, JobIn, SoundTable, SizeOf}
+use Rattle.table_size.specs.Written.{recordIn, withHolder, withEntry, Laid}
+use Rattle.table_records.specs.Records.{entryOf, RecordOf}
+use Rattle.table_size.proofs.Sizes.{board-job, board-bench}
+use Rattle.table_records.specs.declared.Record.{Record}
+use Rattle.table_board.specs.View.{Place, NameOf, Kept, Holds, Fillable, HolderOf}
+use Rattle.table_size.specs.declared.Size.{Size}
 
 -- a sound table's records hold its board
 pub sound-kept : (t : List ℕ) (s : Size) → SoundTable t s → Kept t s

@@ -8,14 +8,14 @@ use mathlib.Core.List.{List, [], _∷_, map}
 use lib.Dec.{eqb}
 use lib.ListN.{length, getD, take, set, replicate, length-set, length-replicate, getD-replicate}
 use lib.Seq.{length-take-le, take-all, take-suc, getD-set-same, getD-set-other}
-use Rattle.basics.specs.Lists.{bit, rising, nth}
-use Rattle.layout.specs.Board.{Board, load}
-use Rattle.layout.specs.Table.{mostBenches, decode}
-use Rattle.basics.proofs.Basics.{Compared, same, other, compared, values-same}
-use Rattle.layout.proofs.Named.{length-shares}
-use Rattle.basics.proofs.Counting.{bit-same, bit-other, count-most, count-append}
-use Rattle.store.specs.View.{Kept, Loaded}
-use Rattle.size.specs.declared.Size.{Size}
+use Rattle.spec_lists.specs.Lists.{bit, rising, nth}
+use Rattle.spec_table.specs.Board.{Board, load}
+use Rattle.spec_table.specs.Table.{mostBenches, decode}
+use Rattle.spec_lists.proofs.Basics.{Compared, same, other, compared, values-same}
+use Rattle.spec_table.proofs.Named.{length-shares}
+use Rattle.spec_lists.proofs.Counting.{bit-same, bit-other, count-most, count-append}
+use Rattle.table_board.specs.View.{Kept, Loaded}
+use Rattle.table_size.specs.declared.Size.{Size}
 
 -- at each number below n how many of the first `done` jobs it holds
 pub record Counted (n : ℕ) (holders : List ℕ) (done : ℕ) (loads : List ℕ) : Type 0 where

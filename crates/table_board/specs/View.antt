@@ -4,11 +4,11 @@ use mathlib.Core.Path.{_≡_}
 use mathlib.Core.List.{List, map}
 use lib.Dec.{T}
 use lib.ListN.{length, getD}
-use Rattle.basics.specs.Lists.{member, rising, In, nth}
-use Rattle.layout.specs.Board.{Board, namesOf, holderOf, load, namesFit}
-use Rattle.layout.specs.Table.{mostBenches, decode, Storable}
-use Rattle.size.specs.Sizes.{SizeOf, JobIn, BenchIn}
-use Rattle.size.specs.declared.Size.{Size}
+use Rattle.spec_lists.specs.Lists.{member, rising, In, nth}
+use Rattle.spec_table.specs.Board.{Board, namesOf, holderOf, load, namesFit}
+use Rattle.spec_table.specs.Table.{mostBenches, decode, Storable}
+use Rattle.table_size.specs.Sizes.{SizeOf, JobIn, BenchIn}
+use Rattle.table_size.specs.declared.Size.{Size}
 
 -- a table of size s whose records hold a board, whatever its chains are: what a change leaves until the chains are made anew
 pub record Kept (t : List ℕ) (s : Size) : Type 0 where

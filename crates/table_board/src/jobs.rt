@@ -1,15 +1,15 @@
-// The jobs of a board, by their records. A change leaves the chains as they were: see chains::settle.
+// The jobs of a board, by their records. A change leaves the chains as they were: see table_chains::settle.
 ghost use mathlib.Core.Path.{_≡_};
 ghost use mathlib.Core.List.{[]};
 ghost use lib.Dec.{T};
 ghost use lib.ListN.{length};
-ghost use Rattle.basics.specs.Lists.{member, change};
-ghost use Rattle.layout.specs.Board.{namesOf, stands, put, heldBy};
-ghost use Rattle.layout.specs.Table.{decode};
-ghost use Rattle.size.specs.Sizes.{JobIn};
-ghost use Rattle.store.specs.View.{Kept, Place, NameOf, HolderOf, Holds, Fillable};
-use records::Record;
-use size::Size;
+ghost use Rattle.spec_lists.specs.Lists.{member, change};
+ghost use Rattle.spec_table.specs.Board.{namesOf, stands, put, heldBy};
+ghost use Rattle.spec_table.specs.Table.{decode};
+ghost use Rattle.table_size.specs.Sizes.{JobIn};
+ghost use Rattle.table_board.specs.View.{Kept, Place, NameOf, HolderOf, Holds, Fillable};
+use table_records::Record;
+use table_size::Size;
 
 // Whether job j stands.
 pub fn stands(t: &[u8], s: Size, j: usize) -> bool
@@ -17,7 +17,7 @@ pub fn stands(t: &[u8], s: Size, j: usize) -> bool
     requires { ⌜ JobIn s j ⌝ }
     ensures { λ r. ⌜ r ≡ stands (decode (now (t .entry))) j ⌝ }
 {
-    let r = records::read_record(t, s, j);
+    let r = table_records::read_record(t, s, j);
     r.first != 0
 }
 
@@ -36,7 +36,7 @@ pub fn name(t: &[u8], s: Size, j: usize, k: usize) -> usize
     requires { ⌜ Place (namesOf (decode (now t)) j) k ⌝ }
     ensures { λ r. ⌜ NameOf (now (t .entry)) s j k r ⌝ }
 {
-    let r = records::read_record(t, s, j);
+    let r = table_records::read_record(t, s, j);
     if k == 1 { r.first } else { r.second }
 }
 
@@ -46,7 +46,7 @@ pub fn holder(t: &[u8], s: Size, j: usize) -> usize
     requires { ⌜ JobIn s j ⌝ }
     ensures { λ r. ⌜ HolderOf (now (t .entry)) s j r ⌝ }
 {
-    records::holder_at(t, s, j)
+    table_records::holder_at(t, s, j)
 }
 
 // Job j with these benches and this holder.
@@ -58,7 +58,7 @@ pub fn add_job(t: &mut [u8], s: Size, j: usize, names: &[usize], holder: usize)
     let first = names[0];
     let second = names[1];
     let place = if first == holder { 1 } else { 2 };
-    records::write_record(
+    table_records::write_record(
         t,
         s,
         j,
@@ -77,7 +77,7 @@ pub fn remove_job(t: &mut [u8], s: Size, j: usize)
     requires { ⌜ JobIn s j ⌝ }
     ensures { λ _. ⌜ Holds (now (t .exit)) s (put (decode (now (t .entry))) j [] 0) ⌝ }
 {
-    records::write_record(
+    table_records::write_record(
         t,
         s,
         j,
@@ -96,7 +96,7 @@ pub fn set_holder(t: &mut [u8], s: Size, j: usize, x: usize)
     requires { ⌜ T (member x (namesOf (decode (now t)) j)) ⌝ }
     ensures { λ _. ⌜ Holds (now (t .exit)) s (heldBy (decode (now (t .entry))) (change (decode (now (t .entry)) .holders) j x)) ⌝ }
 {
-    let r = records::read_record(t, s, j);
+    let r = table_records::read_record(t, s, j);
     let place = if r.first == x { 1 } else { 2 };
-    records::write_holder(t, s, j, place);
+    table_records::write_holder(t, s, j, place);
 }

@@ -1,11 +1,11 @@
 // The loads of all benches.
 ghost use mathlib.Core.Path.{_≡_};
 ghost use lib.ListN.{replicate};
-ghost use Rattle.layout.specs.Table.{mostBenches, decode};
+ghost use Rattle.spec_table.specs.Table.{mostBenches, decode};
 ghost use Prim.Native.Nat.{_+_};
-ghost use Rattle.store.specs.View.{Kept, Loaded};
+ghost use Rattle.table_board.specs.View.{Kept, Loaded};
 use crate::jobs;
-use size::Size;
+use table_size::Size;
 
 fn clear(loads: &mut [u16; Size::MOST_BENCHES + 1])
     ensures { λ _. ⌜ now (loads .exit) ≡ replicate (mostBenches + 1) 0 ⌝ }

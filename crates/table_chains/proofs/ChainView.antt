@@ -5,26 +5,26 @@ use mathlib.Core.Path.{_≡_, refl, sym, ap, _∙_, subst}
 use mathlib.Core.Logic.{_⊎_, inl, inr, _↔_, _≢_}
 use mathlib.Core.List.{List, [], _∷_}
 use lib.Dec.{T, eqb}
-use Rattle.basics.specs.Lists.{within, different, In, nth, bit, total}
-use Rattle.layout.specs.Board.{holderOf, stands, standing, load}
-use Rattle.layout.specs.Table.{Entry, vacant, follow, chains, decode}
-use Rattle.basics.proofs.Basics.{in-each, in-nth, nth-map, T-eqb, eqb-T, differ, within-both}
-use Rattle.basics.proofs.Counting.{different-count, few, total-tested, count-total}
-use Rattle.layout.proofs.Sound.{Ends, standing-word, chain-ends, on-chain}
-use Rattle.layout.proofs.ChainEnds.{ends-on, ends-next, ends-different}
+use Rattle.spec_lists.specs.Lists.{within, different, In, nth, bit, total}
+use Rattle.spec_table.specs.Board.{holderOf, stands, standing, load}
+use Rattle.spec_table.specs.Table.{Entry, vacant, follow, chains, decode}
+use Rattle.spec_lists.proofs.Basics.{in-each, in-nth, nth-map, T-eqb, eqb-T, differ, within-both}
+use Rattle.spec_lists.proofs.Counting.{different-count, few, total-tested, count-total}
+use Rattle.spec_table.proofs.Sound.{Ends, standing-word, chain-ends, on-chain}
+use Rattle.spec_table.proofs.ChainEnds.{ends-on, ends-next, ends-different}
 use lib.ListN.{length}
-use Rattle.rules.proofs.Paths.{stands-within, holder-bench}
-use Rattle.store.proofs.Boards.{sound-kept, stands-job, stands-held}
-use Rattle.store.proofs.Counts.{holders-long}
-use Rattle.size.proofs.Sizes.{heads-long, board-bench}
-use Rattle.words.specs.Bytes.{laid}
-use Rattle.size.specs.Sizes.{JobIn, BenchIn, SoundTable}
-use Rattle.records.specs.Records.{RecordOf}
-use Rattle.size.specs.Written.{HeadOf}
-use Rattle.records.specs.declared.Record.{Record}
-use Rattle.store.specs.View.{Kept}
-use Rattle.chains.specs.Chains.{chainFrom, ChainOf, NextOf, Rest}
-use Rattle.size.specs.declared.Size.{Size}
+use Rattle.spec_sharing.proofs.Paths.{stands-within, holder-bench}
+use Rattle.table_board.proofs.Boards.{sound-kept, stands-job, stands-held}
+use Rattle.table_board.proofs.Counts.{holders-long}
+use Rattle.table_size.proofs.Sizes.{heads-long, board-bench}
+use Rattle.table_words.specs.Bytes.{laid}
+use Rattle.table_size.specs.Sizes.{JobIn, BenchIn, SoundTable}
+use Rattle.table_records.specs.Records.{RecordOf}
+use Rattle.table_size.specs.Written.{HeadOf}
+use Rattle.table_records.specs.declared.Record.{Record}
+use Rattle.table_board.specs.View.{Kept}
+use Rattle.table_chains.specs.Chains.{chainFrom, ChainOf, NextOf, Rest}
+use Rattle.table_size.specs.declared.Size.{Size}
 
 -- "Next 0 ends a chain"
 pub chain-end : (t : List ℕ) → chainFrom t 0 ≡ []

@@ -9,23 +9,23 @@ use lib.Dec.{eqb}
 use lib.ListN.{length, getD, take, drop, length-drop}
 use lib.Seq.{length-take-le, take-length, drop-length, take-suc, drop-cons, append-snoc, getD-at, set-at, map-set-same}
 use borrow.Author.Tests.{ne-eqb}
-use Rattle.basics.specs.Lists.{bit, rising, keep, empty, nth, change}
-use Rattle.layout.specs.Board.{Board, namesOf, holderOf, standing, stands}
-use Rattle.layout.specs.Table.{Entry, vacant, filled, holderIn, Layout, layoutOf, boardOf, decode, encode, firstHeld, placeOf, entryFor, entriesFrom, bytesOf, flat, Storable}
-use Rattle.basics.proofs.Basics.{eqb-refl, length-keep, nth-rising, values-replicate, change-rising}
-use Rattle.basics.proofs.Counting.{keep-counts}
-use Rattle.layout.proofs.Sound.{namesIn, TwoBenches, holder-within, holder-record}
-use Rattle.layout.proofs.Encode.{encode-sound, decode-encode}
-use Rattle.words.specs.Bytes.{laid}
-use Rattle.size.specs.Sizes.{SizeOf, JobIn, BenchIn}
-use Rattle.size.specs.Written.{HeadOf, withHead, withEntry, withStanding, Laid, withNext, cleared}
-use Rattle.store.specs.View.{Kept, HolderOf}
-use Rattle.chains.specs.Chains.{Settled, pushAt, pushFor, pushed, pushedFrom, Pushed, Linked}
-use Rattle.size.specs.declared.Size.{Size}
-use Rattle.words.proofs.Bytes.{bytesOf-words}
-use Rattle.size.proofs.Sizes.{entries-long}
-use Rattle.size.proofs.Written.{withBoth, flat-laid}
-use Rattle.store.proofs.Boards.{Standing, kept-record, stands-held}
+use Rattle.spec_lists.specs.Lists.{bit, rising, keep, empty, nth, change}
+use Rattle.spec_table.specs.Board.{Board, namesOf, holderOf, standing, stands}
+use Rattle.spec_table.specs.Table.{Entry, vacant, filled, holderIn, Layout, layoutOf, boardOf, decode, encode, firstHeld, placeOf, entryFor, entriesFrom, bytesOf, flat, Storable}
+use Rattle.spec_lists.proofs.Basics.{eqb-refl, length-keep, nth-rising, values-replicate, change-rising}
+use Rattle.spec_lists.proofs.Counting.{keep-counts}
+use Rattle.spec_table.proofs.Sound.{namesIn, TwoBenches, holder-within, holder-record}
+use Rattle.spec_table.proofs.Encode.{encode-sound, decode-encode}
+use Rattle.table_words.specs.Bytes.{laid}
+use Rattle.table_size.specs.Sizes.{SizeOf, JobIn, BenchIn}
+use Rattle.table_size.specs.Written.{HeadOf, withHead, withEntry, withStanding, Laid, withNext, cleared}
+use Rattle.table_board.specs.View.{Kept, HolderOf}
+use Rattle.table_chains.specs.Chains.{Settled, pushAt, pushFor, pushed, pushedFrom, Pushed, Linked}
+use Rattle.table_size.specs.declared.Size.{Size}
+use Rattle.table_words.proofs.Bytes.{bytesOf-words}
+use Rattle.table_size.proofs.Sizes.{entries-long}
+use Rattle.table_size.proofs.Written.{withBoth, flat-laid}
+use Rattle.table_board.proofs.Boards.{Standing, kept-record, stands-held}
 
 -- a standing job's record: "two different benches of 1 to B and holder 1 or 2"
 

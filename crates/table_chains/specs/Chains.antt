@@ -2,17 +2,17 @@
 use Prim.Native.Nat.{ℕ, zero, suc, _≤_}
 use mathlib.Core.Path.{_≡_}
 use mathlib.Core.List.{List, _∷_}
-use Rattle.basics.specs.Lists.{bit, nth, In, different}
-use Rattle.layout.specs.Board.{stands, standing, holderOf}
-use Rattle.layout.specs.Table.{Layout, vacant, holderIn, decode, encode, follow}
-use Rattle.words.specs.Bytes.{laid}
-use Rattle.size.specs.Written.{withHead, withEntry, withNext}
-use Rattle.size.specs.declared.Size.{Size}
-use Rattle.store.specs.View.{Kept}
+use Rattle.spec_lists.specs.Lists.{bit, nth, In, different}
+use Rattle.spec_table.specs.Board.{stands, standing, holderOf}
+use Rattle.spec_table.specs.Table.{Layout, vacant, holderIn, decode, encode, follow}
+use Rattle.table_words.specs.Bytes.{laid}
+use Rattle.table_size.specs.Written.{withHead, withEntry, withNext}
+use Rattle.table_size.specs.declared.Size.{Size}
+use Rattle.table_board.specs.View.{Kept}
 use mathlib.Core.Logic.{_↔_}
 use lib.Dec.{T}
 use lib.ListN.{length}
-use Rattle.size.specs.Sizes.{SoundTable}
+use Rattle.table_size.specs.Sizes.{SoundTable}
 
 -- the jobs on a chain from job j on
 unfoldable pub chainFrom : List ℕ → ℕ → List ℕ

@@ -1,21 +1,21 @@
 // Chains: the jobs that a bench holds, one after the other.
 ghost use mathlib.Core.Path.{_≡_};
 ghost use lib.Dec.{T};
-ghost use Rattle.layout.specs.Board.{stands, standing};
-ghost use Rattle.layout.specs.Table.{decode};
-ghost use Rattle.size.specs.Sizes.{JobIn, BenchIn, SoundTable};
-ghost use Rattle.store.specs.View.{Kept};
-ghost use Rattle.chains.specs.Chains.{ChainOf, NextOf, Settled, Pushed, Linked};
-use header::heads;
-use size::Size;
-use store::jobs;
+ghost use Rattle.spec_table.specs.Board.{stands, standing};
+ghost use Rattle.spec_table.specs.Table.{decode};
+ghost use Rattle.table_size.specs.Sizes.{JobIn, BenchIn, SoundTable};
+ghost use Rattle.table_board.specs.View.{Kept};
+ghost use Rattle.table_chains.specs.Chains.{ChainOf, NextOf, Settled, Pushed, Linked};
+use table_header::heads;
+use table_size::Size;
+use table_board::jobs;
 
 // The number of standing jobs.
 pub fn standing(t: &[u8], s: Size) -> usize
     requires { ⌜ SoundTable (now t) s ⌝ }
     ensures { λ r. ⌜ r ≡ standing (decode (now (t .entry))) ⌝ }
 {
-    header::standing_word(t, s)
+    table_header::standing_word(t, s)
 }
 
 // The first job on bench x's chain, 0 for none.
@@ -33,7 +33,7 @@ pub fn next(t: &[u8], s: Size, j: usize) -> usize
     requires { ⌜ T (stands (decode (now t)) j) ⌝ }
     ensures { λ r. ⌜ NextOf (now (t .entry)) j r ⌝ }
 {
-    let r = records::read_record(t, s, j);
+    let r = table_records::read_record(t, s, j);
     r.next
 }
 
@@ -48,7 +48,7 @@ fn push(t: &mut [u8], s: Size, j: usize) -> usize
         return 0;
     }
     let behind = heads::head(t, s, x);
-    records::write_next(t, s, j, behind);
+    table_records::write_next(t, s, j, behind);
     heads::write_head(t, s, x, j);
     1
 }
@@ -74,5 +74,5 @@ pub fn settle(t: &mut [u8], s: Size)
 {
     heads::clear_heads(t, s);
     let count = push_all(t, s);
-    header::write_standing(t, s, count);
+    table_header::write_standing(t, s, count);
 }

@@ -2,22 +2,22 @@
 use Prim.Native.Nat.{ℕ}
 use mathlib.Core.Path.{_≡_, refl, sym, ap, _∙_}
 use mathlib.Core.Bool.{Bool, true, false, cond, _&&_}
-use Rattle.calls.specs.Answers.{sizes, unsound, isSound, refused}
-use Rattle.calls.specs.Calls.{outcome, formCheck}
-use Rattle.calls.proofs.Questions.{form-check}
+use Rattle.spec_calls.specs.Answers.{sizes, unsound, isSound, refused}
+use Rattle.spec_calls.specs.Calls.{outcome, formCheck}
+use Rattle.spec_calls.proofs.Questions.{form-check}
 use lib.Dec.{T}
 use mathlib.Core.List.{List}
-use Rattle.layout.specs.Table.{formed, fits, sound}
-use Rattle.basics.proofs.Basics.{true→T, T→true}
-use Rattle.layout.proofs.Sound.{sound-storable}
-use Rattle.words.specs.Bytes.{laid}
-use Rattle.size.specs.Sizes.{fitIf, sizeIn}
-use Rattle.size.specs.declared.Size.{Size}
-use Rattle.size.specs.declared.Sizing.the-variants.{Fit, Misfit}
-use Rattle.size.proofs.Sizes.{size-of, fit-size}
-use Rattle.form.specs.View.{answerOf, formIf, formIn, Checked, Answered}
-use Rattle.form.specs.declared.Form.{Form}
-use Rattle.form.specs.declared.Form.the-variants.{Sizes}
+use Rattle.spec_table.specs.Table.{formed, fits, sound}
+use Rattle.spec_lists.proofs.Basics.{true→T, T→true}
+use Rattle.spec_table.proofs.Sound.{sound-storable}
+use Rattle.table_words.specs.Bytes.{laid}
+use Rattle.table_size.specs.Sizes.{fitIf, sizeIn}
+use Rattle.table_size.specs.declared.Size.{Size}
+use Rattle.table_size.specs.declared.Sizing.the-variants.{Fit, Misfit}
+use Rattle.table_size.proofs.Sizes.{size-of, fit-size}
+use Rattle.table_form.specs.View.{answerOf, formIf, formIn, Checked, Answered}
+use Rattle.table_form.specs.declared.Form.{Form}
+use Rattle.table_form.specs.declared.Form.the-variants.{Sizes}
 
 -- each answer says what holds of the table
 checked : (t : List ℕ) (f : Form) → f ≡ formIn t → Checked t f

@@ -8,19 +8,19 @@ use mathlib.Core.List.{List, [], _∷_, _++_, map, flatMap}
 use lib.Dec.{T, eqb}
 use lib.ListN.{length, length-append, length-map}
 use borrow.Author.Tests.{eq-eqb}
-use Rattle.basics.specs.Lists.{bit, count, different, rising, total, all, In, nth, numbered}
-use Rattle.layout.specs.Table.{Entry, vacant, filled, holderIn, Layout, follow, chains, standingIn, entryFits, placed, formed}
-use Rattle.basics.proofs.Basics.{true→T, never→false, both, left, right, tests-same, Compared, same, other, compared, T-eqb, eqb-T, within-low, within-high, in-nth, in-numbered, in-flatMap, rising-low, bench-listed, Member, is-in, not-in, membered, rising-different}
-use Rattle.layout.proofs.Named.{fit-bench}
-use Rattle.basics.proofs.Counting.{bit-same, bit-other, bit-le, count-none, count-some, count-append, different-count, total-first, total-most, total-same, total-tight, total-count}
-use Rattle.layout.proofs.Sound.{filled-within, filled-in, filled-each, Formed, formed-is, formed-back, entry-tests, not-held, Ends, standingFrom, standing-first, formed-own, own-few}
-use Rattle.layout.proofs.ChainEnds.{after, ends-different}
-use Rattle.kinds.specs.Kinds.{counted}
-use Rattle.kinds.specs.declared.Seen.{Seen}
-use Rattle.kinds.specs.declared.Seen.the-variants.{Jobs, Broken}
-use Rattle.kinds.proofs.Counted.{AllFit, counted-seen, fit-counted}
-use Rattle.form.specs.Walks.{onlyIf, walked, allWalked}
-use Rattle.form.proofs.Walking.{all-broken}
+use Rattle.spec_lists.specs.Lists.{bit, count, different, rising, total, all, In, nth, numbered}
+use Rattle.spec_table.specs.Table.{Entry, vacant, filled, holderIn, Layout, follow, chains, standingIn, entryFits, placed, formed}
+use Rattle.spec_lists.proofs.Basics.{true→T, never→false, both, left, right, tests-same, Compared, same, other, compared, T-eqb, eqb-T, within-low, within-high, in-nth, in-numbered, in-flatMap, rising-low, bench-listed, Member, is-in, not-in, membered, rising-different}
+use Rattle.spec_table.proofs.Named.{fit-bench}
+use Rattle.spec_lists.proofs.Counting.{bit-same, bit-other, bit-le, count-none, count-some, count-append, different-count, total-first, total-most, total-same, total-tight, total-count}
+use Rattle.spec_table.proofs.Sound.{filled-within, filled-in, filled-each, Formed, formed-is, formed-back, entry-tests, not-held, Ends, standingFrom, standing-first, formed-own, own-few}
+use Rattle.spec_table.proofs.ChainEnds.{after, ends-different}
+use Rattle.table_record_form.specs.Kinds.{counted}
+use Rattle.table_record_form.specs.declared.Seen.{Seen}
+use Rattle.table_record_form.specs.declared.Seen.the-variants.{Jobs, Broken}
+use Rattle.table_record_form.proofs.Counted.{AllFit, counted-seen, fit-counted}
+use Rattle.table_form.specs.Walks.{onlyIf, walked, allWalked}
+use Rattle.table_form.proofs.Walking.{all-broken}
 
 -- a layout with a record for each job number and a head for each bench
 pub record Whole (l : Layout) : Type 0 where

@@ -9,10 +9,10 @@ use lib.Dec.{eqb}
 use lib.ListN.{length, getD, drop, drop-of-length-le, List·getD-eq-default}
 use lib.Seq.{drop-cons}
 use borrow.Author.Tests.{ne-eqb}
-use Rattle.basics.specs.Lists.{nth}
-use Rattle.layout.specs.Table.{Entry, vacant, holderIn}
-use Rattle.kinds.specs.declared.Seen.the-variants.{Jobs, Broken}
-use Rattle.form.specs.Walks.{onlyIf, walked, allWalked}
+use Rattle.spec_lists.specs.Lists.{nth}
+use Rattle.spec_table.specs.Table.{Entry, vacant, holderIn}
+use Rattle.table_record_form.specs.declared.Seen.the-variants.{Jobs, Broken}
+use Rattle.table_form.specs.Walks.{onlyIf, walked, allWalked}
 
 -- one chain
 

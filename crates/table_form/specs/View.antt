@@ -3,14 +3,14 @@ use mathlib.Core.Path.{_≡_}
 use mathlib.Core.Bool.{Bool, true, false}
 use mathlib.Core.List.{List}
 use Prim.Native.Nat.{ℕ}
-use Rattle.layout.specs.Table.{fits, sound}
-use Rattle.calls.specs.Answers.{Answer, sizes, unsound, isSound, refused}
-use Rattle.calls.specs.Calls.{outcome, formCheck}
-use Rattle.size.specs.Sizes.{sizeIn, SoundTable}
-use Rattle.size.specs.declared.Sizing.{Sizing}
-use Rattle.size.specs.declared.Sizing.the-variants.{Fit, Misfit}
-use Rattle.form.specs.declared.Form.{Form}
-use Rattle.form.specs.declared.Form.the-variants.{Sizes, Unsound, Sound}
+use Rattle.spec_table.specs.Table.{fits, sound}
+use Rattle.spec_calls.specs.Answers.{Answer, sizes, unsound, isSound, refused}
+use Rattle.spec_calls.specs.Calls.{outcome, formCheck}
+use Rattle.table_size.specs.Sizes.{sizeIn, SoundTable}
+use Rattle.table_size.specs.declared.Sizing.{Sizing}
+use Rattle.table_size.specs.declared.Sizing.the-variants.{Fit, Misfit}
+use Rattle.table_form.specs.declared.Form.{Form}
+use Rattle.table_form.specs.declared.Form.the-variants.{Sizes, Unsound, Sound}
 
 -- each case as document 01's answer: refusal 1, refusal 2, or sound
 abbrev pub answerOf : Form → Answer

@@ -3,10 +3,10 @@ use Prim.Native.Nat.{ℕ, zero, suc}
 use mathlib.Core.Bool.{Bool, true, false}
 use mathlib.Core.List.{List, [], _∷_}
 use lib.Dec.{eqb}
-use Rattle.basics.specs.Lists.{nth}
-use Rattle.layout.specs.Table.{Entry, vacant, holderIn}
-use Rattle.kinds.specs.declared.Seen.{Seen}
-use Rattle.kinds.specs.declared.Seen.the-variants.{Jobs, Broken}
+use Rattle.spec_lists.specs.Lists.{nth}
+use Rattle.spec_table.specs.Table.{Entry, vacant, holderIn}
+use Rattle.table_record_form.specs.declared.Seen.{Seen}
+use Rattle.table_record_form.specs.declared.Seen.the-variants.{Jobs, Broken}
 
 -- the same where the test passes
 abbrev pub onlyIf : Bool → Seen → Seen

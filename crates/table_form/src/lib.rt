@@ -1,15 +1,15 @@
 // The form check: refusal 1, refusal 2, or sound, for any bytes. One pass over the records (`kinds`), one walk along the chains.
 ghost use mathlib.Core.Path.{_≡_};
-ghost use Rattle.basics.specs.Lists.{nth};
-ghost use Rattle.layout.specs.Table.{formed};
-ghost use Rattle.words.specs.Bytes.{laid};
-ghost use Rattle.size.specs.Sizes.{SizeOf, BenchIn};
-ghost use Rattle.form.specs.Walks.{walked, allWalked};
-ghost use Rattle.form.specs.View.{Answered};
-use header::heads;
-use kinds::Seen;
-use size::Size;
-use size::Sizing;
+ghost use Rattle.spec_lists.specs.Lists.{nth};
+ghost use Rattle.spec_table.specs.Table.{formed};
+ghost use Rattle.table_words.specs.Bytes.{laid};
+ghost use Rattle.table_size.specs.Sizes.{SizeOf, BenchIn};
+ghost use Rattle.table_form.specs.Walks.{walked, allWalked};
+ghost use Rattle.table_form.specs.View.{Answered};
+use table_header::heads;
+use table_record_form::Seen;
+use table_size::Size;
+use table_size::Sizing;
 
 // What the form check answers.
 pub enum Form {
@@ -33,11 +33,11 @@ fn walk(t: &[u8], s: Size, x: usize, left: usize) -> Seen
         if left == 0 || jobs < j {
             return Seen::Broken;
         }
-        if records::holder_at(t, s, j) != x {
+        if table_records::holder_at(t, s, j) != x {
             return Seen::Broken;
         }
         left -= 1;
-        j = records::read_record(t, s, j).next;
+        j = table_records::read_record(t, s, j).next;
     }
     Seen::Jobs(left)
 }
@@ -65,13 +65,13 @@ fn is_formed(t: &[u8], s: Size) -> bool
     requires { ⌜ SizeOf (now t) s ⌝ }
     ensures { λ r. ⌜ r ≡ formed (laid (now (t .entry))) ⌝ }
 {
-    if header::spare_word(t, s) != 0 {
+    if table_header::spare_word(t, s) != 0 {
         return false;
     }
-    match kinds::count_records(t, s) {
+    match table_record_form::count_records(t, s) {
         Seen::Broken => false,
         Seen::Jobs(count) => {
-            if header::standing_word(t, s) != count {
+            if table_header::standing_word(t, s) != count {
                 return false;
             }
             walk_all(t, s, count)

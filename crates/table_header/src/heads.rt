@@ -1,9 +1,9 @@
 // Word 3 + x: the first job on the chain of bench x, 0 for none.
 ghost use Prim.Native.Nat.{_<_};
-ghost use Rattle.words.specs.Bytes.{laid};
-ghost use Rattle.size.specs.Sizes.{SizeOf, BenchIn};
-ghost use Rattle.size.specs.Written.{HeadOf, Laid, withHead, cleared};
-use size::Size;
+ghost use Rattle.table_words.specs.Bytes.{laid};
+ghost use Rattle.table_size.specs.Sizes.{SizeOf, BenchIn};
+ghost use Rattle.table_size.specs.Written.{HeadOf, Laid, withHead, cleared};
+use table_size::Size;
 
 // The first job on bench x's chain.
 pub fn head(t: &[u8], s: Size, x: usize) -> usize
@@ -11,7 +11,7 @@ pub fn head(t: &[u8], s: Size, x: usize) -> usize
     requires { ⌜ BenchIn s x ⌝ }
     ensures { λ r. ⌜ HeadOf (now (t .entry)) x r ⌝ }
 {
-    words::read(t, 3 + x)
+    table_words::read(t, 3 + x)
 }
 
 // Another first job on bench x's chain.
@@ -21,7 +21,7 @@ pub fn write_head(t: &mut [u8], s: Size, x: usize, j: usize)
     requires { ⌜ j < 65536 ⌝ }
     ensures { λ _. ⌜ Laid (now (t .exit)) s (withHead (laid (now (t .entry))) x j) ⌝ }
 {
-    words::write(t, 3 + x, j);
+    table_words::write(t, 3 + x, j);
 }
 
 // No chain has a job.
@@ -30,5 +30,5 @@ pub fn clear_heads(t: &mut [u8], s: Size)
     ensures { λ _. ⌜ Laid (now (t .exit)) s (cleared (laid (now (t .entry)))) ⌝ }
 {
     let end = 8 + 2 * s.benches();
-    words::clear(&mut t[8..end]);
+    table_words::clear(&mut t[8..end]);
 }

@@ -3,12 +3,12 @@ ghost use mathlib.Core.Path.{_≡_};
 ghost use mathlib.Core.Bool.{cond};
 ghost use Prim.Native.Nat.{_<_};
 ghost use lib.ListN.{length};
-ghost use Rattle.layout.specs.Table.{sizesFit, blankTable};
-ghost use Rattle.words.specs.Bytes.{laid};
-ghost use Rattle.size.specs.Sizes.{SizeOf};
-ghost use Rattle.size.specs.Written.{Laid, withStanding};
-use size::Size;
-use size::Sizing;
+ghost use Rattle.spec_table.specs.Table.{sizesFit, blankTable};
+ghost use Rattle.table_words.specs.Bytes.{laid};
+ghost use Rattle.table_size.specs.Sizes.{SizeOf};
+ghost use Rattle.table_size.specs.Written.{Laid, withStanding};
+use table_size::Size;
+use table_size::Sizing;
 
 pub mod heads;
 
@@ -17,7 +17,7 @@ pub fn standing_word(t: &[u8], s: Size) -> usize
     requires { ⌜ SizeOf (now t) s ⌝ }
     ensures { λ r. ⌜ r ≡ laid (now (t .entry)) .standing ⌝ }
 {
-    words::read(t, 2)
+    table_words::read(t, 2)
 }
 
 // Word 3.
@@ -25,7 +25,7 @@ pub fn spare_word(t: &[u8], s: Size) -> usize
     requires { ⌜ SizeOf (now t) s ⌝ }
     ensures { λ r. ⌜ r ≡ laid (now (t .entry)) .spare ⌝ }
 {
-    words::read(t, 3)
+    table_words::read(t, 3)
 }
 
 // The number of standing jobs written anew, and 0 after it.
@@ -34,8 +34,8 @@ pub fn write_standing(t: &mut [u8], s: Size, count: usize)
     requires { ⌜ count < 65536 ⌝ }
     ensures { λ _. ⌜ Laid (now (t .exit)) s (withStanding (laid (now (t .entry))) count) ⌝ }
 {
-    words::write(t, 2, count);
-    words::write(t, 3, 0);
+    table_words::write(t, 2, count);
+    table_words::write(t, 3, 0);
 }
 
 // A table without jobs, whatever the bytes were; false, and no byte changed, where the sizes do not fit.
@@ -49,9 +49,9 @@ pub fn blank(t: &mut [u8], benches: usize, jobs: usize) -> bool
             if t.len() != s.bytes() {
                 return false;
             }
-            words::clear(t);
-            words::write(t, 0, benches);
-            words::write(t, 1, jobs);
+            table_words::clear(t);
+            table_words::write(t, 0, benches);
+            table_words::write(t, 1, jobs);
             true
         }
     }

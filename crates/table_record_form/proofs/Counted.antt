@@ -9,12 +9,12 @@ use mathlib.Core.List.{List, [], _∷_}
 use lib.Dec.{T}
 use lib.ListN.{length, drop, drop-of-length-le}
 use lib.Seq.{drop-cons}
-use Rattle.basics.specs.Lists.{bit, In, nth}
-use Rattle.layout.specs.Table.{Entry, vacant, filled, entryFits}
-use Rattle.basics.proofs.Basics.{true→T}
-use Rattle.layout.proofs.Sound.{standingFrom, standing-first}
-use Rattle.kinds.specs.Kinds.{kindIf, kindOf, byKind, counted}
-use Rattle.kinds.specs.declared.Seen.the-variants.{Jobs, Broken}
+use Rattle.spec_lists.specs.Lists.{bit, In, nth}
+use Rattle.spec_table.specs.Table.{Entry, vacant, filled, entryFits}
+use Rattle.spec_lists.proofs.Basics.{true→T}
+use Rattle.spec_table.proofs.Sound.{standingFrom, standing-first}
+use Rattle.table_record_form.specs.Kinds.{kindIf, kindOf, byKind, counted}
+use Rattle.table_record_form.specs.declared.Seen.the-variants.{Jobs, Broken}
 
 -- the records one by one
 

@@ -4,15 +4,15 @@ use mathlib.Core.Path.{_≡_, refl, sym, ap, _∙_}
 use mathlib.Core.Logic.{_≢_}
 use mathlib.Core.Bool.{Bool, true, false}
 use lib.Dec.{T}
-use Rattle.basics.specs.Lists.{Each}
-use Rattle.layout.specs.Table.{filled, entryFits, entryWords}
-use Rattle.basics.proofs.Basics.{T→true, never→false, within-low, within-high, within-both}
-use Rattle.layout.proofs.Named.{pair-fits}
-use Rattle.layout.proofs.Sound.{vacant-words, zero-words, entry-tests}
-use Rattle.records.specs.Records.{entryOf}
-use Rattle.records.specs.declared.Record.{Record}
-use Rattle.kinds.specs.Kinds.{kindIf, kindOf}
-use Rattle.kinds.specs.declared.Kind.the-variants.{Vacant, Fitting, Unfit}
+use Rattle.spec_lists.specs.Lists.{Each}
+use Rattle.spec_table.specs.Table.{filled, entryFits, entryWords}
+use Rattle.spec_lists.proofs.Basics.{T→true, never→false, within-low, within-high, within-both}
+use Rattle.spec_table.proofs.Named.{pair-fits}
+use Rattle.spec_table.proofs.Sound.{vacant-words, zero-words, entry-tests}
+use Rattle.table_records.specs.Records.{entryOf}
+use Rattle.table_records.specs.declared.Record.{Record}
+use Rattle.table_record_form.specs.Kinds.{kindIf, kindOf}
+use Rattle.table_record_form.specs.declared.Kind.the-variants.{Vacant, Fitting, Unfit}
 
 -- "four zero words"
 abbrev pub AllZero : Record → Type 0

@@ -2,11 +2,11 @@
 use Prim.Native.Nat.{ℕ, suc}
 use mathlib.Core.Bool.{Bool, true, false}
 use mathlib.Core.List.{List, [], _∷_}
-use Rattle.layout.specs.Table.{Entry, filled, entryFits}
-use Rattle.kinds.specs.declared.Kind.{Kind}
-use Rattle.kinds.specs.declared.Kind.the-variants.{Vacant, Fitting, Unfit}
-use Rattle.kinds.specs.declared.Seen.{Seen}
-use Rattle.kinds.specs.declared.Seen.the-variants.{Jobs, Broken}
+use Rattle.spec_table.specs.Table.{Entry, filled, entryFits}
+use Rattle.table_record_form.specs.declared.Kind.{Kind}
+use Rattle.table_record_form.specs.declared.Kind.the-variants.{Vacant, Fitting, Unfit}
+use Rattle.table_record_form.specs.declared.Seen.{Seen}
+use Rattle.table_record_form.specs.declared.Seen.the-variants.{Jobs, Broken}
 
 -- a record by the tests of a standing job's record
 abbrev pub kindIf : Bool → Bool → Kind

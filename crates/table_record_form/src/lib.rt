@@ -1,11 +1,11 @@
 // What each record of a table is, and the form check's pass over the records: the number of standing jobs.
 ghost use mathlib.Core.Path.{_≡_};
-ghost use Rattle.words.specs.Bytes.{laid};
-ghost use Rattle.size.specs.Sizes.{SizeOf};
-ghost use Rattle.records.specs.Records.{entryOf};
-ghost use Rattle.kinds.specs.Kinds.{kindOf, counted};
-use records::Record;
-use size::Size;
+ghost use Rattle.table_words.specs.Bytes.{laid};
+ghost use Rattle.table_size.specs.Sizes.{SizeOf};
+ghost use Rattle.table_records.specs.Records.{entryOf};
+ghost use Rattle.table_record_form.specs.Kinds.{kindOf, counted};
+use table_records::Record;
+use table_size::Size;
 
 // What a record is.
 enum Kind {
@@ -50,7 +50,7 @@ pub fn count_records(t: &[u8], s: Size) -> Seen
     let mut count = 0;
     let mut done = 0;
     while done < jobs {
-        match kind_of(benches, records::read_record(t, s, done + 1)) {
+        match kind_of(benches, table_records::read_record(t, s, done + 1)) {
             Kind::Unfit => return Seen::Broken,
             Kind::Fitting => count += 1,
             Kind::Vacant => {}

@@ -2,9 +2,9 @@
 use Prim.Native.Nat.{ℕ, _<_}
 use mathlib.Core.Path.{_≡_}
 use mathlib.Core.List.{List, [], _∷_}
-use Rattle.layout.specs.Table.{Entry}
-use Rattle.records.specs.declared.Record.{Record}
-use Rattle.size.specs.Written.{recordIn}
+use Rattle.spec_table.specs.Table.{Entry}
+use Rattle.table_records.specs.declared.Record.{Record}
+use Rattle.table_size.specs.Written.{recordIn}
 
 -- the record that the code holds
 abbrev pub entryOf : Record → Entry

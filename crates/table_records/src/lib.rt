@@ -1,12 +1,12 @@
 // Jobs' records: words B + 4 × j and the next three are job j's, which is 4 + B + 4 × (j − 1).
 ghost use mathlib.Core.Path.{_≡_};
 ghost use Prim.Native.Nat.{_+_, _*_, _<_};
-ghost use Rattle.layout.specs.Table.{holderIn};
-ghost use Rattle.words.specs.Bytes.{laid};
-ghost use Rattle.size.specs.Sizes.{Limits, SizeOf, JobIn};
-ghost use Rattle.size.specs.Written.{recordIn, Laid, withEntry, withHolder, withNext};
-ghost use Rattle.records.specs.Records.{entryOf, Small, RecordOf};
-use size::Size;
+ghost use Rattle.spec_table.specs.Table.{holderIn};
+ghost use Rattle.table_words.specs.Bytes.{laid};
+ghost use Rattle.table_size.specs.Sizes.{Limits, SizeOf, JobIn};
+ghost use Rattle.table_size.specs.Written.{recordIn, Laid, withEntry, withHolder, withNext};
+ghost use Rattle.table_records.specs.Records.{entryOf, Small, RecordOf};
+use table_size::Size;
 
 // "First bench, second bench, holder (1 first-named, 2 second-named), next job on the chain."
 pub struct Record {
@@ -32,10 +32,10 @@ pub fn read_record(t: &[u8], s: Size, j: usize) -> Record
     ensures { λ r. ⌜ RecordOf (now (t .entry)) j r ⌝ }
 {
     let at = record_at(s, j);
-    let first = words::read(t, at);
-    let second = words::read(t, at + 1);
-    let holder = words::read(t, at + 2);
-    let next = words::read(t, at + 3);
+    let first = table_words::read(t, at);
+    let second = table_words::read(t, at + 1);
+    let holder = table_words::read(t, at + 2);
+    let next = table_words::read(t, at + 3);
     Record {
         first,
         second,
@@ -52,11 +52,11 @@ pub fn holder_at(t: &[u8], s: Size, j: usize) -> usize
     ensures { λ r. ⌜ r ≡ holderIn (recordIn (now (t .entry)) j) ⌝ }
 {
     let at = record_at(s, j);
-    let place = words::read(t, at + 2);
+    let place = table_words::read(t, at + 2);
     if place < 1 || 2 < place {
         return 0;
     }
-    words::read(t, at + place - 1)
+    table_words::read(t, at + place - 1)
 }
 
 // Job j's record written anew.
@@ -67,10 +67,10 @@ pub fn write_record(t: &mut [u8], s: Size, j: usize, r: Record)
     ensures { λ _. ⌜ Laid (now (t .exit)) s (withEntry (laid (now (t .entry))) j (entryOf r)) ⌝ }
 {
     let at = record_at(s, j);
-    words::write(t, at, r.first);
-    words::write(t, at + 1, r.second);
-    words::write(t, at + 2, r.holder);
-    words::write(t, at + 3, r.next);
+    table_words::write(t, at, r.first);
+    table_words::write(t, at + 1, r.second);
+    table_words::write(t, at + 2, r.holder);
+    table_words::write(t, at + 3, r.next);
 }
 
 // Another holder word in job j's record.
@@ -80,7 +80,7 @@ pub fn write_holder(t: &mut [u8], s: Size, j: usize, holder: usize)
     requires { ⌜ holder < 65536 ⌝ }
     ensures { λ _. ⌜ Laid (now (t .exit)) s (withEntry (laid (now (t .entry))) j (withHolder (recordIn (now (t .entry)) j) holder)) ⌝ }
 {
-    words::write(t, record_at(s, j) + 2, holder);
+    table_words::write(t, record_at(s, j) + 2, holder);
 }
 
 // Another next word in job j's record.
@@ -90,5 +90,5 @@ pub fn write_next(t: &mut [u8], s: Size, j: usize, next: usize)
     requires { ⌜ next < 65536 ⌝ }
     ensures { λ _. ⌜ Laid (now (t .exit)) s (withEntry (laid (now (t .entry))) j (withNext (recordIn (now (t .entry)) j) next)) ⌝ }
 {
-    words::write(t, record_at(s, j) + 3, next);
+    table_words::write(t, record_at(s, j) + 3, next);
 }

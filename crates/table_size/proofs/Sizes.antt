@@ -7,15 +7,15 @@ use mathlib.Core.List.{List}
 use lib.Dec.{T}
 use lib.ListN.{length, getD, length-map}
 use borrow.Author.Tests.{le-leb}
-use Rattle.basics.specs.Lists.{within}
-use Rattle.layout.specs.Table.{words, lengthFor, mostBenches, mostJobs, sizesFit, fits, layout, boardOf, decode}
-use Rattle.basics.proofs.Basics.{true→T, T→true, never→false, left, right, within-low, within-high, within-both}
-use Rattle.layout.proofs.Words.{within-fit}
-use Rattle.layout.proofs.Sound.{length-words, misfit, short-refused, fits-sized, fits-heads, fits-entries}
-use Rattle.words.specs.Bytes.{laid}
-use Rattle.size.specs.Sizes.{Limits, SizeOf, JobIn, BenchIn, fitIf, sizing, sizeIn, SoundTable}
-use Rattle.size.specs.declared.Size.{Size}
-use Rattle.size.specs.declared.Sizing.the-variants.{Fit, Misfit}
+use Rattle.spec_lists.specs.Lists.{within}
+use Rattle.spec_table.specs.Table.{words, lengthFor, mostBenches, mostJobs, sizesFit, fits, layout, boardOf, decode}
+use Rattle.spec_lists.proofs.Basics.{true→T, T→true, never→false, left, right, within-low, within-high, within-both}
+use Rattle.spec_table.proofs.Words.{within-fit}
+use Rattle.spec_table.proofs.Sound.{length-words, misfit, short-refused, fits-sized, fits-heads, fits-entries}
+use Rattle.table_words.specs.Bytes.{laid}
+use Rattle.table_size.specs.Sizes.{Limits, SizeOf, JobIn, BenchIn, fitIf, sizing, sizeIn, SoundTable}
+use Rattle.table_size.specs.declared.Size.{Size}
+use Rattle.table_size.specs.declared.Sizing.the-variants.{Fit, Misfit}
 
 -- numbers of benches and jobs
 

@@ -6,17 +6,17 @@ use mathlib.Core.Logic.{_⊎_, ⊎-elim}
 use mathlib.Core.List.{List, [], _∷_, _++_, flatMap}
 use lib.ListN.{length, getD, set, take, drop, replicate, length-append, length-take, length-drop, length-replicate, take-append-drop}
 use lib.Seq.{take-set-le, take-set-lt, drop-set-lt, drop-set-add, getD-set-other, take-at, drop-at, drop-append-add}
-use Rattle.basics.specs.Lists.{nth, change}
-use Rattle.layout.specs.Table.{words, Entry, vacant, holderIn, entriesIn, entryWords, Layout, layout, flat}
-use Rattle.basics.proofs.Basics.{nth-change-same, change-again, each-replicate}
-use Rattle.layout.proofs.Words.{words-append}
-use Rattle.layout.proofs.Sound.{two-more, length-words, entryFrom, head-at, entry-at}
-use Rattle.words.specs.Bytes.{IsWord, setWord, laid}
-use Rattle.size.specs.Sizes.{SizeOf, JobIn, BenchIn}
-use Rattle.size.specs.Written.{HeadOf, withNext, withHead, cleared, withEntry, withStanding, Laid}
-use Rattle.size.specs.declared.Size.{Size}
-use Rattle.words.proofs.Bytes.{words-setWord, length-setWord, zero-bytes}
-use Rattle.size.proofs.Sizes.{size-kept, words-long, entries-long}
+use Rattle.spec_lists.specs.Lists.{nth, change}
+use Rattle.spec_table.specs.Table.{words, Entry, vacant, holderIn, entriesIn, entryWords, Layout, layout, flat}
+use Rattle.spec_lists.proofs.Basics.{nth-change-same, change-again, each-replicate}
+use Rattle.spec_table.proofs.Words.{words-append}
+use Rattle.spec_table.proofs.Sound.{two-more, length-words, entryFrom, head-at, entry-at}
+use Rattle.table_words.specs.Bytes.{IsWord, setWord, laid}
+use Rattle.table_size.specs.Sizes.{SizeOf, JobIn, BenchIn}
+use Rattle.table_size.specs.Written.{HeadOf, withNext, withHead, cleared, withEntry, withStanding, Laid}
+use Rattle.table_size.specs.declared.Size.{Size}
+use Rattle.table_words.proofs.Bytes.{words-setWord, length-setWord, zero-bytes}
+use Rattle.table_size.proofs.Sizes.{size-kept, words-long, entries-long}
 
 -- one word
 

@@ -5,12 +5,12 @@ use mathlib.Core.Bool.{Bool, true, false, _&&_}
 use mathlib.Core.List.{List}
 use lib.Dec.{T}
 use lib.ListN.{length}
-use Rattle.basics.specs.Lists.{within}
-use Rattle.layout.specs.Table.{mostBenches, mostJobs, lengthFor, fits, sound, decode, Storable}
-use Rattle.words.specs.Bytes.{laid}
-use Rattle.size.specs.declared.Size.{Size}
-use Rattle.size.specs.declared.Sizing.{Sizing}
-use Rattle.size.specs.declared.Sizing.the-variants.{Fit, Misfit}
+use Rattle.spec_lists.specs.Lists.{within}
+use Rattle.spec_table.specs.Table.{mostBenches, mostJobs, lengthFor, fits, sound, decode, Storable}
+use Rattle.table_words.specs.Bytes.{laid}
+use Rattle.table_size.specs.declared.Size.{Size}
+use Rattle.table_size.specs.declared.Sizing.{Sizing}
+use Rattle.table_size.specs.declared.Sizing.the-variants.{Fit, Misfit}
 
 -- "Benches are numbered 1 to 500, jobs 1 to 4,000"
 pub record Limits (s : Size) : Type 0 where

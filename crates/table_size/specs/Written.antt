@@ -3,11 +3,11 @@ use Prim.Native.Nat.{ℕ, _<_}
 use mathlib.Core.Path.{_≡_}
 use mathlib.Core.List.{List}
 use lib.ListN.{replicate}
-use Rattle.size.specs.declared.Size.{Size}
-use Rattle.basics.specs.Lists.{nth, change}
-use Rattle.size.specs.Sizes.{SizeOf}
-use Rattle.layout.specs.Table.{Entry, Layout, vacant}
-use Rattle.words.specs.Bytes.{laid}
+use Rattle.table_size.specs.declared.Size.{Size}
+use Rattle.spec_lists.specs.Lists.{nth, change}
+use Rattle.table_size.specs.Sizes.{SizeOf}
+use Rattle.spec_table.specs.Table.{Entry, Layout, vacant}
+use Rattle.table_words.specs.Bytes.{laid}
 
 -- job j's record
 abbrev pub recordIn : List ℕ → ℕ → Entry

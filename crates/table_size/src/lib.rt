@@ -1,8 +1,8 @@
 // How many benches and jobs a table is for.
 ghost use mathlib.Core.Path.{_≡_};
-ghost use Rattle.size.specs.Sizes.{Limits, sizing, sizeIn};
-ghost use Rattle.basics.specs.Lists.{within};
-ghost use Rattle.layout.specs.Table.{lengthFor};
+ghost use Rattle.table_size.specs.Sizes.{Limits, sizing, sizeIn};
+ghost use Rattle.spec_lists.specs.Lists.{within};
+ghost use Rattle.spec_table.specs.Table.{lengthFor};
 
 // Numbers of benches and of jobs within the limits.
 pub struct Size {
@@ -42,7 +42,7 @@ impl Size {
         if len < 8 {
             return Sizing::Misfit;
         }
-        match Size::new(words::read(t, 0), words::read(t, 1)) {
+        match Size::new(table_words::read(t, 0), table_words::read(t, 1)) {
             Sizing::Misfit => Sizing::Misfit,
             Sizing::Fit(s) => {
                 if len == s.bytes() {

@@ -5,9 +5,9 @@ use native.Mathlib.Nat.{mod-eq-of-lt}
 use mathlib.Core.Path.{_≡_, refl, ap}
 use mathlib.Core.List.{List, [], _∷_}
 use lib.ListN.{length, getD, set, replicate, length-set}
-use Rattle.layout.specs.Table.{words, bytesOf, lengthFor, blankTable}
-use Rattle.layout.proofs.Sound.{two-more, two-more-high}
-use Rattle.words.specs.Bytes.{setWord}
+use Rattle.spec_table.specs.Table.{words, bytesOf, lengthFor, blankTable}
+use Rattle.spec_table.proofs.Sound.{two-more, two-more-high}
+use Rattle.table_words.specs.Bytes.{setWord}
 
 -- a written word is a changed word ..
 pub words-setWord : (t : List ℕ) (i w : ℕ) → 2 * i + 1 < length t → w < 65536 → words (setWord t i w) ≡ set (words t) i w

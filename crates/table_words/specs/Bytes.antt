@@ -3,7 +3,7 @@ use Prim.Native.Nat.{ℕ, _+_, _*_, _/_, _%_, _<_}
 use mathlib.Core.Path.{_≡_}
 use mathlib.Core.List.{List}
 use lib.ListN.{getD, set}
-use Rattle.layout.specs.Table.{words, Layout, layout}
+use Rattle.spec_table.specs.Table.{words, Layout, layout}
 
 -- r is word i of the bytes
 pub record IsWord (bytes : List ℕ) (i r : ℕ) : Type 0 where

@@ -1,15 +1,15 @@
 // Tables that are not sound, or whose sizes do not fit: every call is refused with 2 or 1, whatever its numbers, and leaves all bytes.
 use crate::Outcome;
 use crate::random;
-use board::changes;
-use every_sharing::Book;
-use every_sharing::bytes;
-use every_sharing::bytes::Table;
-use every_sharing::bytes::head;
-use every_sharing::bytes::put;
-use every_sharing::bytes::record;
-use every_sharing::bytes::word;
-use every_sharing::job_book;
+use board_changes::changes;
+use test_solver::Book;
+use test_solver::bytes;
+use test_solver::bytes::Table;
+use test_solver::bytes::head;
+use test_solver::bytes::put;
+use test_solver::bytes::record;
+use test_solver::bytes::word;
+use test_solver::job_book;
 
 const SIZES: u32 = 1;
 
@@ -91,11 +91,11 @@ fn changes_refused(t: &mut [u8], job: usize, bench: usize, due: u32) -> bool {
 
 fn questions_refused(t: &[u8], bench: usize, due: u32) -> bool {
     let mut list = bytes::untouched();
-    questions::load(t, bench).number() == due
-        && questions::heaviest(t).number() == due
-        && questions::form_check(t).number() == due
-        && questions::level_check(t).number() == due
-        && questions::tight_set(t, bench, &mut list).number() == due
+    board_questions::load(t, bench).number() == due
+        && board_questions::heaviest(t).number() == due
+        && board_questions::form_check(t).number() == due
+        && board_questions::level_check(t).number() == due
+        && board_questions::tight_set(t, bench, &mut list).number() == due
 }
 
 fn all_refused(t: &mut [u8], length: usize, job: usize, bench: usize, due: u32) -> bool {

@@ -1,11 +1,11 @@
 // Levelling, held against itself one path at a time.
 use crate::Outcome;
 use crate::random;
-use board::changes;
-use board_checks::one_more;
-use every_sharing::Loads;
-use every_sharing::MOST_BENCHES;
-use every_sharing::bytes;
+use board_changes::changes;
+use test_board_checks::one_more;
+use test_solver::Loads;
+use test_solver::MOST_BENCHES;
+use test_solver::bytes;
 
 // More paths than a board here can need.
 const MANY: usize = 200;
@@ -38,16 +38,16 @@ fn improved(before: &Loads, after: &Loads) -> bool {
         return false;
     }
     let mut between = *before;
-    every_sharing::give(&mut between, to);
+    test_solver::give(&mut between, to);
     one_more(after, &between, from)
         && std::num::wrapping_add_usize(load_of(before, to), 2) <= load_of(before, from)
 }
 
 // What one path did: 1 turned, 0 none improves, MANY for anything else.
 fn one_path(t: &mut [u8], benches: usize) -> usize {
-    let before = board_checks::loads(t, benches);
+    let before = test_board_checks::loads(t, benches);
     let answer = changes::levelling(t, 1).values();
-    let after = board_checks::loads(t, benches);
+    let after = test_board_checks::loads(t, benches);
     let paths = answer.get(1, MANY);
     if paths == 0 && answer.get(2, 0) == 1 && one_more(&before, &after, 0) {
         return 0;

@@ -1,15 +1,15 @@
 // Arrivals and closings, each held against what the book foretells and against the loads and holders before and after.
 use crate::Outcome;
 use crate::random;
-use answers::Values;
-use board::changes;
-use board_checks::one_more;
-use every_sharing::Book;
-use every_sharing::Loads;
-use every_sharing::MOST_BENCHES;
-use every_sharing::bytes;
-use every_sharing::bytes::Table;
-use every_sharing::job_book;
+use board_answers::Values;
+use board_changes::changes;
+use test_board_checks::one_more;
+use test_solver::Book;
+use test_solver::Loads;
+use test_solver::MOST_BENCHES;
+use test_solver::bytes;
+use test_solver::bytes::Table;
+use test_solver::job_book;
 
 // Stands for a number that is not there.
 const NONE: usize = 1000;
@@ -37,7 +37,7 @@ fn arrived(t: &[u8], before: &Table, loads: &Loads, benches: usize, job: usize, 
     let holder = v.get(1, 0);
     let rose = v.get(2, 0);
     let after = bytes::copied(t);
-    let now = board_checks::loads(t, benches);
+    let now = test_board_checks::loads(t, benches);
     is_bench(rose)
         && one_more(loads, &now, rose)
         && is_bench(holder)
@@ -54,7 +54,7 @@ fn arrive(
     due: u32,
 ) -> Outcome {
     let before = bytes::copied(t);
-    let loads = board_checks::loads(t, benches);
+    let loads = test_board_checks::loads(t, benches);
     let answer = changes::arrival(t, job, first, second);
     let number = answer.number();
     if number != 0 {
@@ -81,7 +81,7 @@ pub fn arrival(t: &mut [u8], book: &mut Book, benches: usize, jobs: usize, seed:
 fn closed(t: &[u8], before: &Table, loads: &Loads, benches: usize, job: usize, v: Values) -> bool {
     let fell = v.get(1, 0);
     let after = bytes::copied(t);
-    let now = board_checks::loads(t, benches);
+    let now = test_board_checks::loads(t, benches);
     is_bench(fell)
         && one_more(&now, loads, fell)
         && moved_so_many(before, &after, benches, job, v.get(2, NONE))
@@ -89,7 +89,7 @@ fn closed(t: &[u8], before: &Table, loads: &Loads, benches: usize, job: usize, v
 
 fn close(t: &mut [u8], benches: usize, job: usize, due: u32) -> Outcome {
     let before = bytes::copied(t);
-    let loads = board_checks::loads(t, benches);
+    let loads = test_board_checks::loads(t, benches);
     let answer = changes::closing(t, job);
     let number = answer.number();
     if number != 0 {
@@ -113,7 +113,7 @@ pub fn closing(t: &mut [u8], book: &mut Book, benches: usize, jobs: usize, seed:
 // A bench's load is refused exactly if the board has no such bench.
 pub fn load(t: &[u8], benches: usize, seed: u64) -> Outcome {
     let bench = random::number(seed, 2, benches);
-    let number = questions::load(t, bench).number();
+    let number = board_questions::load(t, bench).number();
     let due = if bench == 0 || benches < bench { 4 } else { 0 };
     Outcome::refused(number, number == due, crate::BAD_REFUSAL)
 }

@@ -1,13 +1,13 @@
 // A small board held against a job book and against the second solver, for tests.
-use every_sharing::Book;
-use every_sharing::Loads;
-use every_sharing::MOST_BENCHES;
-use every_sharing::MOST_JOBS;
-use every_sharing::Overhangs;
-use every_sharing::bit;
-use every_sharing::bytes;
-use every_sharing::give;
-use every_sharing::overhang;
+use test_solver::Book;
+use test_solver::Loads;
+use test_solver::MOST_BENCHES;
+use test_solver::MOST_JOBS;
+use test_solver::Overhangs;
+use test_solver::bit;
+use test_solver::bytes;
+use test_solver::give;
+use test_solver::overhang;
 
 mod tight_sets;
 
@@ -26,12 +26,12 @@ pub const BAD_TIGHT_SET: usize = 5;
 const NONE: usize = 1000;
 
 fn load(t: &[u8], bench: usize) -> usize {
-    questions::load(t, bench).values().get(1, NONE)
+    board_questions::load(t, bench).values().get(1, NONE)
 }
 
 // The loads that the board answers; 0 for benches that it has not.
 pub fn loads(t: &[u8], benches: usize) -> Loads {
-    let mut loads = every_sharing::no_loads();
+    let mut loads = test_solver::no_loads();
     let mut bench = 1;
     while bench <= MOST_BENCHES {
         if bench <= benches {
@@ -44,7 +44,7 @@ pub fn loads(t: &[u8], benches: usize) -> Loads {
 
 // The loads by the holder words.
 fn loads_held(held: &bytes::Holders) -> Loads {
-    let mut loads = every_sharing::no_loads();
+    let mut loads = test_solver::no_loads();
     let mut job = 1;
     while job <= MOST_JOBS {
         give(&mut loads, held[job]);
@@ -79,17 +79,17 @@ fn are_least(loads: &Loads, least: &Overhangs) -> bool {
 
 // Heaviest load, level check and sharing. A board is level exactly if its overhangs are the least of all sharings.
 fn loads_fault(t: &[u8], book: &Book, loads: &Loads, level: bool) -> usize {
-    let heaviest = every_sharing::heaviest(loads);
-    if questions::heaviest(t).values().get(1, NONE) != heaviest {
+    let heaviest = test_solver::heaviest(loads);
+    if board_questions::heaviest(t).values().get(1, NONE) != heaviest {
         return BAD_LOADS;
     }
-    let least = every_sharing::least_overhangs(book);
+    let least = test_solver::least_overhangs(book);
     let is_least = are_least(loads, &least);
-    if questions::level_check(t).values().get(1, NONE) != bit(is_least) {
+    if board_questions::level_check(t).values().get(1, NONE) != bit(is_least) {
         return BAD_LEVEL_CHECK;
     }
     if level {
-        if !is_least || heaviest != every_sharing::least_heaviest(book) {
+        if !is_least || heaviest != test_solver::least_heaviest(book) {
             return BAD_SHARING;
         }
     }
@@ -99,7 +99,7 @@ fn loads_fault(t: &[u8], book: &Book, loads: &Loads, level: bool) -> usize {
 // What is not as it should be after a call. Where the board is known to be level, its sharing is to be the least.
 pub fn fault(t: &[u8], book: &Book, benches: usize, level: bool) -> usize {
     let copy = bytes::copied(t);
-    if questions::form_check(t).number() != 0 || !bytes::fits(&copy, book, benches) {
+    if board_questions::form_check(t).number() != 0 || !bytes::fits(&copy, book, benches) {
         return BAD_RECORDS;
     }
     let held = bytes::holders(&copy, benches);

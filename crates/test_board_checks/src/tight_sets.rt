@@ -1,15 +1,15 @@
 // Tight sets of every height, held against sets made anew from the holders.
-use every_sharing::Book;
-use every_sharing::Loads;
-use every_sharing::MOST_BENCHES;
-use every_sharing::MOST_JOBS;
-use every_sharing::bench_of;
-use every_sharing::bit;
-use every_sharing::bytes;
-use every_sharing::bytes::Holders;
-use every_sharing::bytes::Table;
-use every_sharing::heaviest;
-use every_sharing::overhang;
+use test_solver::Book;
+use test_solver::Loads;
+use test_solver::MOST_BENCHES;
+use test_solver::MOST_JOBS;
+use test_solver::bench_of;
+use test_solver::bit;
+use test_solver::bytes;
+use test_solver::bytes::Holders;
+use test_solver::bytes::Table;
+use test_solver::heaviest;
+use test_solver::overhang;
 
 // Which benches are in the set; place 0 is not used.
 type Marks = [bool; 6];
@@ -108,7 +108,7 @@ fn listed(marks: &Marks) -> Table {
 fn answer_fits(t: &[u8], book: &Book, height: usize, marks: &Marks) -> bool {
     let due = listed(marks);
     let mut list = bytes::untouched();
-    let set = questions::tight_set(t, height, &mut list).values();
+    let set = board_questions::tight_set(t, height, &mut list).values();
     set.get(1, 0) == count(marks)
         && set.get(2, 0) == inside(book, marks)
         && bytes::same(&list, &due)
@@ -117,7 +117,7 @@ fn answer_fits(t: &[u8], book: &Book, height: usize, marks: &Marks) -> bool {
 // The number that is returned for the first bytes of a list.
 fn number_with(t: &[u8], height: usize, list: &mut [u8], length: usize) -> u32 {
     if length <= list.len() {
-        questions::tight_set(t, height, &mut list[..length]).number()
+        board_questions::tight_set(t, height, &mut list[..length]).number()
     } else {
         0
     }

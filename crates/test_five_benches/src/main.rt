@@ -2,8 +2,8 @@
 // dictionary order, and the table of each prefix is kept, so that an order makes only the arrivals after the prefix that it shares with the
 // order before.
 ghost use Prim.Native.Nat.{_≤_, _<_};
-use answers::Answer;
-use board::changes;
+use board_answers::Answer;
+use board_changes::changes;
 use libc::STDOUT_FILENO;
 
 const BENCHES: usize = 5;
@@ -66,7 +66,7 @@ fn arrives(t: &mut [u8], job: usize) -> bool {
 }
 
 fn load_is_two(t: &[u8], bench: usize) -> bool {
-    match questions::load(t, bench) {
+    match board_questions::load(t, bench) {
         Answer::Load(n) => n == 2,
         _ => false,
     }

@@ -1,19 +1,19 @@
 // Random runs of arrivals, closings and levellings on small boards. A job book, kept by document 01's rules, foretells every refusal, and a
 // second solver that tries every sharing of the book's jobs tells the least heaviest load and the least overhang above every height; the
 // board's answers and its table are held against both after each call.
-use board_calls::ARRIVALS;
-use board_calls::CLOSINGS;
-use board_calls::LEVELLED;
-use board_calls::Outcome;
-use board_calls::REFUSED;
-use board_calls::STOPPED;
-use board_calls::damages;
-use board_calls::levellings;
-use board_calls::random;
-use board_calls::tries;
-use every_sharing::Book;
-use every_sharing::bytes;
-use every_sharing::job_book;
+use test_board_calls::ARRIVALS;
+use test_board_calls::CLOSINGS;
+use test_board_calls::LEVELLED;
+use test_board_calls::Outcome;
+use test_board_calls::REFUSED;
+use test_board_calls::STOPPED;
+use test_board_calls::damages;
+use test_board_calls::levellings;
+use test_board_calls::random;
+use test_board_calls::tries;
+use test_solver::Book;
+use test_solver::bytes;
+use test_solver::job_book;
 use libc::STDOUT_FILENO;
 use notes::Counts;
 
@@ -76,7 +76,7 @@ fn calls(
         notes::add(
             counts,
             notes::FAULTS,
-            board_checks::fault(t, book, benches, level),
+            test_board_checks::fault(t, book, benches, level),
             1,
         );
         n += 1;
@@ -105,7 +105,7 @@ fn run_in(
         notes::add(
             counts,
             notes::FAULTS,
-            board_checks::fault(t, book, benches, way < 2),
+            test_board_checks::fault(t, book, benches, way < 2),
             1,
         );
         calls(t, book, benches, jobs, way < 2, seed, counts);
@@ -179,29 +179,29 @@ fn print_fault(counts: &Counts, fault: usize, text: &[u8]) {
 }
 
 fn print_board_faults(counts: &Counts) {
-    print_fault(counts, board_checks::BAD_RECORDS, b" wrong records\n");
-    print_fault(counts, board_checks::BAD_LOADS, b" wrong loads\n");
+    print_fault(counts, test_board_checks::BAD_RECORDS, b" wrong records\n");
+    print_fault(counts, test_board_checks::BAD_LOADS, b" wrong loads\n");
     print_fault(
         counts,
-        board_checks::BAD_LEVEL_CHECK,
+        test_board_checks::BAD_LEVEL_CHECK,
         b" wrong level checks\n",
     );
     print_fault(
         counts,
-        board_checks::BAD_SHARING,
+        test_board_checks::BAD_SHARING,
         b" sharings not the least\n",
     );
-    print_fault(counts, board_checks::BAD_TIGHT_SET, b" wrong tight sets\n");
+    print_fault(counts, test_board_checks::BAD_TIGHT_SET, b" wrong tight sets\n");
 }
 
 fn print_call_faults(counts: &Counts) {
-    print_fault(counts, board_calls::BAD_REFUSAL, b" wrong refusals\n");
-    print_fault(counts, board_calls::BAD_ARRIVAL, b" wrong arrivals\n");
-    print_fault(counts, board_calls::BAD_CLOSING, b" wrong closings\n");
-    print_fault(counts, board_calls::BAD_LEVELLING, b" wrong levellings\n");
+    print_fault(counts, test_board_calls::BAD_REFUSAL, b" wrong refusals\n");
+    print_fault(counts, test_board_calls::BAD_ARRIVAL, b" wrong arrivals\n");
+    print_fault(counts, test_board_calls::BAD_CLOSING, b" wrong closings\n");
+    print_fault(counts, test_board_calls::BAD_LEVELLING, b" wrong levellings\n");
     print_fault(
         counts,
-        board_calls::BAD_DAMAGED,
+        test_board_calls::BAD_DAMAGED,
         b" damaged tables not refused\n",
     );
     print_fault(counts, notes::BAD_START, b" wrong starts\n");

@@ -1,5 +1,5 @@
 // Counts of what was tried, and of what was not as it should be.
-use board_calls::Outcome;
+use test_board_calls::Outcome;
 
 pub type Counts = [u64; 64];
 

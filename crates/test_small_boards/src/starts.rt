@@ -1,11 +1,11 @@
 // Tables to start from: blank, or with random jobs that are held anyhow, levelled or not.
-use board::changes;
-use board_calls::random;
-use every_sharing::Book;
-use every_sharing::MOST_JOBS;
-use every_sharing::bytes;
-use every_sharing::bytes::Table;
-use every_sharing::job_book;
+use board_changes::changes;
+use test_board_calls::random;
+use test_solver::Book;
+use test_solver::MOST_JOBS;
+use test_solver::bytes;
+use test_solver::bytes::Table;
+use test_solver::job_book;
 
 // The bench of the higher number holds the job for 0, else the other.
 fn holder_word(first: usize, second: usize, way: usize) -> usize {

@@ -1,11 +1,11 @@
 // Prints, for each table file that its arguments name, what the form check answers (sound, 1 or 2), and the heaviest load or the
 // same refusal. The files and the expected answers were made by another implementation of document 01. A file's name tells what damage was
 // tried; where that changed nothing, the table is sound.
-ghost use Rattle.size.specs.Sizes.{SoundTable};
-use form::Form;
+ghost use Rattle.table_size.specs.Sizes.{SoundTable};
+use table_form::Form;
 use libc::STDOUT_FILENO;
-use size::Size;
-use store::loads;
+use table_size::Size;
+use table_board::loads;
 
 fn heaviest(loads: &[u16; Size::MOST_BENCHES + 1]) -> u16 {
     let mut most = 0;
@@ -31,7 +31,7 @@ fn print_sound(t: &[u8], s: Size)
 }
 
 fn print_table(t: &[u8]) {
-    match form::check(t) {
+    match table_form::check(t) {
         Form::Sizes => {
             io::write_all(STDOUT_FILENO, b" 1 1\n");
         }

@@ -1,10 +1,10 @@
 -- The form check's three answers.
-use Rattle.calls.specs.Calls.{formCheck}
-use Rattle.answers.proofs.Formal.{sizes-refused, unsound-refused}
-use Rattle.questions.proofs.Asking.{form-sound}
+use Rattle.spec_calls.specs.Calls.{formCheck}
+use Rattle.board_answers.proofs.Formal.{sizes-refused, unsound-refused}
+use Rattle.board_questions.proofs.Asking.{form-sound}
 use borrow.Author.Needs.{needs}
-use Rattle.questions.proofs.form_check.Statement.{statement}
-use Rattle.questions.proofs.form_check.Tie as tie
+use Rattle.board_questions.proofs.form_check.Statement.{statement}
+use Rattle.board_questions.proofs.form_check.Tie as tie
 
 check-requires : tie.Need-check-requires
 check-requires c κs = search needs

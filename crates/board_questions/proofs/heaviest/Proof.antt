@@ -1,11 +1,11 @@
 -- The heaviest load of a sound table.
-use Rattle.calls.specs.Calls.{heaviestLoad}
-use Rattle.size.specs.Sizes.{SoundTable}
-use Rattle.answers.proofs.Formal.{sizes-refused, unsound-refused}
-use Rattle.questions.proofs.Asking.{heaviest-told}
+use Rattle.spec_calls.specs.Calls.{heaviestLoad}
+use Rattle.table_size.specs.Sizes.{SoundTable}
+use Rattle.board_answers.proofs.Formal.{sizes-refused, unsound-refused}
+use Rattle.board_questions.proofs.Asking.{heaviest-told}
 use borrow.Author.Needs.{needs}
-use Rattle.questions.proofs.heaviest.Statement.{statement}
-use Rattle.questions.proofs.heaviest.Tie as tie
+use Rattle.board_questions.proofs.heaviest.Statement.{statement}
+use Rattle.board_questions.proofs.heaviest.Tie as tie
 
 check-requires : tie.Need-check-requires
 check-requires c κs = search needs

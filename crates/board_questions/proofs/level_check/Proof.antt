@@ -1,14 +1,14 @@
 -- Whether a sound table is level.
 use mathlib.Core.Path.{sym, _∙_}
 use mathlib.Core.Bool.{true, false}
-use Rattle.calls.specs.Calls.{levelCheck}
-use Rattle.size.specs.Sizes.{SoundTable}
-use Rattle.store.proofs.Boards.{sound-kept}
-use Rattle.answers.proofs.Formal.{sizes-refused, unsound-refused}
-use Rattle.questions.proofs.Asking.{level-told}
+use Rattle.spec_calls.specs.Calls.{levelCheck}
+use Rattle.table_size.specs.Sizes.{SoundTable}
+use Rattle.table_board.proofs.Boards.{sound-kept}
+use Rattle.board_answers.proofs.Formal.{sizes-refused, unsound-refused}
+use Rattle.board_questions.proofs.Asking.{level-told}
 use borrow.Author.Needs.{needs}
-use Rattle.questions.proofs.level_check.Statement.{statement}
-use Rattle.questions.proofs.level_check.Tie as tie
+use Rattle.board_questions.proofs.level_check.Statement.{statement}
+use Rattle.board_questions.proofs.level_check.Tie as tie
 
 check-requires : tie.Need-check-requires
 check-requires c κs = search needs

@@ -1,14 +1,14 @@
 -- The load of a bench of a sound table, or that it has no such bench.
 use mathlib.Core.Path.{sym, _∙_}
-use Rattle.calls.specs.Calls.{loadOf}
-use Rattle.basics.proofs.Basics.{true→T}
-use Rattle.size.specs.Sizes.{SoundTable}
-use Rattle.size.proofs.Sizes.{bench-in}
-use Rattle.answers.proofs.Formal.{sizes-refused, unsound-refused}
-use Rattle.questions.proofs.Asking.{load-told, bench-refused}
+use Rattle.spec_calls.specs.Calls.{loadOf}
+use Rattle.spec_lists.proofs.Basics.{true→T}
+use Rattle.table_size.specs.Sizes.{SoundTable}
+use Rattle.table_size.proofs.Sizes.{bench-in}
+use Rattle.board_answers.proofs.Formal.{sizes-refused, unsound-refused}
+use Rattle.board_questions.proofs.Asking.{load-told, bench-refused}
 use borrow.Author.Needs.{needs}
-use Rattle.questions.proofs.load.Statement.{statement}
-use Rattle.questions.proofs.load.Tie as tie
+use Rattle.board_questions.proofs.load.Statement.{statement}
+use Rattle.board_questions.proofs.load.Tie as tie
 
 check-requires : tie.Need-check-requires
 check-requires c κs = search needs

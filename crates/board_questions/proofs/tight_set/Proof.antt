@@ -1,9 +1,9 @@
 -- The tight set of a sound table.
-use Rattle.calls.specs.Calls.{tightSetOf}
-use Rattle.answers.proofs.Formal.{sizes-refused, unsound-refused}
+use Rattle.spec_calls.specs.Calls.{tightSetOf}
+use Rattle.board_answers.proofs.Formal.{sizes-refused, unsound-refused}
 use borrow.Author.Needs.{needs}
-use Rattle.questions.proofs.tight_set.Statement.{statement}
-use Rattle.questions.proofs.tight_set.Tie as tie
+use Rattle.board_questions.proofs.tight_set.Statement.{statement}
+use Rattle.board_questions.proofs.tight_set.Tie as tie
 
 check-requires : tie.Need-check-requires
 check-requires c κs = search needs

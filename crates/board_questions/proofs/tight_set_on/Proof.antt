@@ -1,10 +1,10 @@
 -- The set of a height of 1 or more: a set without a bench is that of a height above the heaviest load.
 use native.Mathlib.Omega.{arith}
-use Rattle.store.proofs.Boards.{sound-kept}
-use Rattle.questions.proofs.Asking.{zero-refused, set-most, list-room, high-refused, short-refused, set-told}
+use Rattle.table_board.proofs.Boards.{sound-kept}
+use Rattle.board_questions.proofs.Asking.{zero-refused, set-most, list-room, high-refused, short-refused, set-told}
 use borrow.Author.Needs.{needs}
-use Rattle.questions.proofs.tight_set_on.Statement.{statement}
-use Rattle.questions.proofs.tight_set_on.Tie as tie
+use Rattle.board_questions.proofs.tight_set_on.Statement.{statement}
+use Rattle.board_questions.proofs.tight_set_on.Tie as tie
 
 returns : tie.Need-returns
 returns c =

@@ -1,9 +1,9 @@
 -- What is left up to the most is room.
 use borrow.Author.Needs.{needs}
 use native.Mathlib.Omega.{arith}
-use Rattle.tally.proofs.Noting.{room-is}
-use Rattle.tally.proofs.has_room.Statement.{statement}
-use Rattle.tally.proofs.has_room.Tie as tie
+use Rattle.board_tally.proofs.Noting.{room-is}
+use Rattle.board_tally.proofs.has_room.Statement.{statement}
+use Rattle.board_tally.proofs.has_room.Tie as tie
 
 sub-result : tie.Need-sub-result
 sub-result c = search needs

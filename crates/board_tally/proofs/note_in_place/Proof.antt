@@ -37,27 +37,27 @@ use denote.Triple.Entry.{onEntry}
 use denote.Triple.Spec.{Meets, tripleOf}
 use denote.Triple.Table.{entered, cited}
 use denote.Triple.Walked.{says, Stays, stay-ref, stay-none, walkOf, AllGo, goes-ref, goes-none, Walks, ends-at, walked, walk-meets}
-use Rattle.calls.specs.Tally.{noted}
-use Rattle.answers.specs.Answered.{answerOf}
-use Rattle.answers.specs.declared.Answer.{Answer}
-use Rattle.answers.proofs.Answer as A
-use Rattle.answers.proofs.Answer.Laws as A′
-use Rattle.tally.specs.Counts.{tallyOf, NotedAs}
-use Rattle.tally.specs.declared.Tally.{Tally}
-use Rattle.tally.specs.declared.Noted.{Noted}
-use Rattle.tally.proofs.Machine.{tallyVal, answerVal, noteVal, IsAnswer, IsNote, its-tally, its-note, tally-typed, answer-typed, note-typed, noted-typed, has-tally, has-answer, has-note}
-use Rattle.tally.proofs.Tally as T
-use Rattle.tally.proofs.Tally.Laws as T′
-use Rattle.tally.proofs.Noted as D
-use Rattle.tally.proofs.Noted.Laws as D′
-use Rattle.tally.proofs.Tally.note as note
-use Rattle.tally.proofs.Tally.note.Symbol as note-def
-use Rattle.tally.proofs.Tally.note.Symbol.{name as #tally·Tally·note}
-use Rattle.tally.proofs.Tally.note.Met as note-thm
-use Rattle.tally.proofs.note_in_place.Key.{name as #tally·note-in-place}
-use Rattle.tally.proofs.note_in_place as in-place
-use Rattle.tally.proofs.note_in_place.Statement as stated
-use Rattle.tally.proofs.note_in_place.Code as code
+use Rattle.spec_calls.specs.Tally.{noted}
+use Rattle.board_answers.specs.Answered.{answerOf}
+use Rattle.board_answers.specs.declared.Answer.{Answer}
+use Rattle.board_answers.proofs.Answer as A
+use Rattle.board_answers.proofs.Answer.Laws as A′
+use Rattle.board_tally.specs.Counts.{tallyOf, NotedAs}
+use Rattle.board_tally.specs.declared.Tally.{Tally}
+use Rattle.board_tally.specs.declared.Noted.{Noted}
+use Rattle.board_tally.proofs.Machine.{tallyVal, answerVal, noteVal, IsAnswer, IsNote, its-tally, its-note, tally-typed, answer-typed, note-typed, noted-typed, has-tally, has-answer, has-note}
+use Rattle.board_tally.proofs.Tally as T
+use Rattle.board_tally.proofs.Tally.Laws as T′
+use Rattle.board_tally.proofs.Noted as D
+use Rattle.board_tally.proofs.Noted.Laws as D′
+use Rattle.board_tally.proofs.Tally.note as note
+use Rattle.board_tally.proofs.Tally.note.Symbol as note-def
+use Rattle.board_tally.proofs.Tally.note.Symbol.{name as #tally·Tally·note}
+use Rattle.board_tally.proofs.Tally.note.Met as note-thm
+use Rattle.board_tally.proofs.note_in_place.Key.{name as #tally·note-in-place}
+use Rattle.board_tally.proofs.note_in_place as in-place
+use Rattle.board_tally.proofs.note_in_place.Statement as stated
+use Rattle.board_tally.proofs.note_in_place.Code as code
 
 -- the borrow is had to the end, the answer is plain
 abbrev stayed : Stays (in-place.ended .signature .params) (in-place.ended .kept)

@@ -38,28 +38,28 @@ use denote.Triple.Entry.{onEntry}
 use denote.Triple.Spec.{Meets, tripleOf}
 use denote.Triple.Table.{entered, cited}
 use denote.Triple.Walked.{says, Stays, stay-none, walkOf, AllGo, goes-none, Walks, ends-at, walked, walk-meets}
-use Rattle.calls.specs.Tally.{noted}
-use Rattle.answers.specs.Answered.{answerOf}
-use Rattle.answers.specs.declared.Answer.{Answer}
-use Rattle.answers.proofs.Answer as A
-use Rattle.answers.proofs.Answer.Laws as A′
-use Rattle.tally.specs.Counts.{tallyOf, NotedAs}
-use Rattle.tally.specs.declared.Tally.{Tally}
-use Rattle.tally.specs.declared.Note.{Note}
-use Rattle.tally.specs.declared.Noted.{Noted}
-use Rattle.tally.proofs.Machine.{tallyVal, answerVal, notedVal, IsTally, IsAnswer, IsNoted, of-parts, tally-typed, answer-typed, note-typed, noted-typed, has-tally, has-answer, has-noted}
-use Rattle.tally.proofs.Tally as T
-use Rattle.tally.proofs.Tally.Laws as T′
-use Rattle.tally.proofs.Note as N
-use Rattle.tally.proofs.Note.Laws as N′
-use Rattle.tally.proofs.note_in_place as in-place
-use Rattle.tally.proofs.note_in_place.Symbol as in-place-def
-use Rattle.tally.proofs.note_in_place.Symbol.{name as #tally·note-in-place}
-use Rattle.tally.proofs.note_in_place.Met as in-place-thm
-use Rattle.tally.proofs.note_own.Key.{name as #tally·note-own}
-use Rattle.tally.proofs.note_own as own
-use Rattle.tally.proofs.note_own.Statement as stated
-use Rattle.tally.proofs.note_own.Code as code
+use Rattle.spec_calls.specs.Tally.{noted}
+use Rattle.board_answers.specs.Answered.{answerOf}
+use Rattle.board_answers.specs.declared.Answer.{Answer}
+use Rattle.board_answers.proofs.Answer as A
+use Rattle.board_answers.proofs.Answer.Laws as A′
+use Rattle.board_tally.specs.Counts.{tallyOf, NotedAs}
+use Rattle.board_tally.specs.declared.Tally.{Tally}
+use Rattle.board_tally.specs.declared.Note.{Note}
+use Rattle.board_tally.specs.declared.Noted.{Noted}
+use Rattle.board_tally.proofs.Machine.{tallyVal, answerVal, notedVal, IsTally, IsAnswer, IsNoted, of-parts, tally-typed, answer-typed, note-typed, noted-typed, has-tally, has-answer, has-noted}
+use Rattle.board_tally.proofs.Tally as T
+use Rattle.board_tally.proofs.Tally.Laws as T′
+use Rattle.board_tally.proofs.Note as N
+use Rattle.board_tally.proofs.Note.Laws as N′
+use Rattle.board_tally.proofs.note_in_place as in-place
+use Rattle.board_tally.proofs.note_in_place.Symbol as in-place-def
+use Rattle.board_tally.proofs.note_in_place.Symbol.{name as #tally·note-in-place}
+use Rattle.board_tally.proofs.note_in_place.Met as in-place-thm
+use Rattle.board_tally.proofs.note_own.Key.{name as #tally·note-own}
+use Rattle.board_tally.proofs.note_own as own
+use Rattle.board_tally.proofs.note_own.Statement as stated
+use Rattle.board_tally.proofs.note_own.Code as code
 
 abbrev stayed : Stays (own.ended .signature .params) (own.ended .kept)
 stayed = (stay-none (λ _. T.the-row) yes, (stay-none (λ _. A.the-row) yes, tt))

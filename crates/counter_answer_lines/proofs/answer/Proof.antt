@@ -2,11 +2,11 @@
 use borrow.Author.Needs.{needs}
 use native.Mathlib.Omega.{arith}
 use mathlib.Core.List.{[]}
-use Rattle.answers.specs.Answered.{answerOf, valuesOf}
-use Rattle.printing.proofs.Writing.{wrote-start}
-use Rattle.answer_lines.proofs.Lines.{wrote-refused, wrote-accepted}
-use Rattle.answer_lines.proofs.answer.Statement.{statement}
-use Rattle.answer_lines.proofs.answer.Tie as tie
+use Rattle.board_answers.specs.Answered.{answerOf, valuesOf}
+use Rattle.counter_printing.proofs.Writing.{wrote-start}
+use Rattle.counter_answer_lines.proofs.Lines.{wrote-refused, wrote-accepted}
+use Rattle.counter_answer_lines.proofs.answer.Statement.{statement}
+use Rattle.counter_answer_lines.proofs.answer.Tie as tie
 
 number-requires : tie.Need-number-requires
 number-requires c κs = search needs

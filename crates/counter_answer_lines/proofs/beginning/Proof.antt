@@ -2,12 +2,12 @@
 use borrow.Author.Needs.{needs}
 use native.Mathlib.Omega.{arith}
 use lib.ListN.{drop}
-use Rattle.calls.specs.Answers.{inNumbers}
-use Rattle.answers.specs.Answered.{answerOf, valuesOf}
-use Rattle.printing.proofs.Writing.{wrote-then, wrote-same}
-use Rattle.answer_lines.proofs.Lines.{wrote-numbers}
-use Rattle.answer_lines.proofs.beginning.Statement.{statement}
-use Rattle.answer_lines.proofs.beginning.Tie as tie
+use Rattle.spec_calls.specs.Answers.{inNumbers}
+use Rattle.board_answers.specs.Answered.{answerOf, valuesOf}
+use Rattle.counter_printing.proofs.Writing.{wrote-then, wrote-same}
+use Rattle.counter_answer_lines.proofs.Lines.{wrote-numbers}
+use Rattle.counter_answer_lines.proofs.beginning.Statement.{statement}
+use Rattle.counter_answer_lines.proofs.beginning.Tie as tie
 
 values-requires : tie.Need-values-requires
 values-requires c κs = search needs

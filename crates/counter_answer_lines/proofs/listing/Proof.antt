@@ -4,14 +4,14 @@ use Prim.Native.Nat.{ℕ}
 use native.Mathlib.Omega.{arith}
 use mathlib.Core.Path.{ap, _∙_}
 use lib.ListN.{take}
-use Rattle.basics.specs.Lists.{nth}
-use Rattle.layout.specs.Table.{words}
-use Rattle.calls.specs.Answers.{inNumbers}
-use Rattle.answers.specs.Answered.{answerOf, valuesOf}
-use Rattle.printing.proofs.Writing.{wrote-same}
-use Rattle.answer_lines.proofs.Lines.{wrote-unlisted, wrote-accepted, first-value}
-use Rattle.answer_lines.proofs.listing.Statement.{statement}
-use Rattle.answer_lines.proofs.listing.Tie as tie
+use Rattle.spec_lists.specs.Lists.{nth}
+use Rattle.spec_table.specs.Table.{words}
+use Rattle.spec_calls.specs.Answers.{inNumbers}
+use Rattle.board_answers.specs.Answered.{answerOf, valuesOf}
+use Rattle.counter_printing.proofs.Writing.{wrote-same}
+use Rattle.counter_answer_lines.proofs.Lines.{wrote-unlisted, wrote-accepted, first-value}
+use Rattle.counter_answer_lines.proofs.listing.Statement.{statement}
+use Rattle.counter_answer_lines.proofs.listing.Tie as tie
 
 number-requires : tie.Need-number-requires
 number-requires c κs = search needs

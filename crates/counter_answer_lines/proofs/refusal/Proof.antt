@@ -2,10 +2,10 @@
 use borrow.Author.Needs.{needs}
 use native.Mathlib.Omega.{arith}
 use mathlib.Core.List.{[], _∷_}
-use Rattle.printing.proofs.Writing.{wrote-then}
-use Rattle.answer_lines.proofs.Lines.{wrote-field, wrote-line}
-use Rattle.answer_lines.proofs.refusal.Statement.{statement}
-use Rattle.answer_lines.proofs.refusal.Tie as tie
+use Rattle.counter_printing.proofs.Writing.{wrote-then}
+use Rattle.counter_answer_lines.proofs.Lines.{wrote-field, wrote-line}
+use Rattle.counter_answer_lines.proofs.refusal.Statement.{statement}
+use Rattle.counter_answer_lines.proofs.refusal.Tie as tie
 
 byte-requires : tie.Need-byte-requires
 byte-requires c κs = search needs

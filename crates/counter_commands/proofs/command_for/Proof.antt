@@ -1,9 +1,9 @@
 -- The cases of the numbers. A letter that is tested for has its command by computation; any other has none with so many numbers.
 use borrow.Author.Needs.{needs}
-use Rattle.lines.specs.Counter.{commandFor}
-use Rattle.commands.proofs.Fields.{no-none, no-one, no-two, no-three}
-use Rattle.commands.proofs.command_for.Statement.{statement}
-use Rattle.commands.proofs.command_for.Tie as tie
+use Rattle.spec_counter.specs.Counter.{commandFor}
+use Rattle.counter_commands.proofs.Fields.{no-none, no-one, no-two, no-three}
+use Rattle.counter_commands.proofs.command_for.Statement.{statement}
+use Rattle.counter_commands.proofs.command_for.Tie as tie
 
 enum-told : tie.Need-enum-told
 enum-told c = search needs

@@ -3,8 +3,8 @@ use native.Mathlib.Omega.{arith}
 use mathlib.Core.Bool.{and-false}
 use borrow.Author.Needs.{needs}
 use borrow.Author.Tests.{lt-leb, le-leb}
-use Rattle.commands.proofs.digit_value.Statement.{statement}
-use Rattle.commands.proofs.digit_value.Tie as tie
+use Rattle.counter_commands.proofs.digit_value.Statement.{statement}
+use Rattle.counter_commands.proofs.digit_value.Tie as tie
 
 returns : tie.Need-returns
 returns c = rw (lt-leb 48 (c .before .args .byte) (omega arith))

@@ -3,11 +3,11 @@ use native.Mathlib.Omega.{arith}
 use mathlib.Core.Path.{sym, ap, _∙_}
 use lib.ListN.{getD}
 use borrow.Author.Needs.{needs}
-use Rattle.lines.proofs.Counter.{long-unreadable}
-use Rattle.commands.specs.Read.{given}
-use Rattle.commands.proofs.Fields.{line-command, empty-line}
-use Rattle.commands.proofs.read.Statement.{statement}
-use Rattle.commands.proofs.read.Tie as tie
+use Rattle.spec_counter.proofs.Counter.{long-unreadable}
+use Rattle.counter_commands.specs.Read.{given}
+use Rattle.counter_commands.proofs.Fields.{line-command, empty-line}
+use Rattle.counter_commands.proofs.read.Statement.{statement}
+use Rattle.counter_commands.proofs.read.Tie as tie
 
 returns : tie.Need-returns
 returns c = sym (long-unreadable (c .before .before .args .line .now) (c .if1 .taken))

@@ -9,10 +9,10 @@ use lib.Dec.{leb}
 use lib.ListN.{length, drop}
 use borrow.Author.Tests.{le-leb, lt-leb}
 use borrow.Author.Needs.{needs}
-use Rattle.commands.specs.Read.{behind}
-use Rattle.commands.proofs.Fields.{fitting, goesOn, no-space, no-byte, begins, goes-on-at, ends-at, ends-line, unfit-byte, unfit-zero, unfit-value, fits-behind}
-use Rattle.commands.proofs.read_field.Statement.{statement}
-use Rattle.commands.proofs.read_field.Tie as tie
+use Rattle.counter_commands.specs.Read.{behind}
+use Rattle.counter_commands.proofs.Fields.{fitting, goesOn, no-space, no-byte, begins, goes-on-at, ends-at, ends-line, unfit-byte, unfit-zero, unfit-value, fits-behind}
+use Rattle.counter_commands.proofs.read_field.Statement.{statement}
+use Rattle.counter_commands.proofs.read_field.Tie as tie
 
 abbrev Inv-loop : tie.InvT-loop
 Inv-loop line at i₀ n₀ i n = (at < i) × (i ≤ length line) × (n ≤ 65535) × (behind (drop at line) ≡ goesOn n (drop i line))

@@ -5,10 +5,10 @@ use native.Mathlib.Omega.{arith}
 use mathlib.Core.Path.{_≡_, _∙_}
 use lib.ListN.{length, drop}
 use borrow.Author.Needs.{needs}
-use Rattle.commands.specs.Read.{behind, followed, few, taken}
-use Rattle.commands.proofs.Fields.{few-first, few-all, further, few-next, few-wrong}
-use Rattle.commands.proofs.read_numbers.Statement.{statement}
-use Rattle.commands.proofs.read_numbers.Tie as tie
+use Rattle.counter_commands.specs.Read.{behind, followed, few, taken}
+use Rattle.counter_commands.proofs.Fields.{few-first, few-all, further, few-next, few-wrong}
+use Rattle.counter_commands.proofs.read_numbers.Statement.{statement}
+use Rattle.counter_commands.proofs.read_numbers.Tie as tie
 
 abbrev Inv-loop : tie.InvT-loop
 Inv-loop line numbers₀ at₀ numbers at = few (followed (taken numbers) (behind (drop at line))) ≡ few (behind (drop 1 line))

@@ -5,11 +5,11 @@ use mathlib.Core.Logic.{inl, inr}
 use lib.ListN.{length}
 use borrow.Author.Tests.{leb-true, leb-false}
 use borrow.Author.Needs.{needs}
-use Rattle.answer_lines.specs.AnswerLines.{lineMost}
-use Rattle.counting.specs.Heard.{placeOf}
-use Rattle.counting.proofs.Hearing.{Feeding, feeding-start, feeding-turn, feeding-end}
-use Rattle.counting.proofs.feed.Statement.{statement}
-use Rattle.counting.proofs.feed.Tie as tie
+use Rattle.counter_answer_lines.specs.AnswerLines.{lineMost}
+use Rattle.counter_feed.specs.Heard.{placeOf}
+use Rattle.counter_feed.proofs.Hearing.{Feeding, feeding-start, feeding-turn, feeding-end}
+use Rattle.counter_feed.proofs.feed.Statement.{statement}
+use Rattle.counter_feed.proofs.feed.Tie as tie
 
 abbrev Inv-loop : tie.InvT-loop
 Inv-loop chunk bytes₀ line₀ out₀ reader₀ used₀ at₀ bytes line out reader used at =

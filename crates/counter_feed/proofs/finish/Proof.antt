@@ -1,8 +1,8 @@
 -- A line that has begun ends without a line feed.
 use borrow.Author.Needs.{needs}
-use Rattle.counting.proofs.Hearing.{finishes-none, finishes-line}
-use Rattle.counting.proofs.finish.Statement.{statement}
-use Rattle.counting.proofs.finish.Tie as tie
+use Rattle.counter_feed.proofs.Hearing.{finishes-none, finishes-line}
+use Rattle.counter_feed.proofs.finish.Statement.{statement}
+use Rattle.counter_feed.proofs.finish.Tie as tie
 
 returns : tie.Need-returns
 returns c = finishes-none (c .before .before .before .args .r) (c .before .before .before .args .out .now) (c .if1 .taken)

@@ -3,9 +3,9 @@ use native.Mathlib.Omega.{arith}
 use mathlib.Core.Path.{sym}
 use lib.Seq.{length-take-le}
 use borrow.Author.Needs.{needs}
-use Rattle.counting.proofs.Hearing.{hears-line, hears-byte}
-use Rattle.counting.proofs.hear.Statement.{statement}
-use Rattle.counting.proofs.hear.Tie as tie
+use Rattle.counter_feed.proofs.Hearing.{hears-line, hears-byte}
+use Rattle.counter_feed.proofs.hear.Statement.{statement}
+use Rattle.counter_feed.proofs.hear.Tie as tie
 
 slice-reshare-prefix-to-line : tie.Need-slice-reshare-prefix-to-line
 slice-reshare-prefix-to-line c = search needs

@@ -1,8 +1,8 @@
 -- The byte is kept where there is room for it.
 use borrow.Author.Needs.{needs}
-use Rattle.counting.proofs.Hearing.{keeps-more, keeps-no-more}
-use Rattle.counting.proofs.keep.Statement.{statement}
-use Rattle.counting.proofs.keep.Tie as tie
+use Rattle.counter_feed.proofs.Hearing.{keeps-more, keeps-no-more}
+use Rattle.counter_feed.proofs.keep.Statement.{statement}
+use Rattle.counter_feed.proofs.keep.Tie as tie
 
 slice-write-line : tie.Need-slice-write-line
 slice-write-line c = search needs

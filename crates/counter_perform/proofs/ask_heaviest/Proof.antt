@@ -1,8 +1,8 @@
 -- The heaviest load's line; the state stays.
 use borrow.Author.Needs.{needs}
-use Rattle.performing.proofs.Performing.{table-long, heaviest-replies}
-use Rattle.performing.proofs.ask_heaviest.Statement.{statement}
-use Rattle.performing.proofs.ask_heaviest.Tie as tie
+use Rattle.counter_perform.proofs.Performing.{table-long, heaviest-replies}
+use Rattle.counter_perform.proofs.ask_heaviest.Statement.{statement}
+use Rattle.counter_perform.proofs.ask_heaviest.Tie as tie
 
 slice-aggregate-heaviest : tie.Need-slice-aggregate-heaviest
 slice-aggregate-heaviest c = table-long (c .before .before .before .pre .0)

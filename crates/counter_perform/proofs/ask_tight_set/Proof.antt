@@ -1,8 +1,8 @@
 -- The tight set's line with the benches that are in the list; the state stays.
 use borrow.Author.Needs.{needs}
-use Rattle.performing.proofs.Performing.{table-long, listed-fits, list-short, tight-replies}
-use Rattle.performing.proofs.ask_tight_set.Statement.{statement}
-use Rattle.performing.proofs.ask_tight_set.Tie as tie
+use Rattle.counter_perform.proofs.Performing.{table-long, listed-fits, list-short, tight-replies}
+use Rattle.counter_perform.proofs.ask_tight_set.Statement.{statement}
+use Rattle.counter_perform.proofs.ask_tight_set.Tie as tie
 
 zero-list-requires : tie.Need-zero-list-requires
 zero-list-requires c κs = search needs

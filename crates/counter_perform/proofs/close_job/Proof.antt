@@ -1,8 +1,8 @@
 -- The closing on the table among the bytes, its answer noted, and its line.
 use borrow.Author.Needs.{needs}
-use Rattle.performing.proofs.Performing.{table-long, closing-replies}
-use Rattle.performing.proofs.close_job.Statement.{statement}
-use Rattle.performing.proofs.close_job.Tie as tie
+use Rattle.counter_perform.proofs.Performing.{table-long, closing-replies}
+use Rattle.counter_perform.proofs.close_job.Statement.{statement}
+use Rattle.counter_perform.proofs.close_job.Tie as tie
 
 slice-relend-prefix-closing : tie.Need-slice-relend-prefix-closing
 slice-relend-prefix-closing c = search needs

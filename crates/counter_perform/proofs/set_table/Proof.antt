@@ -3,13 +3,13 @@ use borrow.Author.Needs.{needs}
 use native.Mathlib.Omega.{arith}
 use Prim.Native.Nat.{_≤_}
 use mathlib.Core.Path.{_≡_, sym, _∙_}
-use Rattle.size.specs.Sizes.{sizing}
-use Rattle.size.specs.declared.Sizing.the-variants.{Fit}
-use Rattle.size.proofs.Sizes.{fit-sizing}
-use Rattle.state.specs.State.{tableMost}
-use Rattle.performing.proofs.Performing.{part-long, size-within, misfit-replies, table-replies}
-use Rattle.performing.proofs.set_table.Statement.{statement}
-use Rattle.performing.proofs.set_table.Tie as tie
+use Rattle.table_size.specs.Sizes.{sizing}
+use Rattle.table_size.specs.declared.Sizing.the-variants.{Fit}
+use Rattle.table_size.proofs.Sizes.{fit-sizing}
+use Rattle.counter_state.specs.State.{tableMost}
+use Rattle.counter_perform.proofs.Performing.{part-long, size-within, misfit-replies, table-replies}
+use Rattle.counter_perform.proofs.set_table.Statement.{statement}
+use Rattle.counter_perform.proofs.set_table.Tie as tie
 
 -- the size that `new` returned is for these benches and jobs ..
 asked : (c : tie.After-s) → let args = c .before .before .before .before .before .args in sizing (args .benches) (args .jobs) ≡ Fit (c .s .given .0 .0)

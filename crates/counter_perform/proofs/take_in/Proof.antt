@@ -1,8 +1,8 @@
 -- The arrival on the table among the bytes, its answer noted, and its line.
 use borrow.Author.Needs.{needs}
-use Rattle.performing.proofs.Performing.{table-long, arrival-replies}
-use Rattle.performing.proofs.take_in.Statement.{statement}
-use Rattle.performing.proofs.take_in.Tie as tie
+use Rattle.counter_perform.proofs.Performing.{table-long, arrival-replies}
+use Rattle.counter_perform.proofs.take_in.Statement.{statement}
+use Rattle.counter_perform.proofs.take_in.Tie as tie
 
 slice-relend-prefix-arrival : tie.Need-slice-relend-prefix-arrival
 slice-relend-prefix-arrival c = search needs

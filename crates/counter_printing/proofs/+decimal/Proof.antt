@@ -4,13 +4,13 @@ use Prim.Native.Nat.{ℕ, _<_}
 use native.Mathlib.Omega.{arith}
 use borrow.Fn.Kinds.{In}
 use borrow.Fn.PlainCycle.{Measures, is, falls, and}
-use Rattle.printing.proofs.Writing.{digit-room, digits-room, wrote-digit, wrote-last}
-use Rattle.printing.proofs.decimal.Reads as decimal
-use Rattle.printing.proofs.decimal.Kinds as decimal-kinds
-use Rattle.printing.proofs.+decimal.Lts-decimal as decimal-lts
-use Rattle.printing.proofs.byte.Reads as byte-reads
-use Rattle.printing.proofs.+decimal.{statement}
-use Rattle.printing.proofs.+decimal.Tie.{close}
+use Rattle.counter_printing.proofs.Writing.{digit-room, digits-room, wrote-digit, wrote-last}
+use Rattle.counter_printing.proofs.decimal.Reads as decimal
+use Rattle.counter_printing.proofs.decimal.Kinds as decimal-kinds
+use Rattle.counter_printing.proofs.+decimal.Lts-decimal as decimal-lts
+use Rattle.counter_printing.proofs.byte.Reads as byte-reads
+use Rattle.counter_printing.proofs.+decimal.{statement}
+use Rattle.counter_printing.proofs.+decimal.Tie.{close}
 
 abbrev μ-decimal : Measures 1 decimal-kinds.ps ℕ
 μ-decimal κs a = a .1 .1 .0

@@ -1,8 +1,8 @@
 -- The store is the text.
 use borrow.Author.Needs.{needs}
-use Rattle.printing.proofs.Writing.{wrote-byte}
-use Rattle.printing.proofs.byte.Statement.{statement}
-use Rattle.printing.proofs.byte.Tie as tie
+use Rattle.counter_printing.proofs.Writing.{wrote-byte}
+use Rattle.counter_printing.proofs.byte.Statement.{statement}
+use Rattle.counter_printing.proofs.byte.Tie as tie
 
 slice-write-out : tie.Need-slice-write-out
 slice-write-out c = search needs

@@ -4,11 +4,11 @@ use Prim.Native.Nat.{ℕ, _+_, _-_, _*_, _≤_}
 use native.Mathlib.Omega.{arith}
 use mathlib.Core.Path.{_≡_, ap}
 use lib.ListN.{take}
-use Rattle.layout.specs.Table.{words}
-use Rattle.printing.specs.Wrote.{Wrote, fieldMost, spaced}
-use Rattle.printing.proofs.Writing.{wrote-start, wrote-same, wrote-word}
-use Rattle.printing.proofs.listed.Statement.{statement}
-use Rattle.printing.proofs.listed.Tie as tie
+use Rattle.spec_table.specs.Table.{words}
+use Rattle.counter_printing.specs.Wrote.{Wrote, fieldMost, spaced}
+use Rattle.counter_printing.proofs.Writing.{wrote-start, wrote-same, wrote-word}
+use Rattle.counter_printing.proofs.listed.Statement.{statement}
+use Rattle.counter_printing.proofs.listed.Tie as tie
 
 abbrev Inv-loop : tie.InvT-loop
 Inv-loop out₀ at list count next₀ i₀ out next i =

@@ -1,9 +1,9 @@
 -- A space, and the digits behind it.
 use borrow.Author.Needs.{needs}
 use native.Mathlib.Omega.{arith}
-use Rattle.printing.proofs.Writing.{wrote-then, field-short}
-use Rattle.printing.proofs.number.Statement.{statement}
-use Rattle.printing.proofs.number.Tie as tie
+use Rattle.counter_printing.proofs.Writing.{wrote-then, field-short}
+use Rattle.counter_printing.proofs.number.Statement.{statement}
+use Rattle.counter_printing.proofs.number.Tie as tie
 
 byte-requires : tie.Need-byte-requires
 byte-requires c κs = search needs

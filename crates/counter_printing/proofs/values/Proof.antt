@@ -2,9 +2,9 @@
 use borrow.Author.Needs.{needs}
 use native.Mathlib.Omega.{arith}
 use mathlib.Core.List.{[], _∷_}
-use Rattle.printing.proofs.Writing.{wrote-start, wrote-more, wrote-same, values-some, values-all}
-use Rattle.printing.proofs.values.Statement.{statement}
-use Rattle.printing.proofs.values.Tie as tie
+use Rattle.counter_printing.proofs.Writing.{wrote-start, wrote-more, wrote-same, values-some, values-all}
+use Rattle.counter_printing.proofs.values.Statement.{statement}
+use Rattle.counter_printing.proofs.values.Tie as tie
 
 returns : tie.Need-returns
 returns c =

@@ -1,9 +1,9 @@
 -- Each command's reply is the call's that its arm makes.
 use borrow.Author.Needs.{needs}
-use Rattle.state.specs.State.{counterOf}
-use Rattle.replies.proofs.Replying.{performs-as}
-use Rattle.replies.proofs.perform.Statement.{statement}
-use Rattle.replies.proofs.perform.Tie as tie
+use Rattle.counter_state.specs.State.{counterOf}
+use Rattle.counter_reply.proofs.Replying.{performs-as}
+use Rattle.counter_reply.proofs.perform.Statement.{statement}
+use Rattle.counter_reply.proofs.perform.Tie as tie
 
 enum-known-command : tie.Need-enum-known-command
 enum-known-command c = search needs

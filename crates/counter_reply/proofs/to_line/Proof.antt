@@ -1,9 +1,9 @@
 -- A readable line's command is performed; another line is refused.
 use borrow.Author.Needs.{needs}
-use Rattle.state.specs.State.{counterOf}
-use Rattle.replies.proofs.Replying.{unread-replies, read-replies}
-use Rattle.replies.proofs.to_line.Statement.{statement}
-use Rattle.replies.proofs.to_line.Tie as tie
+use Rattle.counter_state.specs.State.{counterOf}
+use Rattle.counter_reply.proofs.Replying.{unread-replies, read-replies}
+use Rattle.counter_reply.proofs.to_line.Statement.{statement}
+use Rattle.counter_reply.proofs.to_line.Tie as tie
 
 read-requires : tie.Need-read-requires
 read-requires c κs = search needs

@@ -1,10 +1,10 @@
 -- The refusal's number is printed; the state stays.
 use borrow.Author.Needs.{needs}
 use mathlib.Core.Path.{ap}
-use Rattle.answer_lines.specs.AnswerLines.{refusalText}
-use Rattle.state.proofs.Telling.{tells}
-use Rattle.state.proofs.refuse.Statement.{statement}
-use Rattle.state.proofs.refuse.Tie as tie
+use Rattle.counter_answer_lines.specs.AnswerLines.{refusalText}
+use Rattle.counter_state.proofs.Telling.{tells}
+use Rattle.counter_state.proofs.refuse.Statement.{statement}
+use Rattle.counter_state.proofs.refuse.Tie as tie
 
 number-requires : tie.Need-number-requires
 number-requires c κs = search needs

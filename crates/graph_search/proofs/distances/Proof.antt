@@ -1,11 +1,11 @@
 -- The arcs are listed, and one search along the lists finds what v reaches, up to the nearest wanted bench.
 use Prim.Native.Nat.{_+_}
 use borrow.Author.Needs.{needs}
-use Rattle.layout.specs.Table.{mostBenches}
-use Rattle.arrays.specs.Lists.{ListedBy}
-use Rattle.arrays.proofs.Listing.{listable-arcs, listed-below}
-use Rattle.search.proofs.distances.Statement.{statement}
-use Rattle.search.proofs.distances.Tie as tie
+use Rattle.spec_table.specs.Table.{mostBenches}
+use Rattle.graph_lists.specs.Lists.{ListedBy}
+use Rattle.graph_lists.proofs.Listing.{listable-arcs, listed-below}
+use Rattle.graph_search.proofs.distances.Statement.{statement}
+use Rattle.graph_search.proofs.distances.Tie as tie
 
 benches-requires : tie.Need-benches-requires
 benches-requires c κs = search needs

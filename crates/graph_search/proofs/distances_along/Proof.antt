@@ -1,10 +1,10 @@
 -- One search along the lists, with nothing found before.
 use borrow.Author.Needs.{needs}
-use Rattle.basics.proofs.Basics.{within-both}
-use Rattle.arrays.proofs.Listing.{listed-ways}
-use Rattle.search.proofs.Widening.{spread-distances, none-queued, none-stays}
-use Rattle.search.proofs.distances_along.Statement.{statement}
-use Rattle.search.proofs.distances_along.Tie as tie
+use Rattle.spec_lists.proofs.Basics.{within-both}
+use Rattle.graph_lists.proofs.Listing.{listed-ways}
+use Rattle.graph_search.proofs.Widening.{spread-distances, none-queued, none-stays}
+use Rattle.graph_search.proofs.distances_along.Statement.{statement}
+use Rattle.graph_search.proofs.distances_along.Tie as tie
 
 benches-requires : tie.Need-benches-requires
 benches-requires c κs = search needs

@@ -3,13 +3,13 @@
 use Prim.Native.Nat.{_+_, _≤_, _<_}
 use native.Mathlib.Omega.{arith}
 use native.Mathlib.Numerals.{add-one}
-use Rattle.layout.specs.Table.{mostBenches, mostJobs}
-use Rattle.basics.proofs.Basics.{within-high}
-use Rattle.arrays.specs.Arrays.{at}
-use Rattle.arrays.proofs.Listing.{left}
-use Rattle.search.proofs.Widening.{queued-few, Expanding, expand-start, expand-arc, expand-after, expand-less, expand-leads, expand-turn, expand-end}
-use Rattle.search.proofs.expand.Statement.{statement}
-use Rattle.search.proofs.expand.Tie as tie
+use Rattle.spec_table.specs.Table.{mostBenches, mostJobs}
+use Rattle.spec_lists.proofs.Basics.{within-high}
+use Rattle.graph_lists.specs.Arrays.{at}
+use Rattle.graph_lists.proofs.Listing.{left}
+use Rattle.graph_search.proofs.Widening.{queued-few, Expanding, expand-start, expand-arc, expand-after, expand-less, expand-leads, expand-turn, expand-end}
+use Rattle.graph_search.proofs.expand.Statement.{statement}
+use Rattle.graph_search.proofs.expand.Tie as tie
 
 abbrev Inv-loop : tie.InvT-loop
 Inv-loop first next to x found queue₀ dist₀ k found₀ a₀ queue dist found' a =

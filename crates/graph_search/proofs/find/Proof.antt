@@ -1,8 +1,8 @@
 -- A bench with a number stays as it is; one without gets its number and its place.
 use borrow.Author.Needs.{needs}
-use Rattle.search.proofs.Widening.{find-had, find-new}
-use Rattle.search.proofs.find.Statement.{statement}
-use Rattle.search.proofs.find.Tie as tie
+use Rattle.graph_search.proofs.Widening.{find-had, find-new}
+use Rattle.graph_search.proofs.find.Statement.{statement}
+use Rattle.graph_search.proofs.find.Tie as tie
 
 mul-if1 : tie.Need-mul-if1
 mul-if1 c = search needs

@@ -9,16 +9,16 @@ use mathlib.Core.List.{List}
 use lib.Dec.{T}
 use borrow.Author.Needs.{needs}
 use borrow.Author.Tests.{ltb-false}
-use Rattle.basics.specs.Lists.{within}
-use Rattle.layout.specs.Table.{mostBenches}
-use Rattle.basics.proofs.Basics.{within-low, within-high, within-both}
-use Rattle.arrays.specs.Arrays.{at}
-use Rattle.arrays.specs.Keys.{Wanted}
-use Rattle.arrays.specs.Lists.{Joins}
-use Rattle.search.specs.Spread.{Queued, FoundOne, Spread}
-use Rattle.search.proofs.Widening.{queued-few, widened-places, Spreading, Stops, Stopped, spread-start, spread-few, spread-bench, spread-turn, stop-kept, stop-found, spread-stopped, spread-end, ways-leads}
-use Rattle.search.proofs.spread.Statement.{statement}
-use Rattle.search.proofs.spread.Tie as tie
+use Rattle.spec_lists.specs.Lists.{within}
+use Rattle.spec_table.specs.Table.{mostBenches}
+use Rattle.spec_lists.proofs.Basics.{within-low, within-high, within-both}
+use Rattle.graph_lists.specs.Arrays.{at}
+use Rattle.graph_lists.specs.Keys.{Wanted}
+use Rattle.graph_lists.specs.Lists.{Joins}
+use Rattle.graph_search.specs.Spread.{Queued, FoundOne, Spread}
+use Rattle.graph_search.proofs.Widening.{queued-few, widened-places, Spreading, Stops, Stopped, spread-start, spread-few, spread-bench, spread-turn, stop-kept, stop-found, spread-stopped, spread-end, ways-leads}
+use Rattle.graph_search.proofs.spread.Statement.{statement}
+use Rattle.graph_search.proofs.spread.Tie as tie
 
 abbrev Inv-loop : tie.InvT-loop
 Inv-loop first next to benches key limit v found queue₀ dist₀ end₀ done₀ stop₀ queue dist end done stop =

@@ -5,12 +5,12 @@ use lib.ListN.{getD}
 use mir.Syntax.{w64}
 use mir.Val.{Fits}
 use borrow.Author.Needs.{needs}
-use Rattle.layout.specs.Table.{mostBenches, mostJobs}
-use Rattle.arrays.specs.Lists.{ListedBy}
-use Rattle.arrays.proofs.Listing.{listable-arcs, listable-loads, listed-below}
-use Rattle.start.proofs.Starting.{Falling, falling-start, falling-some, falling-none, falling-turn, falling-heavy, least-most, load-less, low-few}
-use Rattle.start.proofs.first_start.Statement.{statement}
-use Rattle.start.proofs.first_start.Tie as tie
+use Rattle.spec_table.specs.Table.{mostBenches, mostJobs}
+use Rattle.graph_lists.specs.Lists.{ListedBy}
+use Rattle.graph_lists.proofs.Listing.{listable-arcs, listable-loads, listed-below}
+use Rattle.graph_start.proofs.Starting.{Falling, falling-start, falling-some, falling-none, falling-turn, falling-heavy, least-most, load-less, low-few}
+use Rattle.graph_start.proofs.first_start.Statement.{statement}
+use Rattle.graph_start.proofs.first_start.Tie as tie
 
 abbrev Inv-loop : tie.InvT-loop
 Inv-loop from to loads r first next heavy after benches queue₀ dist₀ found₀ load₀ queue dist found load = Falling benches (r .low) to loads first next heavy after load found queue dist

@@ -1,8 +1,8 @@
 use borrow.Author.Needs.{needs}
-use Rattle.arrays.proofs.Listing.{array-long}
-use Rattle.start.proofs.Starting.{loads-keys, other-few, least-between}
-use Rattle.start.proofs.range_of.Statement.{statement}
-use Rattle.start.proofs.range_of.Tie as tie
+use Rattle.graph_lists.proofs.Listing.{array-long}
+use Rattle.graph_start.proofs.Starting.{loads-keys, other-few, least-between}
+use Rattle.graph_start.proofs.range_of.Statement.{statement}
+use Rattle.graph_start.proofs.range_of.Tie as tie
 
 least-requires : tie.Need-least-requires
 least-requires c κs = c .pre .0

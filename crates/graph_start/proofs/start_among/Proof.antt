@@ -5,14 +5,14 @@ use native.Mathlib.Omega.{arith}
 use mathlib.Core.Path.{_≡_}
 use lib.Dec.{T}
 use lib.ListN.{getD}
-use Rattle.basics.specs.Lists.{within}
-use Rattle.layout.specs.Table.{mostBenches}
-use Rattle.basics.proofs.Basics.{within-low, within-high, within-both}
-use Rattle.arrays.specs.Lists.{LeastFrom, Joins}
-use Rattle.arrays.proofs.Listing.{least-some, left, left-less}
-use Rattle.start.proofs.Starting.{Among, among-start, among-few, among-first, among-turn, among-end, searched-first, spread-queued, least-most}
-use Rattle.start.proofs.start_among.Statement.{statement}
-use Rattle.start.proofs.start_among.Tie as tie
+use Rattle.spec_lists.specs.Lists.{within}
+use Rattle.spec_table.specs.Table.{mostBenches}
+use Rattle.spec_lists.proofs.Basics.{within-low, within-high, within-both}
+use Rattle.graph_lists.specs.Lists.{LeastFrom, Joins}
+use Rattle.graph_lists.proofs.Listing.{least-some, left, left-less}
+use Rattle.graph_start.proofs.Starting.{Among, among-start, among-few, among-first, among-turn, among-end, searched-first, spread-queued, least-most}
+use Rattle.graph_start.proofs.start_among.Statement.{statement}
+use Rattle.graph_start.proofs.start_among.Tie as tie
 
 abbrev Inv-loop : tie.InvT-loop
 Inv-loop first next to loads after benches load x found queue₀ dist₀ found₀ x₀ queue dist found' x' = Among (Joins first next to) loads benches load x' found' queue dist

@@ -1,11 +1,11 @@
 -- The holder, the bench that rose and the moved jobs.
-use Rattle.calls.specs.Calls.{arrival}
-use Rattle.answers.specs.Answered.{valuesOf}
-use Rattle.desk.proofs.Fits.{Fitting, values-fit}
-use Rattle.desk.proofs.Reports.{done, got, got-fits, fitting, reported-values}
+use Rattle.spec_calls.specs.Calls.{arrival}
+use Rattle.board_answers.specs.Answered.{valuesOf}
+use Rattle.jobboard.proofs.Fits.{Fitting, values-fit}
+use Rattle.jobboard.proofs.Reports.{done, got, got-fits, fitting, reported-values}
 use borrow.Author.Needs.{needs}
-use Rattle.desk.proofs.jobboard_arrival.Statement.{statement}
-use Rattle.desk.proofs.jobboard_arrival.Tie as tie
+use Rattle.jobboard.proofs.jobboard_arrival.Statement.{statement}
+use Rattle.jobboard.proofs.jobboard_arrival.Tie as tie
 
 arrival-requires : tie.Need-arrival-requires
 arrival-requires c κs = search needs

@@ -1,9 +1,9 @@
 -- No values: the number tells all.
 use mathlib.Core.Path.{refl}
-use Rattle.desk.proofs.Reports.{reported}
+use Rattle.jobboard.proofs.Reports.{reported}
 use borrow.Author.Needs.{needs}
-use Rattle.desk.proofs.jobboard_blank.Statement.{statement}
-use Rattle.desk.proofs.jobboard_blank.Tie as tie
+use Rattle.jobboard.proofs.jobboard_blank.Statement.{statement}
+use Rattle.jobboard.proofs.jobboard_blank.Tie as tie
 
 blank-requires : tie.Need-blank-requires
 blank-requires c κs = search needs

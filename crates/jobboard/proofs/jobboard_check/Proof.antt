@@ -1,9 +1,9 @@
 -- No values: the number tells all.
 use mathlib.Core.Path.{refl}
-use Rattle.desk.proofs.Reports.{reported}
+use Rattle.jobboard.proofs.Reports.{reported}
 use borrow.Author.Needs.{needs}
-use Rattle.desk.proofs.jobboard_check.Statement.{statement}
-use Rattle.desk.proofs.jobboard_check.Tie as tie
+use Rattle.jobboard.proofs.jobboard_check.Statement.{statement}
+use Rattle.jobboard.proofs.jobboard_check.Tie as tie
 
 form-check-requires : tie.Need-form-check-requires
 form-check-requires c κs = search needs

@@ -1,11 +1,11 @@
 -- The bench that fell and the moved jobs.
-use Rattle.calls.specs.Calls.{closing}
-use Rattle.answers.specs.Answered.{valuesOf}
-use Rattle.desk.proofs.Fits.{Fitting, values-fit}
-use Rattle.desk.proofs.Reports.{done, got, got-fits, fitting, reported-values}
+use Rattle.spec_calls.specs.Calls.{closing}
+use Rattle.board_answers.specs.Answered.{valuesOf}
+use Rattle.jobboard.proofs.Fits.{Fitting, values-fit}
+use Rattle.jobboard.proofs.Reports.{done, got, got-fits, fitting, reported-values}
 use borrow.Author.Needs.{needs}
-use Rattle.desk.proofs.jobboard_closing.Statement.{statement}
-use Rattle.desk.proofs.jobboard_closing.Tie as tie
+use Rattle.jobboard.proofs.jobboard_closing.Statement.{statement}
+use Rattle.jobboard.proofs.jobboard_closing.Tie as tie
 
 closing-requires : tie.Need-closing-requires
 closing-requires c κs = search needs

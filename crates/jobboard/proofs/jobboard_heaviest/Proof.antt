@@ -1,11 +1,11 @@
 -- The heaviest load.
-use Rattle.calls.specs.Calls.{heaviestLoad}
-use Rattle.answers.specs.Answered.{valuesOf}
-use Rattle.desk.proofs.Fits.{Fitting, values-fit}
-use Rattle.desk.proofs.Reports.{done, got, got-fits, fitting, reported-values}
+use Rattle.spec_calls.specs.Calls.{heaviestLoad}
+use Rattle.board_answers.specs.Answered.{valuesOf}
+use Rattle.jobboard.proofs.Fits.{Fitting, values-fit}
+use Rattle.jobboard.proofs.Reports.{done, got, got-fits, fitting, reported-values}
 use borrow.Author.Needs.{needs}
-use Rattle.desk.proofs.jobboard_heaviest.Statement.{statement}
-use Rattle.desk.proofs.jobboard_heaviest.Tie as tie
+use Rattle.jobboard.proofs.jobboard_heaviest.Statement.{statement}
+use Rattle.jobboard.proofs.jobboard_heaviest.Tie as tie
 
 heaviest-requires : tie.Need-heaviest-requires
 heaviest-requires c κs = search needs

@@ -1,11 +1,11 @@
 -- Whether the board is level.
-use Rattle.calls.specs.Calls.{levelCheck}
-use Rattle.answers.specs.Answered.{valuesOf}
-use Rattle.desk.proofs.Fits.{Fitting, values-fit}
-use Rattle.desk.proofs.Reports.{done, got, got-fits, fitting, reported-values}
+use Rattle.spec_calls.specs.Calls.{levelCheck}
+use Rattle.board_answers.specs.Answered.{valuesOf}
+use Rattle.jobboard.proofs.Fits.{Fitting, values-fit}
+use Rattle.jobboard.proofs.Reports.{done, got, got-fits, fitting, reported-values}
 use borrow.Author.Needs.{needs}
-use Rattle.desk.proofs.jobboard_level_check.Statement.{statement}
-use Rattle.desk.proofs.jobboard_level_check.Tie as tie
+use Rattle.jobboard.proofs.jobboard_level_check.Statement.{statement}
+use Rattle.jobboard.proofs.jobboard_level_check.Tie as tie
 
 level-check-requires : tie.Need-level-check-requires
 level-check-requires c κs = search needs

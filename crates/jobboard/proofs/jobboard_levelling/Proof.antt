@@ -1,11 +1,11 @@
 -- The turned paths, which are within the allowance, and whether the board is level.
-use Rattle.calls.specs.Calls.{levelling}
-use Rattle.answers.specs.Answered.{valuesOf}
-use Rattle.desk.proofs.Fits.{Fitting, values-fit}
-use Rattle.desk.proofs.Reports.{done, got, got-fits, fitting, reported-values}
+use Rattle.spec_calls.specs.Calls.{levelling}
+use Rattle.board_answers.specs.Answered.{valuesOf}
+use Rattle.jobboard.proofs.Fits.{Fitting, values-fit}
+use Rattle.jobboard.proofs.Reports.{done, got, got-fits, fitting, reported-values}
 use borrow.Author.Needs.{needs}
-use Rattle.desk.proofs.jobboard_levelling.Statement.{statement}
-use Rattle.desk.proofs.jobboard_levelling.Tie as tie
+use Rattle.jobboard.proofs.jobboard_levelling.Statement.{statement}
+use Rattle.jobboard.proofs.jobboard_levelling.Tie as tie
 
 levelling-requires : tie.Need-levelling-requires
 levelling-requires c κs = search needs

@@ -1,11 +1,11 @@
 -- The load of a bench.
-use Rattle.calls.specs.Calls.{loadOf}
-use Rattle.answers.specs.Answered.{valuesOf}
-use Rattle.desk.proofs.Fits.{Fitting, values-fit}
-use Rattle.desk.proofs.Reports.{done, got, got-fits, fitting, reported-values}
+use Rattle.spec_calls.specs.Calls.{loadOf}
+use Rattle.board_answers.specs.Answered.{valuesOf}
+use Rattle.jobboard.proofs.Fits.{Fitting, values-fit}
+use Rattle.jobboard.proofs.Reports.{done, got, got-fits, fitting, reported-values}
 use borrow.Author.Needs.{needs}
-use Rattle.desk.proofs.jobboard_load.Statement.{statement}
-use Rattle.desk.proofs.jobboard_load.Tie as tie
+use Rattle.jobboard.proofs.jobboard_load.Statement.{statement}
+use Rattle.jobboard.proofs.jobboard_load.Tie as tie
 
 load-requires : tie.Need-load-requires
 load-requires c κs = search needs

@@ -1,11 +1,11 @@
 -- The benches in the set and the inside jobs.
-use Rattle.calls.specs.Calls.{tightSetOf}
-use Rattle.answers.specs.Answered.{valuesOf}
-use Rattle.desk.proofs.Fits.{Fitting, values-fit}
-use Rattle.desk.proofs.Reports.{done, got, got-fits, fitting, reported-values}
+use Rattle.spec_calls.specs.Calls.{tightSetOf}
+use Rattle.board_answers.specs.Answered.{valuesOf}
+use Rattle.jobboard.proofs.Fits.{Fitting, values-fit}
+use Rattle.jobboard.proofs.Reports.{done, got, got-fits, fitting, reported-values}
 use borrow.Author.Needs.{needs}
-use Rattle.desk.proofs.jobboard_tight_set.Statement.{statement}
-use Rattle.desk.proofs.jobboard_tight_set.Tie as tie
+use Rattle.jobboard.proofs.jobboard_tight_set.Statement.{statement}
+use Rattle.jobboard.proofs.jobboard_tight_set.Tie as tie
 
 tight-set-requires : tie.Need-tight-set-requires
 tight-set-requires c κs = search needs

@@ -3,10 +3,10 @@
 use Prim.Native.Nat.{_-_}
 use native.Mathlib.Omega.{arith}
 use borrow.Author.Needs.{needs}
-use Rattle.layout.specs.Table.{decode}
-use Rattle.arcs.proofs.AsArcs.{Filling, filling-start, filling-turn, filling-end}
-use Rattle.arcs.proofs.fill.Statement.{statement}
-use Rattle.arcs.proofs.fill.Tie as tie
+use Rattle.spec_table.specs.Table.{decode}
+use Rattle.sharing_arcs.proofs.AsArcs.{Filling, filling-start, filling-turn, filling-end}
+use Rattle.sharing_arcs.proofs.fill.Statement.{statement}
+use Rattle.sharing_arcs.proofs.fill.Tie as tie
 
 abbrev Inv-loop : tie.InvT-loop
 Inv-loop t s from₀ to₀ jobs done₀ from to done = Filling (decode t) s done from to

@@ -3,13 +3,13 @@ use Prim.Native.Nat.{ℕ, _+_, _-_, _≤_}
 use native.Mathlib.Omega.{arith}
 use mathlib.Core.Path.{sym, _∙_}
 use borrow.Author.Needs.{needs}
-use Rattle.layout.specs.Board.{namesOf}
-use Rattle.layout.specs.Table.{decode}
-use Rattle.store.specs.View.{Place}
-use Rattle.arcs.specs.Arcs.{OtherOf}
-use Rattle.arcs.proofs.AsArcs.{free-of, held-place, held-of}
-use Rattle.arcs.proofs.other.Statement.{statement}
-use Rattle.arcs.proofs.other.Tie as tie
+use Rattle.spec_table.specs.Board.{namesOf}
+use Rattle.spec_table.specs.Table.{decode}
+use Rattle.table_board.specs.View.{Place}
+use Rattle.sharing_arcs.specs.Arcs.{OtherOf}
+use Rattle.sharing_arcs.proofs.AsArcs.{free-of, held-place, held-of}
+use Rattle.sharing_arcs.proofs.other.Statement.{statement}
+use Rattle.sharing_arcs.proofs.other.Tie as tie
 
 returns : tie.Need-returns
 returns c =

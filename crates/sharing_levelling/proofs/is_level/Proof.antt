@@ -1,9 +1,9 @@
 -- Whether there is no next path.
 use borrow.Author.Needs.{needs}
-use Rattle.arrays.proofs.Listing.{array-long}
-use Rattle.levels.proofs.Turning.{zero-level}
-use Rattle.levels.proofs.is_level.Statement.{statement}
-use Rattle.levels.proofs.is_level.Tie as tie
+use Rattle.graph_lists.proofs.Listing.{array-long}
+use Rattle.sharing_levelling.proofs.Turning.{zero-level}
+use Rattle.sharing_levelling.proofs.is_level.Statement.{statement}
+use Rattle.sharing_levelling.proofs.is_level.Tie as tie
 
 jobs-requires : tie.Need-jobs-requires
 jobs-requires c κs = search needs

@@ -1,9 +1,9 @@
 -- Where loads are even the board is level; else the search for a first bench tells.
 use native.Mathlib.Omega.{arith}
-use Rattle.arcs.proofs.AsArcs.{loads-in, arcs-forth}
-use Rattle.levels.proofs.Turning.{low-most, next-even, next-found}
-use Rattle.levels.proofs.next_start.Statement.{statement}
-use Rattle.levels.proofs.next_start.Tie as tie
+use Rattle.sharing_arcs.proofs.AsArcs.{loads-in, arcs-forth}
+use Rattle.sharing_levelling.proofs.Turning.{low-most, next-even, next-found}
+use Rattle.sharing_levelling.proofs.next_start.Statement.{statement}
+use Rattle.sharing_levelling.proofs.next_start.Tie as tie
 
 loads-requires : tie.Need-loads-requires
 loads-requires c κs = c .before .before .pre .0

@@ -5,11 +5,11 @@ use native.Mathlib.Omega.{arith}
 use mathlib.Core.Logic.{⊎-elim}
 use borrow.Author.Needs.{needs}
 use borrow.Author.Tests.{ltb-true, ltb-false}
-use Rattle.store.proofs.Boards.{sound-kept}
-use Rattle.arrays.proofs.Listing.{array-long}
-use Rattle.levels.proofs.Turning.{Turning, turning-start, turning-ready, turning-turn, turning-end}
-use Rattle.levels.proofs.relevel.Statement.{statement}
-use Rattle.levels.proofs.relevel.Tie as tie
+use Rattle.table_board.proofs.Boards.{sound-kept}
+use Rattle.graph_lists.proofs.Listing.{array-long}
+use Rattle.sharing_levelling.proofs.Turning.{Turning, turning-start, turning-ready, turning-turn, turning-end}
+use Rattle.sharing_levelling.proofs.relevel.Statement.{statement}
+use Rattle.sharing_levelling.proofs.relevel.Tie as tie
 
 abbrev Inv-loop : tie.InvT-loop
 Inv-loop t₀ s allowance from₀ to₀ load₀ paths₀ x₀ t from to load paths x = Turning t₀ t s allowance from to load paths x

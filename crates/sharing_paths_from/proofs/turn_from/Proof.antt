@@ -2,13 +2,13 @@
 -- search back to x, and the route handed over.
 use native.Mathlib.Omega.{arith}
 use borrow.Author.Needs.{needs}
-use Rattle.arrays.proofs.Listing.{listable-arcs, listed-below}
-use Rattle.routes.proofs.Routing.{distances-fall}
-use Rattle.arcs.proofs.AsArcs.{loads-keys, arcs-forth, arcs-back}
-use Rattle.paths.proofs.Stopping.{least-most}
-use Rattle.paths.proofs.Chosen.{from-unneeded, from-none, from-some, end-reached}
-use Rattle.paths_from.proofs.turn_from.Statement.{statement}
-use Rattle.paths_from.proofs.turn_from.Tie as tie
+use Rattle.graph_lists.proofs.Listing.{listable-arcs, listed-below}
+use Rattle.graph_routes.proofs.Routing.{distances-fall}
+use Rattle.sharing_arcs.proofs.AsArcs.{loads-keys, arcs-forth, arcs-back}
+use Rattle.sharing_paths.proofs.Stopping.{least-most}
+use Rattle.sharing_paths.proofs.Chosen.{from-unneeded, from-none, from-some, end-reached}
+use Rattle.sharing_paths_from.proofs.turn_from.Statement.{statement}
+use Rattle.sharing_paths_from.proofs.turn_from.Tie as tie
 
 least-requires : tie.Need-least-requires
 least-requires c κs = c .before .pre .0 .size .limits

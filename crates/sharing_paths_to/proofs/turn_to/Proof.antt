@@ -2,13 +2,13 @@
 -- the route from it handed over.
 use native.Mathlib.Omega.{arith}
 use borrow.Author.Needs.{needs}
-use Rattle.arrays.proofs.Listing.{array-long, listable-arcs, listed-below}
-use Rattle.routes.proofs.Routing.{distances-fall}
-use Rattle.arcs.proofs.AsArcs.{loads-keys, arcs-forth, arcs-back}
-use Rattle.paths.proofs.Stopping.{reversed-keys, least-most}
-use Rattle.paths.proofs.Chosen.{to-unneeded, to-none, to-some}
-use Rattle.paths_to.proofs.turn_to.Statement.{statement}
-use Rattle.paths_to.proofs.turn_to.Tie as tie
+use Rattle.graph_lists.proofs.Listing.{array-long, listable-arcs, listed-below}
+use Rattle.graph_routes.proofs.Routing.{distances-fall}
+use Rattle.sharing_arcs.proofs.AsArcs.{loads-keys, arcs-forth, arcs-back}
+use Rattle.sharing_paths.proofs.Stopping.{reversed-keys, least-most}
+use Rattle.sharing_paths.proofs.Chosen.{to-unneeded, to-none, to-some}
+use Rattle.sharing_paths_to.proofs.turn_to.Statement.{statement}
+use Rattle.sharing_paths_to.proofs.turn_to.Tie as tie
 
 benches-requires : tie.Need-benches-requires
 benches-requires c κs = search needs

@@ -4,18 +4,18 @@ use Prim.Native.Nat.{ℕ, _≤_, _<_}
 use native.Mathlib.Omega.{arith}
 use borrow.Fn.Kinds.{In}
 use borrow.Fn.PlainCycle.{Measures, is, falls, and}
-use Rattle.layout.specs.Table.{mostBenches, mostJobs}
-use Rattle.basics.proofs.Basics.{within-high}
-use Rattle.arrays.specs.Arrays.{at}
-use Rattle.visits.proofs.Visiting.{falling, falls-marked, falls-visit, falls-walk, chain-first, chain-most, chain-leads, chain-next, marks-set, brings-marked, brings-chain, brings-end, brings-job}
-use Rattle.visits.proofs.visit.Reads as visit
-use Rattle.visits.proofs.visit.Kinds as visit-kinds
-use Rattle.visits.proofs.+visit+walk.Lts-visit as visit-lts
-use Rattle.visits.proofs.walk.Reads as walk
-use Rattle.visits.proofs.walk.Kinds as walk-kinds
-use Rattle.visits.proofs.+visit+walk.Lts-walk as walk-lts
-use Rattle.visits.proofs.+visit+walk.{statement}
-use Rattle.visits.proofs.+visit+walk.Tie.{close}
+use Rattle.spec_table.specs.Table.{mostBenches, mostJobs}
+use Rattle.spec_lists.proofs.Basics.{within-high}
+use Rattle.graph_lists.specs.Arrays.{at}
+use Rattle.sharing_visits.proofs.Visiting.{falling, falls-marked, falls-visit, falls-walk, chain-first, chain-most, chain-leads, chain-next, marks-set, brings-marked, brings-chain, brings-end, brings-job}
+use Rattle.sharing_visits.proofs.visit.Reads as visit
+use Rattle.sharing_visits.proofs.visit.Kinds as visit-kinds
+use Rattle.sharing_visits.proofs.+visit+walk.Lts-visit as visit-lts
+use Rattle.sharing_visits.proofs.walk.Reads as walk
+use Rattle.sharing_visits.proofs.walk.Kinds as walk-kinds
+use Rattle.sharing_visits.proofs.+visit+walk.Lts-walk as walk-lts
+use Rattle.sharing_visits.proofs.+visit+walk.{statement}
+use Rattle.sharing_visits.proofs.+visit+walk.Tie.{close}
 
 abbrev μ-visit : Measures 4 visit-kinds.ps ℕ
 μ-visit κs a = falling (a .1 .1 .1 .1 .0 .now) 0

@@ -4,12 +4,12 @@ use Prim.Native.Nat.{_+_, _-_}
 use native.Mathlib.Omega.{arith}
 use mathlib.Core.Logic.{⊎-elim}
 use borrow.Author.Needs.{needs}
-use Rattle.layout.specs.Table.{mostBenches}
-use Rattle.basics.proofs.Basics.{within-both}
-use Rattle.arrays.specs.Lists.{Joins}
-use Rattle.visits.proofs.Visiting.{Heavy, heavy-start, heavy-visit, heavy-pass, heavy-end}
-use Rattle.visits.proofs.visit_heavy.Statement.{statement}
-use Rattle.visits.proofs.visit_heavy.Tie as tie
+use Rattle.spec_table.specs.Table.{mostBenches}
+use Rattle.spec_lists.proofs.Basics.{within-both}
+use Rattle.graph_lists.specs.Lists.{Joins}
+use Rattle.sharing_visits.proofs.Visiting.{Heavy, heavy-start, heavy-visit, heavy-pass, heavy-end}
+use Rattle.sharing_visits.proofs.visit_heavy.Statement.{statement}
+use Rattle.sharing_visits.proofs.visit_heavy.Tie as tie
 
 abbrev Inv-loop : tie.InvT-loop
 Inv-loop first next to loads h marks₀ benches x₀ marks x = Heavy (Joins first next to) loads h benches marks₀ marks x

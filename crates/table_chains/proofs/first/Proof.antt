@@ -1,8 +1,8 @@
 -- Bench x's head begins its chain.
-use Rattle.chains.proofs.ChainView.{first-read}
+use Rattle.table_chains.proofs.ChainView.{first-read}
 use borrow.Author.Needs.{needs}
-use Rattle.chains.proofs.first.Statement.{statement}
-use Rattle.chains.proofs.first.Tie as tie
+use Rattle.table_chains.proofs.first.Statement.{statement}
+use Rattle.table_chains.proofs.first.Tie as tie
 
 head-requires : tie.Need-head-requires
 head-requires c κs = search needs

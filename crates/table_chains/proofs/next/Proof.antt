@@ -1,8 +1,8 @@
 -- A standing job's record tells the next job on its chain.
-use Rattle.store.proofs.Boards.{stands-job}
-use Rattle.chains.proofs.ChainView.{next-read}
-use Rattle.chains.proofs.next.Statement.{statement}
-use Rattle.chains.proofs.next.Tie as tie
+use Rattle.table_board.proofs.Boards.{stands-job}
+use Rattle.table_chains.proofs.ChainView.{next-read}
+use Rattle.table_chains.proofs.next.Statement.{statement}
+use Rattle.table_chains.proofs.next.Tie as tie
 
 read-record-requires : tie.Need-read-record-requires
 read-record-requires c κs =

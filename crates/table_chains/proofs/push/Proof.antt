@@ -3,9 +3,9 @@
 use borrow.Author.Needs.{needs}
 use native.Mathlib.Omega.{arith}
 use mathlib.Core.Path.{sym, _∙_}
-use Rattle.chains.proofs.Settling.{push-vacant, push-held, held-bench}
-use Rattle.chains.proofs.push.Statement.{statement}
-use Rattle.chains.proofs.push.Tie as tie
+use Rattle.table_chains.proofs.Settling.{push-vacant, push-held, held-bench}
+use Rattle.table_chains.proofs.push.Statement.{statement}
+use Rattle.table_chains.proofs.push.Tie as tie
 
 holder-requires : tie.Need-holder-requires
 holder-requires c κs = search needs

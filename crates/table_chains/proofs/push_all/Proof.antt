@@ -3,9 +3,9 @@
 use native.Mathlib.Omega.{arith}
 use mathlib.Core.Path.{_≡_}
 use borrow.Author.Needs.{needs}
-use Rattle.chains.proofs.Settling.{Pushing, pushing-start, pushing-turn, pushing-end, pushing-few}
-use Rattle.chains.proofs.push_all.Statement.{statement}
-use Rattle.chains.proofs.push_all.Tie as tie
+use Rattle.table_chains.proofs.Settling.{Pushing, pushing-start, pushing-turn, pushing-end, pushing-few}
+use Rattle.table_chains.proofs.push_all.Statement.{statement}
+use Rattle.table_chains.proofs.push_all.Tie as tie
 
 abbrev Inv-loop : tie.InvT-loop
 Inv-loop t₀ s count₀ j₀ t count j = Pushing t₀ t s count j

@@ -1,9 +1,9 @@
 -- The heads are cleared, all jobs pushed and their number written: the layout is the board's, and so are the bytes.
 use borrow.Author.Needs.{needs}
 use native.Mathlib.Omega.{arith}
-use Rattle.chains.proofs.Settling.{cleared-kept, linked-few, settle-all}
-use Rattle.chains.proofs.settle.Statement.{statement}
-use Rattle.chains.proofs.settle.Tie as tie
+use Rattle.table_chains.proofs.Settling.{cleared-kept, linked-few, settle-all}
+use Rattle.table_chains.proofs.settle.Statement.{statement}
+use Rattle.table_chains.proofs.settle.Tie as tie
 
 clear-heads-requires : tie.Need-clear-heads-requires
 clear-heads-requires c κs = search needs

@@ -1,8 +1,8 @@
 -- Word 2 of a sound table is the number of standing jobs.
-use Rattle.chains.proofs.ChainView.{standing-read}
+use Rattle.table_chains.proofs.ChainView.{standing-read}
 use borrow.Author.Needs.{needs}
-use Rattle.chains.proofs.standing.Statement.{statement}
-use Rattle.chains.proofs.standing.Tie as tie
+use Rattle.table_chains.proofs.standing.Statement.{statement}
+use Rattle.table_chains.proofs.standing.Tie as tie
 
 standing-word-requires : tie.Need-standing-word-requires
 standing-word-requires c κs = search needs

@@ -2,10 +2,10 @@
 use borrow.Author.Needs.{needs}
 use mathlib.Core.Path.{sym, _∙_}
 use mathlib.Core.Bool.{true, false}
-use Rattle.size.proofs.Sizes.{fit-size}
-use Rattle.form.proofs.Answer.{misfit-answered, fit-answered}
-use Rattle.form.proofs.check.Statement.{statement}
-use Rattle.form.proofs.check.Tie as tie
+use Rattle.table_size.proofs.Sizes.{fit-size}
+use Rattle.table_form.proofs.Answer.{misfit-answered, fit-answered}
+use Rattle.table_form.proofs.check.Statement.{statement}
+use Rattle.table_form.proofs.check.Tie as tie
 
 of-requires : tie.Need-of-requires
 of-requires c κs = search needs

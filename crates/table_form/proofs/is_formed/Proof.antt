@@ -1,12 +1,12 @@
 -- Words 2 and 3, the records and the chains in turn: each of the four returns is one law of what the passes find.
 use mathlib.Core.Path.{_≡_, sym, _∙_}
 use borrow.Author.Needs.{needs}
-use Rattle.words.specs.Bytes.{laid}
-use Rattle.kinds.specs.Kinds.{counted}
-use Rattle.size.proofs.Sizes.{heads-long, entries-long}
-use Rattle.form.proofs.Formed.{Whole, spare-formed, broken-formed, count-formed, walked-formed}
-use Rattle.form.proofs.is_formed.Statement.{statement}
-use Rattle.form.proofs.is_formed.Tie as tie
+use Rattle.table_words.specs.Bytes.{laid}
+use Rattle.table_record_form.specs.Kinds.{counted}
+use Rattle.table_size.proofs.Sizes.{heads-long, entries-long}
+use Rattle.table_form.proofs.Formed.{Whole, spare-formed, broken-formed, count-formed, walked-formed}
+use Rattle.table_form.proofs.is_formed.Statement.{statement}
+use Rattle.table_form.proofs.is_formed.Tie as tie
 
 spare-word-requires : tie.Need-spare-word-requires
 spare-word-requires c κs = search needs

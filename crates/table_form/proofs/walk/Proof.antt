@@ -7,14 +7,14 @@ use mathlib.Core.Logic.{⊎-elim}
 use lib.Dec.{eqb}
 use borrow.Author.Needs.{needs}
 use borrow.Author.Tests.{eq-eqb, ne-eqb, ltb-true, ltb-false}
-use Rattle.basics.specs.Lists.{nth}
-use Rattle.layout.specs.Table.{Entry, vacant}
-use Rattle.words.specs.Bytes.{laid}
-use Rattle.form.specs.Walks.{onlyIf, walked}
-use Rattle.size.proofs.Sizes.{entries-long}
-use Rattle.form.proofs.Walking.{walk-end, walk-full, walk-step, walk-above}
-use Rattle.form.proofs.walk.Statement.{statement}
-use Rattle.form.proofs.walk.Tie as tie
+use Rattle.spec_lists.specs.Lists.{nth}
+use Rattle.spec_table.specs.Table.{Entry, vacant}
+use Rattle.table_words.specs.Bytes.{laid}
+use Rattle.table_form.specs.Walks.{onlyIf, walked}
+use Rattle.table_size.proofs.Sizes.{entries-long}
+use Rattle.table_form.proofs.Walking.{walk-end, walk-full, walk-step, walk-above}
+use Rattle.table_form.proofs.walk.Statement.{statement}
+use Rattle.table_form.proofs.walk.Tie as tie
 
 abbrev Inv-loop : tie.InvT-loop
 Inv-loop t s x left jobs left₀ j₀ left' j =

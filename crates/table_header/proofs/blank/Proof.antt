@@ -3,13 +3,13 @@ use native.Mathlib.Omega.{arith}
 use mathlib.Core.Path.{_≡_, refl, sym, _∙_}
 use lib.ListN.{length}
 use borrow.Author.Needs.{needs}
-use Rattle.layout.specs.Table.{lengthFor}
-use Rattle.size.specs.Sizes.{Limits, sizing}
-use Rattle.size.specs.declared.Sizing.the-variants.{Fit}
-use Rattle.words.proofs.Bytes.{blank-bytes}
-use Rattle.size.proofs.Sizes.{fit-sizing, sizes-fit, sizes-other, sizes-refused}
-use Rattle.header.proofs.blank.Statement.{statement}
-use Rattle.header.proofs.blank.Tie as tie
+use Rattle.spec_table.specs.Table.{lengthFor}
+use Rattle.table_size.specs.Sizes.{Limits, sizing}
+use Rattle.table_size.specs.declared.Sizing.the-variants.{Fit}
+use Rattle.table_words.proofs.Bytes.{blank-bytes}
+use Rattle.table_size.proofs.Sizes.{fit-sizing, sizes-fit, sizes-other, sizes-refused}
+use Rattle.table_header.proofs.blank.Statement.{statement}
+use Rattle.table_header.proofs.blank.Tie as tie
 
 -- the size that `new` returned is `benches` and `jobs` ..
 asked-size : (c : tie.After-known-told) → sizing (c .before .before .before .before .before .args .benches) (c .before .before .before .before .before .args .jobs) ≡ Fit (c .before .s .given .0 .0)

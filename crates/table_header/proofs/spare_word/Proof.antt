@@ -1,8 +1,8 @@
 -- Word 3 is the layout's spare word.
 use borrow.Author.Needs.{needs}
-use Rattle.size.proofs.Written.{spare-read}
-use Rattle.header.proofs.spare_word.Statement.{statement}
-use Rattle.header.proofs.spare_word.Tie as tie
+use Rattle.table_size.proofs.Written.{spare-read}
+use Rattle.table_header.proofs.spare_word.Statement.{statement}
+use Rattle.table_header.proofs.spare_word.Tie as tie
 
 read-requires : tie.Need-read-requires
 read-requires c κs = search needs

@@ -1,8 +1,8 @@
 -- Word 2 is the layout's number of standing jobs.
 use borrow.Author.Needs.{needs}
-use Rattle.size.proofs.Written.{standing-read}
-use Rattle.header.proofs.standing_word.Statement.{statement}
-use Rattle.header.proofs.standing_word.Tie as tie
+use Rattle.table_size.proofs.Written.{standing-read}
+use Rattle.table_header.proofs.standing_word.Statement.{statement}
+use Rattle.table_header.proofs.standing_word.Tie as tie
 
 read-requires : tie.Need-read-requires
 read-requires c κs = search needs

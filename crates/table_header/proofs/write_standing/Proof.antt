@@ -1,8 +1,8 @@
 -- Words 2 and 3 are the layout's number of standing jobs and its spare word, by `laid-standing`.
 use borrow.Author.Needs.{needs}
-use Rattle.size.proofs.Written.{laid-standing}
-use Rattle.header.proofs.write_standing.Statement.{statement}
-use Rattle.header.proofs.write_standing.Tie as tie
+use Rattle.table_size.proofs.Written.{laid-standing}
+use Rattle.table_header.proofs.write_standing.Statement.{statement}
+use Rattle.table_header.proofs.write_standing.Tie as tie
 
 write-requires : tie.Need-write-requires
 write-requires c κs = search needs

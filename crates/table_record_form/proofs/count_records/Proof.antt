@@ -6,13 +6,13 @@ use mathlib.Core.Path.{_≡_, refl, sym, _∙_}
 use mathlib.Core.Logic.{⊎-elim}
 use lib.ListN.{drop}
 use borrow.Author.Needs.{needs}
-use Rattle.words.specs.Bytes.{laid}
-use Rattle.records.specs.Records.{entryOf}
-use Rattle.kinds.specs.Kinds.{byKind, counted}
-use Rattle.size.proofs.Sizes.{entries-long}
-use Rattle.kinds.proofs.Counted.{count-step, count-end}
-use Rattle.kinds.proofs.count_records.Statement.{statement}
-use Rattle.kinds.proofs.count_records.Tie as tie
+use Rattle.table_words.specs.Bytes.{laid}
+use Rattle.table_records.specs.Records.{entryOf}
+use Rattle.table_record_form.specs.Kinds.{byKind, counted}
+use Rattle.table_size.proofs.Sizes.{entries-long}
+use Rattle.table_record_form.proofs.Counted.{count-step, count-end}
+use Rattle.table_record_form.proofs.count_records.Statement.{statement}
+use Rattle.table_record_form.proofs.count_records.Tie as tie
 
 abbrev Inv-loop : tie.InvT-loop
 Inv-loop t s benches jobs count₀ done₀ count done =

@@ -5,10 +5,10 @@ use mathlib.Core.Path.{subst}
 use mathlib.Core.Logic.{⊎-elim, inl, inr}
 use borrow.Author.Needs.{needs}
 use borrow.Author.Tests.{ltb-true, ltb-false}
-use Rattle.words.specs.Bytes.{IsWord}
-use Rattle.size.proofs.Written.{holder-word, holder-none}
-use Rattle.records.proofs.holder_at.Statement.{statement}
-use Rattle.records.proofs.holder_at.Tie as tie
+use Rattle.table_words.specs.Bytes.{IsWord}
+use Rattle.table_size.proofs.Written.{holder-word, holder-none}
+use Rattle.table_records.proofs.holder_at.Statement.{statement}
+use Rattle.table_records.proofs.holder_at.Tie as tie
 
 record-at-requires : tie.Need-record-at-requires
 record-at-requires c κs = search needs

@@ -4,16 +4,16 @@ use native.Mathlib.Omega.{arith}
 use mathlib.Core.Path.{_≡_, sym, ap, _∙_}
 use mathlib.Core.List.{List, [], _∷_}
 use borrow.Author.Needs.{needs}
-use Rattle.layout.specs.Table.{words}
-use Rattle.layout.proofs.Sound.{entryFrom}
-use Rattle.words.specs.Bytes.{IsWord}
-use Rattle.size.specs.Sizes.{SizeOf, JobIn}
-use Rattle.records.specs.Records.{RecordOf, entryOf}
-use Rattle.size.specs.declared.Size.{Size}
-use Rattle.records.specs.declared.Record.{Record}
-use Rattle.size.proofs.Written.{record-words}
-use Rattle.records.proofs.read_record.Statement.{statement}
-use Rattle.records.proofs.read_record.Tie as tie
+use Rattle.spec_table.specs.Table.{words}
+use Rattle.spec_table.proofs.Sound.{entryFrom}
+use Rattle.table_words.specs.Bytes.{IsWord}
+use Rattle.table_size.specs.Sizes.{SizeOf, JobIn}
+use Rattle.table_records.specs.Records.{RecordOf, entryOf}
+use Rattle.table_size.specs.declared.Size.{Size}
+use Rattle.table_records.specs.declared.Record.{Record}
+use Rattle.table_size.proofs.Written.{record-words}
+use Rattle.table_records.proofs.read_record.Statement.{statement}
+use Rattle.table_records.proofs.read_record.Tie as tie
 
 -- words B + 4 × j and the next three are job j's record
 four : (t : List ℕ) (s : Size) (j at : ℕ) (r : Record) → SizeOf t s → JobIn s j → at ≡ s .benches + 4 * j → IsWord t at (r .first) → IsWord t (at + 1) (r .second) → IsWord t (at + 2) (r .holder) → IsWord t (at + 3) (r .next) → RecordOf t j r

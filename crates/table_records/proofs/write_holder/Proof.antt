@@ -1,8 +1,8 @@
 -- The word written is the holder in job j's record, by `laid-holder`.
 use borrow.Author.Needs.{needs}
-use Rattle.size.proofs.Written.{laid-holder}
-use Rattle.records.proofs.write_holder.Statement.{statement}
-use Rattle.records.proofs.write_holder.Tie as tie
+use Rattle.table_size.proofs.Written.{laid-holder}
+use Rattle.table_records.proofs.write_holder.Statement.{statement}
+use Rattle.table_records.proofs.write_holder.Tie as tie
 
 record-at-requires : tie.Need-record-at-requires
 record-at-requires c κs = search needs

@@ -1,8 +1,8 @@
 -- The word written is the next job in job j's record, by `laid-next`.
 use borrow.Author.Needs.{needs}
-use Rattle.size.proofs.Written.{laid-next}
-use Rattle.records.proofs.write_next.Statement.{statement}
-use Rattle.records.proofs.write_next.Tie as tie
+use Rattle.table_size.proofs.Written.{laid-next}
+use Rattle.table_records.proofs.write_next.Statement.{statement}
+use Rattle.table_records.proofs.write_next.Tie as tie
 
 record-at-requires : tie.Need-record-at-requires
 record-at-requires c κs = search needs

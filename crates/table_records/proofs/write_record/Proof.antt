@@ -1,8 +1,8 @@
 -- The four words written are job j's record, by `laid-entry`.
 use borrow.Author.Needs.{needs}
-use Rattle.size.proofs.Written.{laid-entry}
-use Rattle.records.proofs.write_record.Statement.{statement}
-use Rattle.records.proofs.write_record.Tie as tie
+use Rattle.table_size.proofs.Written.{laid-entry}
+use Rattle.table_records.proofs.write_record.Statement.{statement}
+use Rattle.table_records.proofs.write_record.Tie as tie
 
 record-at-requires : tie.Need-record-at-requires
 record-at-requires c κs = search needs

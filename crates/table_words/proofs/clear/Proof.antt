@@ -7,8 +7,8 @@ use mathlib.Core.List.{List, _++_, append-nil}
 use lib.ListN.{length, set, drop, replicate, length-set}
 use lib.Seq.{drop-length}
 use borrow.Author.Fill.{fill-none, fill-more}
-use Rattle.words.proofs.clear.Statement.{statement}
-use Rattle.words.proofs.clear.Tie as tie
+use Rattle.table_words.proofs.clear.Statement.{statement}
+use Rattle.table_words.proofs.clear.Tie as tie
 
 abbrev Inv-loop : tie.InvT-loop
 Inv-loop bytes₀ i₀ bytes i =

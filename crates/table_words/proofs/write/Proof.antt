@@ -1,9 +1,9 @@
 -- The two stores are the definition of a word written anew.
 use borrow.Author.Needs.{needs}
 use mathlib.Core.Path.{refl}
-use Rattle.words.specs.Bytes.{setWord}
-use Rattle.words.proofs.write.Statement.{statement}
-use Rattle.words.proofs.write.Tie as tie
+use Rattle.table_words.specs.Bytes.{setWord}
+use Rattle.table_words.proofs.write.Statement.{statement}
+use Rattle.table_words.proofs.write.Tie as tie
 
 cast-bytes : tie.Need-cast-bytes
 cast-bytes c = search needs

@@ -1,8 +1,8 @@
 -- The measure is how many heights are left.
 use Prim.Native.Nat.{_≤_, _-_}
 use borrow.Author.Needs.{needs}
-use Rattle.board_checks.proofs.are_least.Statement.{statement}
-use Rattle.board_checks.proofs.are_least.Tie as tie
+use Rattle.test_board_checks.proofs.are_least.Statement.{statement}
+use Rattle.test_board_checks.proofs.are_least.Tie as tie
 
 abbrev Inv-loop : tie.InvT-loop
 Inv-loop loads least height₀ height = height ≤ 9

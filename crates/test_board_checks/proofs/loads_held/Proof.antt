@@ -1,8 +1,8 @@
 -- The measure is how many jobs are left.
 use Prim.Native.Nat.{_≤_, _-_}
 use borrow.Author.Needs.{needs}
-use Rattle.board_checks.proofs.loads_held.Statement.{statement}
-use Rattle.board_checks.proofs.loads_held.Tie as tie
+use Rattle.test_board_checks.proofs.loads_held.Statement.{statement}
+use Rattle.test_board_checks.proofs.loads_held.Tie as tie
 
 abbrev Inv-loop : tie.InvT-loop
 Inv-loop held loads₀ job₀ loads job = job ≤ 9

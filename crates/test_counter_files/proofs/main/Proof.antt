@@ -1,8 +1,8 @@
 -- The measure is how many arguments are left.
 use Prim.Native.Nat.{_-_}
 use borrow.Author.Needs.{needs}
-use Rattle.counter_files.proofs.main.Statement.{statement}
-use Rattle.counter_files.proofs.main.Tie as tie
+use Rattle.test_counter_files.proofs.main.Statement.{statement}
+use Rattle.test_counter_files.proofs.main.Tie as tie
 
 abbrev Inv-loop : tie.InvT-loop
 Inv-loop count i₀ i = Unit {0}

@@ -1,8 +1,8 @@
 -- The measure is how many jobs are left.
 use Prim.Native.Nat.{_-_}
 use borrow.Author.Needs.{needs}
-use Rattle.five_benches.proofs.all_arrive.Statement.{statement}
-use Rattle.five_benches.proofs.all_arrive.Tie as tie
+use Rattle.test_five_benches.proofs.all_arrive.Statement.{statement}
+use Rattle.test_five_benches.proofs.all_arrive.Tie as tie
 
 abbrev Inv-loop : tie.InvT-loop
 Inv-loop tables₀ order place k₀ tables k = Unit {0}

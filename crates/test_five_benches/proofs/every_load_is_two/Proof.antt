@@ -1,8 +1,8 @@
 -- The measure is how many benches are left.
 use Prim.Native.Nat.{_≤_, _-_}
 use borrow.Author.Needs.{needs}
-use Rattle.five_benches.proofs.every_load_is_two.Statement.{statement}
-use Rattle.five_benches.proofs.every_load_is_two.Tie as tie
+use Rattle.test_five_benches.proofs.every_load_is_two.Statement.{statement}
+use Rattle.test_five_benches.proofs.every_load_is_two.Tie as tie
 
 abbrev Inv-loop : tie.InvT-loop
 Inv-loop t bench₀ bench = bench ≤ 6

@@ -1,8 +1,8 @@
 -- The loop stays within the table. The measure is how many bytes are left.
 use Prim.Native.Nat.{_≤_, _-_}
 use borrow.Author.Needs.{needs}
-use Rattle.five_benches.proofs.keep_table.Statement.{statement}
-use Rattle.five_benches.proofs.keep_table.Tie as tie
+use Rattle.test_five_benches.proofs.keep_table.Statement.{statement}
+use Rattle.test_five_benches.proofs.keep_table.Tie as tie
 
 abbrev Inv-loop : tie.InvT-loop
 Inv-loop tables₀ jobs t i₀ tables i = i ≤ 98

@@ -1,8 +1,8 @@
 -- The loop stays within the order. The measure is the place.
 use Prim.Native.Nat.{_≤_}
 use borrow.Author.Needs.{needs}
-use Rattle.five_benches.proofs.last_above.Statement.{statement}
-use Rattle.five_benches.proofs.last_above.Tie as tie
+use Rattle.test_five_benches.proofs.last_above.Statement.{statement}
+use Rattle.test_five_benches.proofs.last_above.Tie as tie
 
 abbrev Inv-loop : tie.InvT-loop
 Inv-loop order k m₀ m = m ≤ 9

@@ -1,8 +1,8 @@
 -- The measure is how many orders are left of those allowed.
 use Prim.Native.Nat.{_≤_, _-_}
 use borrow.Author.Needs.{needs}
-use Rattle.five_benches.proofs.main.Statement.{statement}
-use Rattle.five_benches.proofs.main.Tie as tie
+use Rattle.test_five_benches.proofs.main.Statement.{statement}
+use Rattle.test_five_benches.proofs.main.Tie as tie
 
 abbrev Inv-loop : tie.InvT-loop
 Inv-loop tables₀ order₀ place₀ orders₀ wrong₀ t6 t7 tables order place orders wrong = orders ≤ 4000000

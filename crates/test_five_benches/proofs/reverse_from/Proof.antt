@@ -1,8 +1,8 @@
 -- The loop stays within the order. The measure is the upper place.
 use Prim.Native.Nat.{_≤_}
 use borrow.Author.Needs.{needs}
-use Rattle.five_benches.proofs.reverse_from.Statement.{statement}
-use Rattle.five_benches.proofs.reverse_from.Tie as tie
+use Rattle.test_five_benches.proofs.reverse_from.Statement.{statement}
+use Rattle.test_five_benches.proofs.reverse_from.Tie as tie
 
 abbrev Inv-loop : tie.InvT-loop
 Inv-loop order₀ place a₀ b₀ order a b = b ≤ 9

@@ -1,8 +1,8 @@
 -- The loop stays within the table. The measure is how many bytes are left.
 use Prim.Native.Nat.{_≤_, _-_}
 use borrow.Author.Needs.{needs}
-use Rattle.five_benches.proofs.table_of.Statement.{statement}
-use Rattle.five_benches.proofs.table_of.Tie as tie
+use Rattle.test_five_benches.proofs.table_of.Statement.{statement}
+use Rattle.test_five_benches.proofs.table_of.Tie as tie
 
 abbrev Inv-loop : tie.InvT-loop
 Inv-loop tables jobs t₀ i₀ t i = i ≤ 98

@@ -3,8 +3,8 @@ use Prim.Native.Nat.{_≤_, _-_}
 use mathlib.Core.Path.{_≡_}
 use borrow.Author.Needs.{needs}
 use lib.ListN.{length}
-use Rattle.small_boards.proofs.calls.Statement.{statement}
-use Rattle.small_boards.proofs.calls.Tie as tie
+use Rattle.test_small_boards.proofs.calls.Statement.{statement}
+use Rattle.test_small_boards.proofs.calls.Tie as tie
 
 abbrev Inv-loop : tie.InvT-loop
 Inv-loop t₀ book₀ benches jobs start seed counts₀ level₀ s₀ n₀ t book counts level s n = (n ≤ 30) × (length t ≡ length t₀)

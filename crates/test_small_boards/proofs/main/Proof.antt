@@ -1,8 +1,8 @@
 -- The measure is how many runs are left.
 use Prim.Native.Nat.{_≤_, _-_}
 use borrow.Author.Needs.{needs}
-use Rattle.small_boards.proofs.main.Statement.{statement}
-use Rattle.small_boards.proofs.main.Tie as tie
+use Rattle.test_small_boards.proofs.main.Statement.{statement}
+use Rattle.test_small_boards.proofs.main.Tie as tie
 
 abbrev Inv-loop : tie.InvT-loop
 Inv-loop counts₀ seed₀ n₀ counts seed n = n ≤ 2000

@@ -1,8 +1,8 @@
 -- The measure is how many numbers are left.
 use Prim.Native.Nat.{_≤_, _-_}
 use borrow.Author.Needs.{needs}
-use Rattle.small_boards.proofs.print_refused.Statement.{statement}
-use Rattle.small_boards.proofs.print_refused.Tie as tie
+use Rattle.test_small_boards.proofs.print_refused.Statement.{statement}
+use Rattle.test_small_boards.proofs.print_refused.Tie as tie
 
 abbrev Inv-loop : tie.InvT-loop
 Inv-loop counts number₀ t3 number = number ≤ 7

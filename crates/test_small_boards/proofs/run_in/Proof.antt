@@ -3,8 +3,8 @@ use mathlib.Core.Path.{sym}
 use native.Mathlib.Omega.{arith}
 use lib.Seq.{length-take-le}
 use borrow.Author.Needs.{needs}
-use Rattle.small_boards.proofs.run_in.Statement.{statement}
-use Rattle.small_boards.proofs.run_in.Tie as tie
+use Rattle.test_small_boards.proofs.run_in.Statement.{statement}
+use Rattle.test_small_boards.proofs.run_in.Tie as tie
 
 table-length-requires : tie.Need-table-length-requires
 table-length-requires c κs = search needs

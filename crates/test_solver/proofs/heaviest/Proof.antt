@@ -1,8 +1,8 @@
 -- The measure is how many benches are left.
 use Prim.Native.Nat.{_≤_, _-_}
 use borrow.Author.Needs.{needs}
-use Rattle.every_sharing.proofs.heaviest.Statement.{statement}
-use Rattle.every_sharing.proofs.heaviest.Tie as tie
+use Rattle.test_solver.proofs.heaviest.Statement.{statement}
+use Rattle.test_solver.proofs.heaviest.Tie as tie
 
 abbrev Inv-loop : tie.InvT-loop
 Inv-loop loads most₀ bench₀ most bench = bench ≤ 6

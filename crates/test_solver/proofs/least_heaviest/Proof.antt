@@ -1,8 +1,8 @@
 -- The measure is how many sharings are left.
 use Prim.Native.Nat.{_≤_, _-_}
 use borrow.Author.Needs.{needs}
-use Rattle.every_sharing.proofs.least_heaviest.Statement.{statement}
-use Rattle.every_sharing.proofs.least_heaviest.Tie as tie
+use Rattle.test_solver.proofs.least_heaviest.Statement.{statement}
+use Rattle.test_solver.proofs.least_heaviest.Tie as tie
 
 abbrev Inv-loop : tie.InvT-loop
 Inv-loop book least₀ sharing₀ least sharing = sharing ≤ 256

@@ -1,8 +1,8 @@
 -- The measure is how many jobs are left.
 use Prim.Native.Nat.{_≤_, _-_}
 use borrow.Author.Needs.{needs}
-use Rattle.every_sharing.proofs.loads_of.Statement.{statement}
-use Rattle.every_sharing.proofs.loads_of.Tie as tie
+use Rattle.test_solver.proofs.loads_of.Statement.{statement}
+use Rattle.test_solver.proofs.loads_of.Tie as tie
 
 abbrev Inv-loop : tie.InvT-loop
 Inv-loop book sharing loads₀ rest₀ job₀ loads rest job = job ≤ 9

@@ -1,8 +1,8 @@
 -- The measure is how many heights are left.
 use Prim.Native.Nat.{_≤_, _-_}
 use borrow.Author.Needs.{needs}
-use Rattle.every_sharing.proofs.lower.Statement.{statement}
-use Rattle.every_sharing.proofs.lower.Tie as tie
+use Rattle.test_solver.proofs.lower.Statement.{statement}
+use Rattle.test_solver.proofs.lower.Tie as tie
 
 abbrev Inv-loop : tie.InvT-loop
 Inv-loop least₀ loads height₀ least height = height ≤ 9

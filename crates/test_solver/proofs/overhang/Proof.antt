@@ -1,8 +1,8 @@
 -- The measure is how many benches are left.
 use Prim.Native.Nat.{_≤_, _-_}
 use borrow.Author.Needs.{needs}
-use Rattle.every_sharing.proofs.overhang.Statement.{statement}
-use Rattle.every_sharing.proofs.overhang.Tie as tie
+use Rattle.test_solver.proofs.overhang.Statement.{statement}
+use Rattle.test_solver.proofs.overhang.Tie as tie
 
 abbrev Inv-loop : tie.InvT-loop
 Inv-loop loads height sum₀ bench₀ sum bench = bench ≤ 6

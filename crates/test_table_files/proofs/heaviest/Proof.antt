@@ -1,8 +1,8 @@
 -- The loop stays within the 501 loads. The measure is how many are left.
 use Prim.Native.Nat.{_≤_, _-_}
 use borrow.Author.Needs.{needs}
-use Rattle.table_files.proofs.heaviest.Statement.{statement}
-use Rattle.table_files.proofs.heaviest.Tie as tie
+use Rattle.test_table_files.proofs.heaviest.Statement.{statement}
+use Rattle.test_table_files.proofs.heaviest.Tie as tie
 
 abbrev Inv-loop : tie.InvT-loop
 Inv-loop loads most₀ x₀ most x = x ≤ 501

@@ -1,7 +1,7 @@
 -- A sound table's records hold its board.
 use borrow.Author.Needs.{needs}
-use Rattle.table_files.proofs.print_sound.Statement.{statement}
-use Rattle.table_files.proofs.print_sound.Tie as tie
+use Rattle.test_table_files.proofs.print_sound.Statement.{statement}
+use Rattle.test_table_files.proofs.print_sound.Tie as tie
 
 loads-requires : tie.Need-loads-requires
 loads-requires c κs = search needs

@@ -1,7 +1,7 @@
 -- The table that the form check finds sound is sound.
 use borrow.Author.Needs.{needs}
-use Rattle.table_files.proofs.print_table.Statement.{statement}
-use Rattle.table_files.proofs.print_table.Tie as tie
+use Rattle.test_table_files.proofs.print_table.Statement.{statement}
+use Rattle.test_table_files.proofs.print_table.Tie as tie
 
 check-requires : tie.Need-check-requires
 check-requires c κs = search needs

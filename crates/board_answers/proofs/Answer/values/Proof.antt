@@ -2,12 +2,12 @@
 use mathlib.Core.Path.{_≡_, refl, sym, ap, _∙_}
 use lib.ListN.{drop}
 use borrow.Author.Needs.{needs}
-use Rattle.calls.specs.Answers.{inNumbers}
-use Rattle.answers.specs.Answered.{answerOf, valuesOf}
-use Rattle.answers.specs.declared.Answer.{Answer}
-use Rattle.answers.specs.declared.Values.{Values}
-use Rattle.answers.proofs.Answer.values.Statement.{statement}
-use Rattle.answers.proofs.Answer.values.Tie as tie
+use Rattle.spec_calls.specs.Answers.{inNumbers}
+use Rattle.board_answers.specs.Answered.{answerOf, valuesOf}
+use Rattle.board_answers.specs.declared.Answer.{Answer}
+use Rattle.board_answers.specs.declared.Values.{Values}
+use Rattle.board_answers.proofs.Answer.values.Statement.{statement}
+use Rattle.board_answers.proofs.Answer.values.Tie as tie
 
 -- the values of an answer are those of its case
 told : {v w : Values} {a b : Answer} → v ≡ w → a ≡ b → valuesOf w ≡ drop 1 (inNumbers (answerOf b)) → valuesOf v ≡ drop 1 (inNumbers (answerOf a))

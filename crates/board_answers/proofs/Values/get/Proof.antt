@@ -6,9 +6,9 @@ use mathlib.Core.Logic.{_≢_}
 use mathlib.Core.List.{List, [], _∷_}
 use lib.ListN.{length, take, length-take, List·getD-eq-default}
 use lib.Seq.{getD-take}
-use Rattle.basics.specs.Lists.{nth}
-use Rattle.answers.proofs.Values.get.Statement.{statement}
-use Rattle.answers.proofs.Values.get.Tie as tie
+use Rattle.spec_lists.specs.Lists.{nth}
+use Rattle.board_answers.proofs.Values.get.Statement.{statement}
+use Rattle.board_answers.proofs.Values.get.Tie as tie
 
 -- beyond its end a list has nothing
 beyond : (l : List ℕ) (k d : ℕ) → length l < k → nth l k d ≡ d

@@ -1,9 +1,9 @@
 -- The form check's answer is refusal 1, refusal 2, or that the table is sound, which is all that an arrival on it asks for.
-use Rattle.calls.specs.Calls.{arrival}
-use Rattle.answers.proofs.Formal.{sizes-refused, unsound-refused}
+use Rattle.spec_calls.specs.Calls.{arrival}
+use Rattle.board_answers.proofs.Formal.{sizes-refused, unsound-refused}
 use borrow.Author.Needs.{needs}
-use Rattle.board.proofs.changes.arrival.Statement.{statement}
-use Rattle.board.proofs.changes.arrival.Tie as tie
+use Rattle.board_changes.proofs.changes.arrival.Statement.{statement}
+use Rattle.board_changes.proofs.changes.arrival.Tie as tie
 
 check-requires : tie.Need-check-requires
 check-requires c κs = search needs

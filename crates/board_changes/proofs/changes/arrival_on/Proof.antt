@@ -1,12 +1,12 @@
 -- Each test is one of document 01's refusals, in its order; past them the arrival is the rule's.
 use mathlib.Core.Logic.{⊎-elim, inl, inr}
 use borrow.Author.Tests.{eqb-true}
-use Rattle.layout.specs.Table.{decode}
-use Rattle.calls.proofs.Outcomes.{MayArrive}
-use Rattle.board.proofs.Writing.{Numbered, arrival-number, bench-wrong, arrival-bench, readable, arrival-numbered, arrival-standing, may-arrive, arrival-left}
+use Rattle.spec_table.specs.Table.{decode}
+use Rattle.spec_calls.proofs.Outcomes.{MayArrive}
+use Rattle.board_changes.proofs.Writing.{Numbered, arrival-number, bench-wrong, arrival-bench, readable, arrival-numbered, arrival-standing, may-arrive, arrival-left}
 use borrow.Author.Needs.{needs}
-use Rattle.board.proofs.changes.arrival_on.Statement.{statement}
-use Rattle.board.proofs.changes.arrival_on.Tie as tie
+use Rattle.board_changes.proofs.changes.arrival_on.Statement.{statement}
+use Rattle.board_changes.proofs.changes.arrival_on.Tie as tie
 
 has-job-requires : tie.Need-has-job-requires
 has-job-requires c κs = search needs

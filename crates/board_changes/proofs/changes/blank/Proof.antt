@@ -1,9 +1,9 @@
 -- The answer and the bytes of a blanking, by whether the sizes fit.
 use mathlib.Core.Bool.{true, false}
-use Rattle.board.proofs.Writing.{blanking-left}
+use Rattle.board_changes.proofs.Writing.{blanking-left}
 use borrow.Author.Needs.{needs}
-use Rattle.board.proofs.changes.blank.Statement.{statement}
-use Rattle.board.proofs.changes.blank.Tie as tie
+use Rattle.board_changes.proofs.changes.blank.Statement.{statement}
+use Rattle.board_changes.proofs.changes.blank.Tie as tie
 
 blank-requires : tie.Need-blank-requires
 blank-requires c κs = search needs

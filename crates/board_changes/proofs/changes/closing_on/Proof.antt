@@ -1,8 +1,8 @@
 -- Each test is one of document 01's refusals, in its order; past them the closing is the rule's.
-use Rattle.board.proofs.Writing.{passed, closing-number, readable, closing-standing, closing-left}
+use Rattle.board_changes.proofs.Writing.{passed, closing-number, readable, closing-standing, closing-left}
 use borrow.Author.Needs.{needs}
-use Rattle.board.proofs.changes.closing_on.Statement.{statement}
-use Rattle.board.proofs.changes.closing_on.Tie as tie
+use Rattle.board_changes.proofs.changes.closing_on.Statement.{statement}
+use Rattle.board_changes.proofs.changes.closing_on.Tie as tie
 
 has-job-requires : tie.Need-has-job-requires
 has-job-requires c κs = search needs

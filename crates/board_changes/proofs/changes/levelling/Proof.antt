@@ -1,12 +1,12 @@
 -- The form check's answer is refusal 1, refusal 2, or that the table is sound and can be levelled.
 use mathlib.Core.Bool.{true, false}
-use Rattle.calls.specs.Calls.{levelling}
-use Rattle.size.specs.Sizes.{SoundTable}
-use Rattle.answers.proofs.Formal.{sizes-refused, unsound-refused}
-use Rattle.board.proofs.Writing.{levelling-left}
+use Rattle.spec_calls.specs.Calls.{levelling}
+use Rattle.table_size.specs.Sizes.{SoundTable}
+use Rattle.board_answers.proofs.Formal.{sizes-refused, unsound-refused}
+use Rattle.board_changes.proofs.Writing.{levelling-left}
 use borrow.Author.Needs.{needs}
-use Rattle.board.proofs.changes.levelling.Statement.{statement}
-use Rattle.board.proofs.changes.levelling.Tie as tie
+use Rattle.board_changes.proofs.changes.levelling.Statement.{statement}
+use Rattle.board_changes.proofs.changes.levelling.Tie as tie
 
 check-requires : tie.Need-check-requires
 check-requires c κs = search needs

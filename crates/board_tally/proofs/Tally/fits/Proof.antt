@@ -3,10 +3,10 @@ use borrow.Author.Needs.{needs}
 use Prim.Native.Nat.{ℕ, _+_}
 use mathlib.Core.Bool.{Bool}
 use lib.Dec.{leb}
-use Rattle.calls.specs.Tally.{mostCount}
-use Rattle.tally.proofs.Noting.{first-full, second-full, third-tells}
-use Rattle.tally.proofs.Tally.fits.Statement.{statement}
-use Rattle.tally.proofs.Tally.fits.Tie as tie
+use Rattle.spec_calls.specs.Tally.{mostCount}
+use Rattle.board_tally.proofs.Noting.{first-full, second-full, third-tells}
+use Rattle.board_tally.proofs.Tally.fits.Statement.{statement}
+use Rattle.board_tally.proofs.Tally.fits.Tie as tie
 
 -- the test of one count
 abbrev room : ℕ → ℕ → Bool

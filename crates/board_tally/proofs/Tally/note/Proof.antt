@@ -1,8 +1,8 @@
 -- An arrival and a closing raise their counts, any other answer none.
 use borrow.Author.Needs.{needs}
-use Rattle.tally.proofs.Noting.{arrival-told, closing-told, other-told}
-use Rattle.tally.proofs.Tally.note.Statement.{statement}
-use Rattle.tally.proofs.Tally.note.Tie as tie
+use Rattle.board_tally.proofs.Noting.{arrival-told, closing-told, other-told}
+use Rattle.board_tally.proofs.Tally.note.Statement.{statement}
+use Rattle.board_tally.proofs.Tally.note.Tie as tie
 
 enum-known-a : tie.Need-enum-known-a
 enum-known-a c = search needs

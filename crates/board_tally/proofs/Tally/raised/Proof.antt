@@ -1,11 +1,11 @@
 -- All three counts are raised, or none.
 use borrow.Author.Needs.{needs}
 use native.Mathlib.Omega.{arith}
-use Rattle.calls.proofs.Tally.{Fits32}
-use Rattle.tally.specs.Counts.{more}
-use Rattle.tally.proofs.Noting.{raises-fit, counted-noted, full-noted}
-use Rattle.tally.proofs.Tally.raised.Statement.{statement}
-use Rattle.tally.proofs.Tally.raised.Tie as tie
+use Rattle.spec_calls.proofs.Tally.{Fits32}
+use Rattle.board_tally.specs.Counts.{more}
+use Rattle.board_tally.proofs.Noting.{raises-fit, counted-noted, full-noted}
+use Rattle.board_tally.proofs.Tally.raised.Statement.{statement}
+use Rattle.board_tally.proofs.Tally.raised.Tie as tie
 
 fits-requires : tie.Need-fits-requires
 fits-requires c κs = search needs

@@ -1,7 +1,7 @@
 -- Each case, by computation.
 use borrow.Author.Needs.{needs}
-use Rattle.commands.proofs.Numbers.and.Statement.{statement}
-use Rattle.commands.proofs.Numbers.and.Tie as tie
+use Rattle.counter_commands.proofs.Numbers.and.Statement.{statement}
+use Rattle.counter_commands.proofs.Numbers.and.Tie as tie
 
 enum-told : tie.Need-enum-told
 enum-told c = search needs

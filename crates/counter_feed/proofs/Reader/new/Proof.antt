@@ -1,8 +1,8 @@
 -- The reader stands before the first byte.
 use borrow.Author.Needs.{needs}
-use Rattle.counting.proofs.Hearing.{begins}
-use Rattle.counting.proofs.Reader.new.Statement.{statement}
-use Rattle.counting.proofs.Reader.new.Tie as tie
+use Rattle.counter_feed.proofs.Hearing.{begins}
+use Rattle.counter_feed.proofs.Reader.new.Statement.{statement}
+use Rattle.counter_feed.proofs.Reader.new.Tie as tie
 
 new-requires : tie.Need-new-requires
 new-requires c κs = search needs

@@ -2,8 +2,8 @@
 use borrow.Author.Needs.{needs}
 use mathlib.Core.Path.{refl}
 use mathlib.Core.List.{[]}
-use Rattle.state.proofs.Counter.new.Statement.{statement}
-use Rattle.state.proofs.Counter.new.Tie as tie
+use Rattle.counter_state.proofs.Counter.new.Statement.{statement}
+use Rattle.counter_state.proofs.Counter.new.Tie as tie
 
 new-requires : tie.Need-new-requires
 new-requires c κs = search needs

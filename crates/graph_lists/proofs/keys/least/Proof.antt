@@ -2,9 +2,9 @@
 use Prim.Native.Nat.{_-_}
 use native.Mathlib.Omega.{arith}
 use borrow.Author.Needs.{needs}
-use Rattle.arrays.proofs.Keying.{LeastTo, least-start, least-lower, least-same, least-end}
-use Rattle.arrays.proofs.keys.least.Statement.{statement}
-use Rattle.arrays.proofs.keys.least.Tie as tie
+use Rattle.graph_lists.proofs.Keying.{LeastTo, least-start, least-lower, least-same, least-end}
+use Rattle.graph_lists.proofs.keys.least.Statement.{statement}
+use Rattle.graph_lists.proofs.keys.least.Tie as tie
 
 abbrev Inv-loop : tie.InvT-loop
 Inv-loop key benches low₀ done₀ low done = LeastTo key benches done low

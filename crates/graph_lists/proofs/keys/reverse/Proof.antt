@@ -2,9 +2,9 @@
 use Prim.Native.Nat.{_+_, _-_}
 use native.Mathlib.Omega.{arith}
 use borrow.Author.Needs.{needs}
-use Rattle.arrays.proofs.Keying.{ReversedTo, reversed-start, reversed-turn, reversed-end}
-use Rattle.arrays.proofs.keys.reverse.Statement.{statement}
-use Rattle.arrays.proofs.keys.reverse.Tie as tie
+use Rattle.graph_lists.proofs.Keying.{ReversedTo, reversed-start, reversed-turn, reversed-end}
+use Rattle.graph_lists.proofs.keys.reverse.Statement.{statement}
+use Rattle.graph_lists.proofs.keys.reverse.Tie as tie
 
 abbrev Inv-loop : tie.InvT-loop
 Inv-loop key other₀ benches done₀ other done = ReversedTo key benches done other

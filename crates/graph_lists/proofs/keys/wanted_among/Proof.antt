@@ -3,10 +3,10 @@ use Prim.Native.Nat.{_-_, _≤_, _<_}
 use native.Mathlib.Omega.{arith}
 use lib.ListN.{getD}
 use borrow.Author.Needs.{needs}
-use Rattle.arrays.specs.Keys.{WantedIn}
-use Rattle.arrays.proofs.Keying.{wanted-turn, wanted-end}
-use Rattle.arrays.proofs.keys.wanted_among.Statement.{statement}
-use Rattle.arrays.proofs.keys.wanted_among.Tie as tie
+use Rattle.graph_lists.specs.Keys.{WantedIn}
+use Rattle.graph_lists.proofs.Keying.{wanted-turn, wanted-end}
+use Rattle.graph_lists.proofs.keys.wanted_among.Statement.{statement}
+use Rattle.graph_lists.proofs.keys.wanted_among.Tie as tie
 
 abbrev Inv-loop : tie.InvT-loop
 Inv-loop queue begin end key limit i₀ i = (begin ≤ i) × (WantedIn queue begin i key limit → ⊥)

@@ -3,10 +3,10 @@ use Prim.Native.Nat.{_<_}
 use native.Mathlib.Omega.{arith}
 use lib.ListN.{length}
 use borrow.Author.Needs.{needs}
-use Rattle.arrays.specs.Arrays.{at}
-use Rattle.arrays.proofs.Listing.{Listing, listing-start, listing-turn, listing-end}
-use Rattle.arrays.proofs.lists.list_by.Statement.{statement}
-use Rattle.arrays.proofs.lists.list_by.Tie as tie
+use Rattle.graph_lists.specs.Arrays.{at}
+use Rattle.graph_lists.proofs.Listing.{Listing, listing-start, listing-turn, listing-end}
+use Rattle.graph_lists.proofs.lists.list_by.Statement.{statement}
+use Rattle.graph_lists.proofs.lists.list_by.Tie as tie
 
 abbrev Inv-loop : tie.InvT-loop
 Inv-loop n key first₀ next₀ i₀ first next i = Listing (length first₀) (length next₀) n key i first next

@@ -1,8 +1,8 @@
 -- Two benches are compared by distance if their weights are the same, else by weight.
 use borrow.Author.Needs.{needs}
-use Rattle.routes.proofs.Choosing.{near-tells, weight-tells}
-use Rattle.routes.proofs.ends.before.Statement.{statement}
-use Rattle.routes.proofs.ends.before.Tie as tie
+use Rattle.graph_routes.proofs.Choosing.{near-tells, weight-tells}
+use Rattle.graph_routes.proofs.ends.before.Statement.{statement}
+use Rattle.graph_routes.proofs.ends.before.Tie as tie
 
 mul-own : tie.Need-mul-own
 mul-own c = search needs

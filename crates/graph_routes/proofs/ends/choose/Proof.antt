@@ -4,10 +4,10 @@ use Prim.Native.Nat.{_+_, _-_}
 use native.Mathlib.Omega.{arith}
 use mathlib.Core.Logic.{⊎-elim}
 use borrow.Author.Needs.{needs}
-use Rattle.size.specs.Sizes.{BenchIn}
-use Rattle.routes.proofs.Choosing.{Sofar, choose-start, choose-other, choose-keep, choose-only, choose-better, choose-end}
-use Rattle.routes.proofs.ends.choose.Statement.{statement}
-use Rattle.routes.proofs.ends.choose.Tie as tie
+use Rattle.table_size.specs.Sizes.{BenchIn}
+use Rattle.graph_routes.proofs.Choosing.{Sofar, choose-start, choose-other, choose-keep, choose-only, choose-better, choose-end}
+use Rattle.graph_routes.proofs.ends.choose.Statement.{statement}
+use Rattle.graph_routes.proofs.ends.choose.Tie as tie
 
 abbrev Inv-loop : tie.InvT-loop
 Inv-loop s weights dist x benches best₀ y₀ best y = Sofar s weights dist x y best

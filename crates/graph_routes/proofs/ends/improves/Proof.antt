@@ -1,9 +1,9 @@
 -- A bench improves if it is found and its weight is less by two or more.
 use native.Mathlib.Omega.{arith}
 use borrow.Author.Needs.{needs}
-use Rattle.routes.proofs.Choosing.{improves-tells}
-use Rattle.routes.proofs.ends.improves.Statement.{statement}
-use Rattle.routes.proofs.ends.improves.Tie as tie
+use Rattle.graph_routes.proofs.Choosing.{improves-tells}
+use Rattle.graph_routes.proofs.ends.improves.Statement.{statement}
+use Rattle.graph_routes.proofs.ends.improves.Tie as tie
 
 mul-if1 : tie.Need-mul-if1
 mul-if1 c = search needs

@@ -3,14 +3,14 @@ use Prim.Native.Nat.{_≤_}
 use native.Mathlib.Omega.{arith}
 use mathlib.Core.Path.{_≡_}
 use borrow.Author.Needs.{needs}
-use Rattle.layout.specs.Table.{mostBenches, mostJobs}
-use Rattle.basics.proofs.Basics.{within-high}
-use Rattle.arrays.specs.Arrays.{at}
-use Rattle.arrays.specs.Lists.{head}
-use Rattle.arrays.proofs.Listing.{left, left-less}
-use Rattle.routes.proofs.Routing.{Seeking, seeking-start, seeking-rises, seeking-turn, seeking-found, seeking-none}
-use Rattle.routes.proofs.route.nearer.Statement.{statement}
-use Rattle.routes.proofs.route.nearer.Tie as tie
+use Rattle.spec_table.specs.Table.{mostBenches, mostJobs}
+use Rattle.spec_lists.proofs.Basics.{within-high}
+use Rattle.graph_lists.specs.Arrays.{at}
+use Rattle.graph_lists.specs.Lists.{head}
+use Rattle.graph_lists.proofs.Listing.{left, left-less}
+use Rattle.graph_routes.proofs.Routing.{Seeking, seeking-start, seeking-rises, seeking-turn, seeking-found, seeking-none}
+use Rattle.graph_routes.proofs.route.nearer.Statement.{statement}
+use Rattle.graph_routes.proofs.route.nearer.Tie as tie
 
 abbrev Inv-loop : tie.InvT-loop
 Inv-loop first next to dist x near a₀ a = Seeking first next to dist x a

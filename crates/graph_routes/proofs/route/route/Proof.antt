@@ -3,15 +3,15 @@
 use Prim.Native.Nat.{_+_, _≤_, _<_}
 use native.Mathlib.Omega.{arith}
 use lib.Dec.{T}
-use Rattle.basics.specs.Lists.{within}
-use Rattle.layout.specs.Table.{mostBenches, mostJobs}
-use Rattle.basics.proofs.Basics.{within-high}
-use Rattle.size.specs.declared.Size.{Size}
-use Rattle.arrays.specs.Arrays.{at}
-use Rattle.arrays.proofs.Listing.{listed-ways}
-use Rattle.routes.proofs.Routing.{Nearest, Fallen, nearest, Routing, routing-start, routing-bench, routing-room, routing-turn, routing-end}
-use Rattle.routes.proofs.route.route.Statement.{statement}
-use Rattle.routes.proofs.route.route.Tie as tie
+use Rattle.spec_lists.specs.Lists.{within}
+use Rattle.spec_table.specs.Table.{mostBenches, mostJobs}
+use Rattle.spec_lists.proofs.Basics.{within-high}
+use Rattle.table_size.specs.declared.Size.{Size}
+use Rattle.graph_lists.specs.Arrays.{at}
+use Rattle.graph_lists.proofs.Listing.{listed-ways}
+use Rattle.graph_routes.proofs.Routing.{Nearest, Fallen, nearest, Routing, routing-start, routing-bench, routing-room, routing-turn, routing-end}
+use Rattle.graph_routes.proofs.route.route.Statement.{statement}
+use Rattle.graph_routes.proofs.route.route.Tie as tie
 
 abbrev Inv-loop : tie.InvT-loop
 Inv-loop from to first next dist x path₀ y₀ n₀ path y n = (s : Size) → Fallen s from to dist first next → Routing s from to dist x path y n

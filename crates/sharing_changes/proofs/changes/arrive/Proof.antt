@@ -5,12 +5,12 @@ use mathlib.Core.Path.{refl}
 use mathlib.Core.List.{[], _∷_}
 use mathlib.Core.Logic.{⊎-elim, inl, inr}
 use borrow.Author.Needs.{needs}
-use Rattle.rules.specs.Sharing.{arrive}
-use Rattle.layout.specs.Table.{decode}
-use Rattle.store.proofs.Boards.{sound-kept}
-use Rattle.sharing.proofs.Changing.{arriving-job, arriving-bench, getting-bench, arriving-fills, Handed, arrival-handed, arrival-settled}
-use Rattle.sharing.proofs.changes.arrive.Statement.{statement}
-use Rattle.sharing.proofs.changes.arrive.Tie as tie
+use Rattle.spec_sharing.specs.Sharing.{arrive}
+use Rattle.spec_table.specs.Table.{decode}
+use Rattle.table_board.proofs.Boards.{sound-kept}
+use Rattle.sharing_changes.proofs.Changing.{arriving-job, arriving-bench, getting-bench, arriving-fills, Handed, arrival-handed, arrival-settled}
+use Rattle.sharing_changes.proofs.changes.arrive.Statement.{statement}
+use Rattle.sharing_changes.proofs.changes.arrive.Tie as tie
 
 lighter-requires : tie.Need-lighter-requires
 lighter-requires c κs =

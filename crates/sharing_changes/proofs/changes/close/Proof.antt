@@ -1,8 +1,8 @@
 -- The job is taken off the board, the rule's path turned and the chains made anew.
 use borrow.Author.Needs.{needs}
-use Rattle.sharing.proofs.Changing.{closing-job, closing-bench, closing-settled}
-use Rattle.sharing.proofs.changes.close.Statement.{statement}
-use Rattle.sharing.proofs.changes.close.Tie as tie
+use Rattle.sharing_changes.proofs.Changing.{closing-job, closing-bench, closing-settled}
+use Rattle.sharing_changes.proofs.changes.close.Statement.{statement}
+use Rattle.sharing_changes.proofs.changes.close.Tie as tie
 
 holder-requires : tie.Need-holder-requires
 holder-requires c κs =

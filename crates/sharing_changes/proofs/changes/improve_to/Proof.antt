@@ -1,8 +1,8 @@
 -- The arcs are the board's, the loads its benches', and the path is turned along them: the board stays as it was until then.
 use borrow.Author.Needs.{needs}
-use Rattle.arrays.proofs.Listing.{array-long}
-use Rattle.sharing.proofs.changes.improve_to.Statement.{statement}
-use Rattle.sharing.proofs.changes.improve_to.Tie as tie
+use Rattle.graph_lists.proofs.Listing.{array-long}
+use Rattle.sharing_changes.proofs.changes.improve_to.Statement.{statement}
+use Rattle.sharing_changes.proofs.changes.improve_to.Tie as tie
 
 jobs-requires : tie.Need-jobs-requires
 jobs-requires c κs = search needs

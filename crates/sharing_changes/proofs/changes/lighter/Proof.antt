@@ -1,9 +1,9 @@
 -- The two loads are compared as the rule does.
 use borrow.Author.Needs.{needs}
-use Rattle.layout.specs.Table.{decode}
-use Rattle.sharing.proofs.Changing.{lighter-first, lighter-second}
-use Rattle.sharing.proofs.changes.lighter.Statement.{statement}
-use Rattle.sharing.proofs.changes.lighter.Tie as tie
+use Rattle.spec_table.specs.Table.{decode}
+use Rattle.sharing_changes.proofs.Changing.{lighter-first, lighter-second}
+use Rattle.sharing_changes.proofs.changes.lighter.Statement.{statement}
+use Rattle.sharing_changes.proofs.changes.lighter.Tie as tie
 
 load-requires : tie.Need-load-requires
 load-requires c κs = search needs

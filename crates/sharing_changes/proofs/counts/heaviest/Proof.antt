@@ -4,11 +4,11 @@ use native.Mathlib.Omega.{arith}
 use mathlib.Core.Path.{sym, _∙_}
 use mathlib.Core.Logic.{⊎-elim, inl, inr}
 use borrow.Author.Needs.{needs}
-use Rattle.layout.specs.Board.{load}
-use Rattle.layout.specs.Table.{decode}
-use Rattle.sharing.proofs.ByChains.{Highest, highest-start, highest-turn, highest-end}
-use Rattle.sharing.proofs.counts.heaviest.Statement.{statement}
-use Rattle.sharing.proofs.counts.heaviest.Tie as tie
+use Rattle.spec_table.specs.Board.{load}
+use Rattle.spec_table.specs.Table.{decode}
+use Rattle.sharing_changes.proofs.ByChains.{Highest, highest-start, highest-turn, highest-end}
+use Rattle.sharing_changes.proofs.counts.heaviest.Statement.{statement}
+use Rattle.sharing_changes.proofs.counts.heaviest.Tie as tie
 
 abbrev Inv-loop : tie.InvT-loop
 Inv-loop t s benches most₀ done₀ most done = Highest benches (load ((decode t) .holders)) done most

@@ -2,11 +2,11 @@
 use native.Mathlib.Omega.{arith}
 use lib.ListN.{length}
 use borrow.Author.Needs.{needs}
-use Rattle.chains.specs.Chains.{chainFrom}
-use Rattle.chains.proofs.ChainView.{rest-here, rest-less}
-use Rattle.sharing.proofs.ByChains.{Met, met-start, met-turn, met-few, met-end}
-use Rattle.sharing.proofs.counts.load.Statement.{statement}
-use Rattle.sharing.proofs.counts.load.Tie as tie
+use Rattle.table_chains.specs.Chains.{chainFrom}
+use Rattle.table_chains.proofs.ChainView.{rest-here, rest-less}
+use Rattle.sharing_changes.proofs.ByChains.{Met, met-start, met-turn, met-few, met-end}
+use Rattle.sharing_changes.proofs.counts.load.Statement.{statement}
+use Rattle.sharing_changes.proofs.counts.load.Tie as tie
 
 abbrev Inv-loop : tie.InvT-loop
 Inv-loop t s x count₀ j₀ count j = Met t x count j

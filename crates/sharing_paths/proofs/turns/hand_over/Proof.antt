@@ -5,11 +5,11 @@ use native.Mathlib.Omega.{arith}
 use mathlib.Core.Path.{sym, _∙_}
 use lib.ListN.{length}
 use borrow.Author.Needs.{needs}
-use Rattle.layout.specs.Table.{decode}
-use Rattle.arrays.specs.Arrays.{at}
-use Rattle.paths.proofs.Handing.{Handing, Next, handing-start, handing-next, handing-turn, handing-end}
-use Rattle.paths.proofs.turns.hand_over.Statement.{statement}
-use Rattle.paths.proofs.turns.hand_over.Tie as tie
+use Rattle.spec_table.specs.Table.{decode}
+use Rattle.graph_lists.specs.Arrays.{at}
+use Rattle.sharing_paths.proofs.Handing.{Handing, Next, handing-start, handing-next, handing-turn, handing-end}
+use Rattle.sharing_paths.proofs.turns.hand_over.Statement.{statement}
+use Rattle.sharing_paths.proofs.turns.hand_over.Tie as tie
 
 abbrev Inv-loop : tie.InvT-loop
 Inv-loop t₀ s to path n done₀ t done = Handing (decode t₀) t s to path n done

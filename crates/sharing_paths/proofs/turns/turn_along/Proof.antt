@@ -1,12 +1,12 @@
 -- The route by the distances is handed over.
 use lib.ListN.{take}
 use borrow.Author.Needs.{needs}
-use Rattle.layout.specs.Table.{decode}
-use Rattle.arrays.proofs.Listing.{array-long}
-use Rattle.arcs.proofs.AsArcs.{arcs-forth}
-use Rattle.paths.proofs.Chosen.{follows-handable, routed-along}
-use Rattle.paths.proofs.turns.turn_along.Statement.{statement}
-use Rattle.paths.proofs.turns.turn_along.Tie as tie
+use Rattle.spec_table.specs.Table.{decode}
+use Rattle.graph_lists.proofs.Listing.{array-long}
+use Rattle.sharing_arcs.proofs.AsArcs.{arcs-forth}
+use Rattle.sharing_paths.proofs.Chosen.{follows-handable, routed-along}
+use Rattle.sharing_paths.proofs.turns.turn_along.Statement.{statement}
+use Rattle.sharing_paths.proofs.turns.turn_along.Tie as tie
 
 benches-requires : tie.Need-benches-requires
 benches-requires c κs = search needs

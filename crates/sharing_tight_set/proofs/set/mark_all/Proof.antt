@@ -2,9 +2,9 @@
 use Prim.Native.Nat.{_+_, _-_}
 use native.Mathlib.Omega.{arith}
 use borrow.Author.Needs.{needs}
-use Rattle.tight.proofs.AsSet.{Marking, mark-start, mark-turn, mark-end}
-use Rattle.tight.proofs.set.mark_all.Statement.{statement}
-use Rattle.tight.proofs.set.mark_all.Tie as tie
+use Rattle.sharing_tight_set.proofs.AsSet.{Marking, mark-start, mark-turn, mark-end}
+use Rattle.sharing_tight_set.proofs.set.mark_all.Statement.{statement}
+use Rattle.sharing_tight_set.proofs.set.mark_all.Tie as tie
 
 abbrev Inv-loop : tie.InvT-loop
 Inv-loop marks₀ benches x₀ marks x = Marking marks x

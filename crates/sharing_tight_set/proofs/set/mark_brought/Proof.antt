@@ -2,14 +2,14 @@
 use Prim.Native.Nat.{_+_}
 use mathlib.Core.Bool.{false}
 use borrow.Author.Needs.{needs}
-use Rattle.layout.specs.Table.{mostBenches}
-use Rattle.arrays.specs.Arrays.{Arcs}
-use Rattle.arrays.specs.Lists.{ListedBy}
-use Rattle.arrays.proofs.Listing.{array-long, listable-arcs, listed-below, listed-ways}
-use Rattle.arcs.proofs.AsArcs.{loads-in, arcs-forth}
-use Rattle.tight.proofs.AsSet.{found-tight}
-use Rattle.tight.proofs.set.mark_brought.Statement.{statement}
-use Rattle.tight.proofs.set.mark_brought.Tie as tie
+use Rattle.spec_table.specs.Table.{mostBenches}
+use Rattle.graph_lists.specs.Arrays.{Arcs}
+use Rattle.graph_lists.specs.Lists.{ListedBy}
+use Rattle.graph_lists.proofs.Listing.{array-long, listable-arcs, listed-below, listed-ways}
+use Rattle.sharing_arcs.proofs.AsArcs.{loads-in, arcs-forth}
+use Rattle.sharing_tight_set.proofs.AsSet.{found-tight}
+use Rattle.sharing_tight_set.proofs.set.mark_brought.Statement.{statement}
+use Rattle.sharing_tight_set.proofs.set.mark_brought.Tie as tie
 
 jobs-requires : tie.Need-jobs-requires
 jobs-requires c κs = search needs

@@ -5,13 +5,13 @@ use native.Mathlib.Omega.{arith}
 use mathlib.Core.Path.{_≡_}
 use mathlib.Core.Logic.{⊎-elim}
 use borrow.Author.Needs.{needs}
-use Rattle.basics.specs.Lists.{bit}
-use Rattle.layout.specs.Table.{mostJobs}
-use Rattle.arrays.specs.Arrays.{at}
-use Rattle.visits.specs.Marks.{mark}
-use Rattle.tight.proofs.AsSet.{kept-few, Measuring, markedLoad, measure-start, measure-turn, measure-room, measure-end}
-use Rattle.tight.proofs.set.measure.Statement.{statement}
-use Rattle.tight.proofs.set.measure.Tie as tie
+use Rattle.spec_lists.specs.Lists.{bit}
+use Rattle.spec_table.specs.Table.{mostJobs}
+use Rattle.graph_lists.specs.Arrays.{at}
+use Rattle.sharing_visits.specs.Marks.{mark}
+use Rattle.sharing_tight_set.proofs.AsSet.{kept-few, Measuring, markedLoad, measure-start, measure-turn, measure-room, measure-end}
+use Rattle.sharing_tight_set.proofs.set.measure.Statement.{statement}
+use Rattle.sharing_tight_set.proofs.set.measure.Tie as tie
 
 abbrev Inv-loop : tie.InvT-loop
 Inv-loop loads marks benches count₀ jobs₀ x₀ count jobs x = (x ≤ benches + 1) × Measuring loads marks count jobs x

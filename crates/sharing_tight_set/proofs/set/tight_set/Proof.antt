@@ -3,14 +3,14 @@ use mathlib.Core.Path.{_≡_}
 use mathlib.Core.Logic.{⊎-elim}
 use mathlib.Core.Bool.{false}
 use borrow.Author.Needs.{needs}
-use Rattle.layout.specs.Table.{decode}
-use Rattle.rules.specs.Sharing.{tightSet}
-use Rattle.arrays.proofs.Listing.{array-long}
-use Rattle.arcs.proofs.AsArcs.{loads-in}
-use Rattle.tight.specs.Sets.{marked}
-use Rattle.tight.proofs.AsSet.{all-tight, measured-tight}
-use Rattle.tight.proofs.set.tight_set.Statement.{statement}
-use Rattle.tight.proofs.set.tight_set.Tie as tie
+use Rattle.spec_table.specs.Table.{decode}
+use Rattle.spec_sharing.specs.Sharing.{tightSet}
+use Rattle.graph_lists.proofs.Listing.{array-long}
+use Rattle.sharing_arcs.proofs.AsArcs.{loads-in}
+use Rattle.sharing_tight_set.specs.Sets.{marked}
+use Rattle.sharing_tight_set.proofs.AsSet.{all-tight, measured-tight}
+use Rattle.sharing_tight_set.proofs.set.tight_set.Statement.{statement}
+use Rattle.sharing_tight_set.proofs.set.tight_set.Tie as tie
 
 benches-requires : tie.Need-benches-requires
 benches-requires c κs = search needs

@@ -7,12 +7,12 @@ use mathlib.Core.Logic.{⊎-elim}
 use mathlib.Core.Bool.{true, cond}
 use lib.ListN.{length}
 use borrow.Author.Needs.{needs}
-use Rattle.basics.specs.Lists.{bit}
-use Rattle.words.specs.Bytes.{setWord}
-use Rattle.visits.specs.Marks.{mark}
-use Rattle.tight.proofs.AsSet.{kept-few, Writing, write-start, write-room, write-turn, write-end}
-use Rattle.tight.proofs.set.write.Statement.{statement}
-use Rattle.tight.proofs.set.write.Tie as tie
+use Rattle.spec_lists.specs.Lists.{bit}
+use Rattle.table_words.specs.Bytes.{setWord}
+use Rattle.sharing_visits.specs.Marks.{mark}
+use Rattle.sharing_tight_set.proofs.AsSet.{kept-few, Writing, write-start, write-room, write-turn, write-end}
+use Rattle.sharing_tight_set.proofs.set.write.Statement.{statement}
+use Rattle.sharing_tight_set.proofs.set.write.Tie as tie
 
 abbrev Inv-loop : tie.InvT-loop
 Inv-loop marks list₀ benches count₀ x₀ list count x = (x ≤ benches + 1) × Writing list₀ marks list count x

@@ -3,9 +3,9 @@ use borrow.Author.Needs.{needs}
 use native.Mathlib.Omega.{arith}
 use mathlib.Core.Logic.{inl, inr, ⊎-elim}
 use lib.ListN.{getD}
-use Rattle.store.proofs.Boards.{Chosen, chosen-small, add-holds, name-small}
-use Rattle.store.proofs.jobs.add_job.Statement.{statement}
-use Rattle.store.proofs.jobs.add_job.Tie as tie
+use Rattle.table_board.proofs.Boards.{Chosen, chosen-small, add-holds, name-small}
+use Rattle.table_board.proofs.jobs.add_job.Statement.{statement}
+use Rattle.table_board.proofs.jobs.add_job.Tie as tie
 
 shared-slice-read-first : tie.Need-shared-slice-read-first
 shared-slice-read-first c = search needs

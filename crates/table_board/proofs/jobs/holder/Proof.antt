@@ -1,8 +1,8 @@
 -- The holder that the board tells is the bench that the record's holder word tells.
 use borrow.Author.Needs.{needs}
-use Rattle.store.proofs.Boards.{holder-read}
-use Rattle.store.proofs.jobs.holder.Statement.{statement}
-use Rattle.store.proofs.jobs.holder.Tie as tie
+use Rattle.table_board.proofs.Boards.{holder-read}
+use Rattle.table_board.proofs.jobs.holder.Statement.{statement}
+use Rattle.table_board.proofs.jobs.holder.Tie as tie
 
 holder-at-requires : tie.Need-holder-at-requires
 holder-at-requires c κs = search needs

@@ -1,7 +1,7 @@
 -- A job names at most two benches, which are the first two of its record.
-use Rattle.store.proofs.Boards.{name-of, names-job, name-in, name-first, name-second}
-use Rattle.store.proofs.jobs.name.Statement.{statement}
-use Rattle.store.proofs.jobs.name.Tie as tie
+use Rattle.table_board.proofs.Boards.{name-of, names-job, name-in, name-first, name-second}
+use Rattle.table_board.proofs.jobs.name.Statement.{statement}
+use Rattle.table_board.proofs.jobs.name.Tie as tie
 
 read-record-requires : tie.Need-read-record-requires
 read-record-requires c κs =

@@ -3,11 +3,11 @@ use borrow.Author.Needs.{needs}
 use mathlib.Core.Path.{_≡_, sym}
 use mathlib.Core.Bool.{cond}
 use lib.ListN.{length}
-use Rattle.layout.specs.Board.{namesOf}
-use Rattle.layout.specs.Table.{decode}
-use Rattle.store.proofs.Boards.{names-length}
-use Rattle.store.proofs.jobs.name_count.Statement.{statement}
-use Rattle.store.proofs.jobs.name_count.Tie as tie
+use Rattle.spec_table.specs.Board.{namesOf}
+use Rattle.spec_table.specs.Table.{decode}
+use Rattle.table_board.proofs.Boards.{names-length}
+use Rattle.table_board.proofs.jobs.name_count.Statement.{statement}
+use Rattle.table_board.proofs.jobs.name_count.Tie as tie
 
 stands-requires : tie.Need-stands-requires
 stands-requires c κs = search needs

@@ -1,8 +1,8 @@
 -- Four zero words are no job's record.
 use borrow.Author.Needs.{needs}
-use Rattle.store.proofs.Boards.{remove-holds}
-use Rattle.store.proofs.jobs.remove_job.Statement.{statement}
-use Rattle.store.proofs.jobs.remove_job.Tie as tie
+use Rattle.table_board.proofs.Boards.{remove-holds}
+use Rattle.table_board.proofs.jobs.remove_job.Statement.{statement}
+use Rattle.table_board.proofs.jobs.remove_job.Tie as tie
 
 write-record-requires : tie.Need-write-record-requires
 write-record-requires c κs = search needs

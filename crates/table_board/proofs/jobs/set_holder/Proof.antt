@@ -1,13 +1,13 @@
 -- The holder word that is written is the place of x among the record's benches.
 use borrow.Author.Needs.{needs}
-use Rattle.layout.specs.Board.{namesOf}
-use Rattle.layout.specs.Table.{decode}
-use Rattle.basics.proofs.Basics.{member-in}
-use Rattle.size.specs.Sizes.{JobIn}
+use Rattle.spec_table.specs.Board.{namesOf}
+use Rattle.spec_table.specs.Table.{decode}
+use Rattle.spec_lists.proofs.Basics.{member-in}
+use Rattle.table_size.specs.Sizes.{JobIn}
 use mathlib.Core.Logic.{inl, inr, ⊎-elim}
-use Rattle.store.proofs.Boards.{names-job, Chosen, chosen-small, hand-word}
-use Rattle.store.proofs.jobs.set_holder.Statement.{statement}
-use Rattle.store.proofs.jobs.set_holder.Tie as tie
+use Rattle.table_board.proofs.Boards.{names-job, Chosen, chosen-small, hand-word}
+use Rattle.table_board.proofs.jobs.set_holder.Statement.{statement}
+use Rattle.table_board.proofs.jobs.set_holder.Tie as tie
 
 -- the job is one of 1 to J
 job : (c : tie.After-slice-known) → JobIn (c .before .args .s) (c .before .args .j)

@@ -1,8 +1,8 @@
 -- A job stands exactly if its record's first bench is not 0.
 use borrow.Author.Needs.{needs}
-use Rattle.store.proofs.Boards.{stands-first}
-use Rattle.store.proofs.jobs.stands.Statement.{statement}
-use Rattle.store.proofs.jobs.stands.Tie as tie
+use Rattle.table_board.proofs.Boards.{stands-first}
+use Rattle.table_board.proofs.jobs.stands.Statement.{statement}
+use Rattle.table_board.proofs.jobs.stands.Tie as tie
 
 read-record-requires : tie.Need-read-record-requires
 read-record-requires c κs = search needs

@@ -5,10 +5,10 @@ use native.Mathlib.Omega.{arith}
 use mathlib.Core.Path.{_≡_, sym, _∙_}
 use lib.ListN.{length}
 use borrow.Author.Needs.{needs}
-use Rattle.layout.specs.Table.{mostBenches, decode}
-use Rattle.store.proofs.Counts.{Counted, count-start, count-turn, count-end, count-few, holders-long}
-use Rattle.store.proofs.loads.loads.Statement.{statement}
-use Rattle.store.proofs.loads.loads.Tie as tie
+use Rattle.spec_table.specs.Table.{mostBenches, decode}
+use Rattle.table_board.proofs.Counts.{Counted, count-start, count-turn, count-end, count-few, holders-long}
+use Rattle.table_board.proofs.loads.loads.Statement.{statement}
+use Rattle.table_board.proofs.loads.loads.Tie as tie
 
 abbrev Inv-loop : tie.InvT-loop
 Inv-loop t s loads₀ jobs done₀ loads done = Counted (mostBenches + 1) ((decode t) .holders) done loads

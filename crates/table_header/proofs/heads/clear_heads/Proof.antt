@@ -6,13 +6,13 @@ use mathlib.Core.List.{List, _++_}
 use lib.ListN.{length, take, drop, replicate, length-drop}
 use lib.Seq.{length-take-le, drop-drop}
 use borrow.Author.Needs.{needs}
-use Rattle.words.specs.Bytes.{laid}
-use Rattle.size.specs.Sizes.{SizeOf}
-use Rattle.size.specs.Written.{Laid, cleared}
-use Rattle.size.specs.declared.Size.{Size}
-use Rattle.size.proofs.Written.{laid-cleared}
-use Rattle.header.proofs.heads.clear_heads.Statement.{statement}
-use Rattle.header.proofs.heads.clear_heads.Tie as tie
+use Rattle.table_words.specs.Bytes.{laid}
+use Rattle.table_size.specs.Sizes.{SizeOf}
+use Rattle.table_size.specs.Written.{Laid, cleared}
+use Rattle.table_size.specs.declared.Size.{Size}
+use Rattle.table_size.proofs.Written.{laid-cleared}
+use Rattle.table_header.proofs.heads.clear_heads.Statement.{statement}
+use Rattle.table_header.proofs.heads.clear_heads.Tie as tie
 
 -- zeros in the place of the k bytes from byte 8 on
 part : (t zeros : List ℕ) (s : Size) (k : ℕ) → SizeOf t s → k ≡ 2 * s .benches → zeros ≡ replicate (length (take k (drop 8 t))) 0 → Laid (take 8 t ++ (zeros ++ drop k (drop 8 t))) s (cleared (laid t))

@@ -1,8 +1,8 @@
 -- Word 3 + x is the head of bench x.
 use borrow.Author.Needs.{needs}
-use Rattle.size.proofs.Written.{head-read}
-use Rattle.header.proofs.heads.head.Statement.{statement}
-use Rattle.header.proofs.heads.head.Tie as tie
+use Rattle.table_size.proofs.Written.{head-read}
+use Rattle.table_header.proofs.heads.head.Statement.{statement}
+use Rattle.table_header.proofs.heads.head.Tie as tie
 
 add-read : tie.Need-add-read
 add-read c = search needs

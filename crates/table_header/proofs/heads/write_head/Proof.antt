@@ -1,8 +1,8 @@
 -- Word 3 + x is the head of bench x.
 use borrow.Author.Needs.{needs}
-use Rattle.size.proofs.Written.{laid-head}
-use Rattle.header.proofs.heads.write_head.Statement.{statement}
-use Rattle.header.proofs.heads.write_head.Tie as tie
+use Rattle.table_size.proofs.Written.{laid-head}
+use Rattle.table_header.proofs.heads.write_head.Statement.{statement}
+use Rattle.table_header.proofs.heads.write_head.Tie as tie
 
 add-write : tie.Need-add-write
 add-write c = search needs

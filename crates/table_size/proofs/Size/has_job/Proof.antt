@@ -2,8 +2,8 @@
 use Prim.Native.Nat.{_≤_, _<_}
 use native.Mathlib.Omega.{arith}
 use borrow.Author.Tests.{le-leb, lt-leb}
-use Rattle.size.proofs.Size.has_job.Statement.{statement}
-use Rattle.size.proofs.Size.has_job.Tie as tie
+use Rattle.table_size.proofs.Size.has_job.Statement.{statement}
+use Rattle.table_size.proofs.Size.has_job.Tie as tie
 
 returns : tie.Need-returns
 returns c = let h : 1 ≤ c .before .before .args .j = omega arith in rw (le-leb 1 (c .before .before .args .j) h)

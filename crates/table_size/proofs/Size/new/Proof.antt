@@ -3,10 +3,10 @@ use native.Mathlib.Omega.{arith}
 use mathlib.Core.Path.{sym}
 use mathlib.Core.Logic.{⊎-elim}
 use borrow.Author.Tests.{ltb-true, ltb-false}
-use Rattle.size.specs.Sizes.{Limits}
-use Rattle.size.proofs.Sizes.{sizing-fit, sizing-misfit}
-use Rattle.size.proofs.Size.new.Statement.{statement}
-use Rattle.size.proofs.Size.new.Tie as tie
+use Rattle.table_size.specs.Sizes.{Limits}
+use Rattle.table_size.proofs.Sizes.{sizing-fit, sizing-misfit}
+use Rattle.table_size.proofs.Size.new.Statement.{statement}
+use Rattle.table_size.proofs.Size.new.Tie as tie
 
 returns : tie.Need-returns
 returns c =

@@ -3,12 +3,12 @@ use native.Mathlib.Omega.{arith}
 use mathlib.Core.Path.{_≡_, sym, _∙_}
 use lib.ListN.{getD}
 use borrow.Author.Needs.{needs}
-use Rattle.layout.specs.Table.{words}
-use Rattle.size.specs.Sizes.{sizing}
-use Rattle.size.specs.declared.Sizing.the-variants.{Fit}
-use Rattle.size.proofs.Sizes.{fit-sizing, short-misfit, words-misfit, length-misfit, size-fit}
-use Rattle.size.proofs.Size.of.Statement.{statement}
-use Rattle.size.proofs.Size.of.Tie as tie
+use Rattle.spec_table.specs.Table.{words}
+use Rattle.table_size.specs.Sizes.{sizing}
+use Rattle.table_size.specs.declared.Sizing.the-variants.{Fit}
+use Rattle.table_size.proofs.Sizes.{fit-sizing, short-misfit, words-misfit, length-misfit, size-fit}
+use Rattle.table_size.proofs.Size.of.Statement.{statement}
+use Rattle.table_size.proofs.Size.of.Tie as tie
 
 -- words 0 and 1 are the size that `new` returned
 read-size : (c : tie.After-known-told) → let t = c .before .before .before .before .before .before .before .before .args .t .now in sizing (getD (words t) 0 0) (getD (words t) 1 0) ≡ Fit (c .before .s .given .0 .0)

@@ -3,8 +3,8 @@ use mathlib.Core.Path.{sym}
 use native.Mathlib.Omega.{arith}
 use lib.Seq.{length-take-le}
 use borrow.Author.Needs.{needs}
-use Rattle.board_calls.proofs.damages.all_refused.Statement.{statement}
-use Rattle.board_calls.proofs.damages.all_refused.Tie as tie
+use Rattle.test_board_calls.proofs.damages.all_refused.Statement.{statement}
+use Rattle.test_board_calls.proofs.damages.all_refused.Tie as tie
 
 slice-relend-prefix-part : tie.Need-slice-relend-prefix-part
 slice-relend-prefix-part c = search needs

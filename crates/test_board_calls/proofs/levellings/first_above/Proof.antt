@@ -1,8 +1,8 @@
 -- The measure is how many benches are left.
 use Prim.Native.Nat.{_≤_, _-_}
 use borrow.Author.Needs.{needs}
-use Rattle.board_calls.proofs.levellings.first_above.Statement.{statement}
-use Rattle.board_calls.proofs.levellings.first_above.Tie as tie
+use Rattle.test_board_calls.proofs.levellings.first_above.Statement.{statement}
+use Rattle.test_board_calls.proofs.levellings.first_above.Tie as tie
 
 abbrev Inv-loop : tie.InvT-loop
 Inv-loop upper lower bench₀ bench = bench ≤ 6

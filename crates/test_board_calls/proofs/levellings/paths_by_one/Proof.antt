@@ -3,8 +3,8 @@ use Prim.Native.Nat.{_≤_, _-_}
 use mathlib.Core.Path.{_≡_}
 use borrow.Author.Needs.{needs}
 use lib.ListN.{length}
-use Rattle.board_calls.proofs.levellings.paths_by_one.Statement.{statement}
-use Rattle.board_calls.proofs.levellings.paths_by_one.Tie as tie
+use Rattle.test_board_calls.proofs.levellings.paths_by_one.Statement.{statement}
+use Rattle.test_board_calls.proofs.levellings.paths_by_one.Tie as tie
 
 abbrev Inv-loop : tie.InvT-loop
 Inv-loop t₀ benches n₀ turn₀ t n turn = (turn ≤ 200) × (length t ≡ length t₀)

@@ -3,8 +3,8 @@ use mathlib.Core.Path.{sym}
 use native.Mathlib.Omega.{arith}
 use lib.Seq.{length-take-le}
 use borrow.Author.Needs.{needs}
-use Rattle.board_calls.proofs.levellings.paths_in_copy.Statement.{statement}
-use Rattle.board_calls.proofs.levellings.paths_in_copy.Tie as tie
+use Rattle.test_board_calls.proofs.levellings.paths_in_copy.Statement.{statement}
+use Rattle.test_board_calls.proofs.levellings.paths_in_copy.Tie as tie
 
 slice-relend-prefix-paths-by-one : tie.Need-slice-relend-prefix-paths-by-one
 slice-relend-prefix-paths-by-one c = search needs

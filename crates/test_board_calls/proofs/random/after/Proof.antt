@@ -1,8 +1,8 @@
 -- The number stays below the modulus. The measure is how many steps are left.
 use Prim.Native.Nat.{_<_, _-_}
 use borrow.Author.Needs.{needs}
-use Rattle.board_calls.proofs.random.after.Statement.{statement}
-use Rattle.board_calls.proofs.random.after.Tie as tie
+use Rattle.test_board_calls.proofs.random.after.Statement.{statement}
+use Rattle.test_board_calls.proofs.random.after.Tie as tie
 
 abbrev Inv-loop : tie.InvT-loop
 Inv-loop seed k x₀ i₀ x i = x < 2147483647

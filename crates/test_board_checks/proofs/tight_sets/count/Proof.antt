@@ -1,8 +1,8 @@
 -- The measure is how many benches are left.
 use Prim.Native.Nat.{_≤_, _-_}
 use borrow.Author.Needs.{needs}
-use Rattle.board_checks.proofs.tight_sets.count.Statement.{statement}
-use Rattle.board_checks.proofs.tight_sets.count.Tie as tie
+use Rattle.test_board_checks.proofs.tight_sets.count.Statement.{statement}
+use Rattle.test_board_checks.proofs.tight_sets.count.Tie as tie
 
 abbrev Inv-loop : tie.InvT-loop
 Inv-loop marks n₀ bench₀ n bench = bench ≤ 6

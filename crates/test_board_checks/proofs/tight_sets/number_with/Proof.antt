@@ -3,8 +3,8 @@ use mathlib.Core.Path.{sym}
 use native.Mathlib.Omega.{arith}
 use lib.Seq.{length-take-le}
 use borrow.Author.Needs.{needs}
-use Rattle.board_checks.proofs.tight_sets.number_with.Statement.{statement}
-use Rattle.board_checks.proofs.tight_sets.number_with.Tie as tie
+use Rattle.test_board_checks.proofs.tight_sets.number_with.Statement.{statement}
+use Rattle.test_board_checks.proofs.tight_sets.number_with.Tie as tie
 
 slice-relend-prefix-tight-set : tie.Need-slice-relend-prefix-tight-set
 slice-relend-prefix-tight-set c = search needs

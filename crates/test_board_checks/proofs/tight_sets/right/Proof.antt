@@ -1,8 +1,8 @@
 -- The measure is how many heights are left.
 use Prim.Native.Nat.{_≤_, _-_}
 use borrow.Author.Needs.{needs}
-use Rattle.board_checks.proofs.tight_sets.right.Statement.{statement}
-use Rattle.board_checks.proofs.tight_sets.right.Tie as tie
+use Rattle.test_board_checks.proofs.tight_sets.right.Statement.{statement}
+use Rattle.test_board_checks.proofs.tight_sets.right.Tie as tie
 
 abbrev Inv-loop : tie.InvT-loop
 Inv-loop t book held loads level height₀ height = height ≤ 10

@@ -1,8 +1,8 @@
 -- The measure is how many rounds are left.
 use Prim.Native.Nat.{_≤_, _-_}
 use borrow.Author.Needs.{needs}
-use Rattle.board_checks.proofs.tight_sets.set_of.Statement.{statement}
-use Rattle.board_checks.proofs.tight_sets.set_of.Tie as tie
+use Rattle.test_board_checks.proofs.tight_sets.set_of.Statement.{statement}
+use Rattle.test_board_checks.proofs.tight_sets.set_of.Tie as tie
 
 abbrev Inv-loop : tie.InvT-loop
 Inv-loop book held loads height marks₀ round₀ marks round = round ≤ 5

@@ -1,8 +1,8 @@
 -- The measure is how many times are left.
 use Prim.Native.Nat.{_-_}
 use borrow.Author.Needs.{needs}
-use Rattle.board_checks.proofs.tight_sets.times.Statement.{statement}
-use Rattle.board_checks.proofs.tight_sets.times.Tie as tie
+use Rattle.test_board_checks.proofs.tight_sets.times.Statement.{statement}
+use Rattle.test_board_checks.proofs.tight_sets.times.Tie as tie
 
 abbrev Inv-loop : tie.InvT-loop
 Inv-loop a b n₀ k₀ n k = Unit {0}

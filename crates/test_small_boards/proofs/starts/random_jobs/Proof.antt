@@ -1,8 +1,8 @@
 -- The measure is how many jobs are left.
 use Prim.Native.Nat.{_≤_, _-_}
 use borrow.Author.Needs.{needs}
-use Rattle.small_boards.proofs.starts.random_jobs.Statement.{statement}
-use Rattle.small_boards.proofs.starts.random_jobs.Tie as tie
+use Rattle.test_small_boards.proofs.starts.random_jobs.Statement.{statement}
+use Rattle.test_small_boards.proofs.starts.random_jobs.Tie as tie
 
 abbrev Inv-loop : tie.InvT-loop
 Inv-loop t₀ book₀ benches jobs seed from s₀ k₀ t book s k = k ≤ 8

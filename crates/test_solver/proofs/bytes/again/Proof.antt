@@ -3,8 +3,8 @@ use Prim.Native.Nat.{_≤_, _-_}
 use mathlib.Core.Path.{_≡_}
 use borrow.Author.Needs.{needs}
 use lib.ListN.{length}
-use Rattle.every_sharing.proofs.bytes.again.Statement.{statement}
-use Rattle.every_sharing.proofs.bytes.again.Tie as tie
+use Rattle.test_solver.proofs.bytes.again.Statement.{statement}
+use Rattle.test_solver.proofs.bytes.again.Tie as tie
 
 abbrev Inv-loop : tie.InvT-loop
 Inv-loop t copy₀ i₀ copy i = (i ≤ 98) × (98 ≡ length copy)

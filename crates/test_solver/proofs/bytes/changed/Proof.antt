@@ -1,8 +1,8 @@
 -- The measure is how many jobs are left.
 use Prim.Native.Nat.{_≤_, _-_}
 use borrow.Author.Needs.{needs}
-use Rattle.every_sharing.proofs.bytes.changed.Statement.{statement}
-use Rattle.every_sharing.proofs.bytes.changed.Tie as tie
+use Rattle.test_solver.proofs.bytes.changed.Statement.{statement}
+use Rattle.test_solver.proofs.bytes.changed.Tie as tie
 
 abbrev Inv-loop : tie.InvT-loop
 Inv-loop before after but n₀ job₀ n job = job ≤ 9

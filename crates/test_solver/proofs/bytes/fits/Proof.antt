@@ -1,8 +1,8 @@
 -- The measure is how many jobs are left.
 use Prim.Native.Nat.{_≤_, _-_}
 use borrow.Author.Needs.{needs}
-use Rattle.every_sharing.proofs.bytes.fits.Statement.{statement}
-use Rattle.every_sharing.proofs.bytes.fits.Tie as tie
+use Rattle.test_solver.proofs.bytes.fits.Statement.{statement}
+use Rattle.test_solver.proofs.bytes.fits.Tie as tie
 
 abbrev Inv-loop : tie.InvT-loop
 Inv-loop t book benches job₀ job = job ≤ 9

@@ -1,8 +1,8 @@
 -- The measure is how many jobs are left.
 use Prim.Native.Nat.{_≤_, _-_}
 use borrow.Author.Needs.{needs}
-use Rattle.every_sharing.proofs.bytes.holders.Statement.{statement}
-use Rattle.every_sharing.proofs.bytes.holders.Tie as tie
+use Rattle.test_solver.proofs.bytes.holders.Statement.{statement}
+use Rattle.test_solver.proofs.bytes.holders.Tie as tie
 
 abbrev Inv-loop : tie.InvT-loop
 Inv-loop t benches held₀ job₀ held job = job ≤ 9

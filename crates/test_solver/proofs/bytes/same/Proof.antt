@@ -1,8 +1,8 @@
 -- The measure is how many bytes are left.
 use Prim.Native.Nat.{_≤_, _-_}
 use borrow.Author.Needs.{needs}
-use Rattle.every_sharing.proofs.bytes.same.Statement.{statement}
-use Rattle.every_sharing.proofs.bytes.same.Tie as tie
+use Rattle.test_solver.proofs.bytes.same.Statement.{statement}
+use Rattle.test_solver.proofs.bytes.same.Tie as tie
 
 abbrev Inv-loop : tie.InvT-loop
 Inv-loop a b i₀ i = i ≤ 98
