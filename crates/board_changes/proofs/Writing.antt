@@ -21,8 +21,8 @@ use Rattle.table_size.specs.Sizes.{JobIn, SoundTable}
 use Rattle.table_size.proofs.Sizes.{job-in, job-of-board, bench-of-board}
 use Rattle.table_board.specs.View.{Kept}
 use Rattle.table_board.proofs.Boards.{sound-kept}
-use Rattle.sharing_paths.specs.declared.turns.Turn.{Turn}
-use Rattle.sharing_changes.specs.declared.changes.Arrival.{Arrival}
+use Rattle.sharing_paths.specs.declared.Turn.{Turn}
+use Rattle.sharing_changes.specs.declared.Arrival.{Arrival}
 use Rattle.sharing_levelling.specs.declared.Levelling.{Levelling}
 use Rattle.sharing_changes.specs.Changes.{ArrivalOf, ClosingOf}
 use Rattle.sharing_levelling.specs.Levels.{LevellingOf}

@@ -1,3 +1,94 @@
-// The calls that change a board: each takes any bytes and any numbers, and answers with its result or with the refusal whose condition holds. A
-// refused call changes no lent byte.
-pub mod changes;
+// The calls that write a table: blanking, arrival, closing, levelling.
+ghost use mathlib.Core.List.{[]};
+ghost use Rattle.spec_calls.specs.Calls.{blanking, outcome, arrival, closing, levelling};
+ghost use Rattle.table_size.specs.Sizes.{SoundTable};
+ghost use Rattle.board_answers.specs.Answered.{Leaves};
+use board_answers::Answer;
+use board_answers::Refusal;
+use table_form::Form;
+use table_size::Size;
+use table_board::jobs;
+
+// Blanking: a table for so many benches and jobs, without jobs. Old bytes are not looked at.
+pub fn blank(t: &mut [u8], benches: usize, jobs: usize) -> Answer
+    ensures { λ r. ⌜ Leaves (blanking benches jobs (now (t .entry))) r (now (t .exit)) [] ⌝ }
+{
+    if table_header::blank(t, benches, jobs) {
+        Answer::Blanked
+    } else {
+        Answer::Refused(Refusal::Sizes)
+    }
+}
+
+// An arrival on a sound table: refusals 3, 4 and 5 in this order, else the job arrives.
+fn arrival_on(t: &mut [u8], s: Size, job: usize, first: usize, second: usize) -> Answer
+    requires { ⌜ SoundTable (now t) s ⌝ }
+    ensures { λ r. ⌜ Leaves (outcome (arrival job first second) (now (t .entry))) r (now (t .exit)) [] ⌝ }
+{
+    if !s.has_job(job) {
+        return Answer::Refused(Refusal::JobNumber);
+    }
+    if !s.has_bench(first) || !s.has_bench(second) || first == second {
+        return Answer::Refused(Refusal::BenchNumber);
+    }
+    if jobs::stands(t, s, job) {
+        return Answer::Refused(Refusal::AlreadyStanding);
+    }
+    let a = sharing_changes::arrive(t, s, job, first, second);
+    Answer::Arrived(a.holder, a.rose, a.moved)
+}
+
+// Arrival of a job that names two benches.
+pub fn arrival(t: &mut [u8], job: usize, first: usize, second: usize) -> Answer
+    ensures { λ r. ⌜ Leaves (outcome (arrival job first second) (now (t .entry))) r (now (t .exit)) [] ⌝ }
+{
+    match table_form::check(t) {
+        Form::Sizes => Answer::Refused(Refusal::Sizes),
+        Form::Unsound => Answer::Refused(Refusal::Unsound),
+        Form::Sound(s) => arrival_on(t, s, job, first, second),
+    }
+}
+
+// A closing on a sound table: refusals 3 and 6 in this order, else the job closes.
+fn closing_on(t: &mut [u8], s: Size, job: usize) -> Answer
+    requires { ⌜ SoundTable (now t) s ⌝ }
+    ensures { λ r. ⌜ Leaves (outcome (closing job) (now (t .entry))) r (now (t .exit)) [] ⌝ }
+{
+    if !s.has_job(job) {
+        return Answer::Refused(Refusal::JobNumber);
+    }
+    if !jobs::stands(t, s, job) {
+        return Answer::Refused(Refusal::NotStanding);
+    }
+    let c = sharing_changes::close(t, s, job);
+    Answer::Closed(c.bench, c.jobs)
+}
+
+// Closing of a standing job.
+pub fn closing(t: &mut [u8], job: usize) -> Answer
+    ensures { λ r. ⌜ Leaves (outcome (closing job) (now (t .entry))) r (now (t .exit)) [] ⌝ }
+{
+    match table_form::check(t) {
+        Form::Sizes => Answer::Refused(Refusal::Sizes),
+        Form::Unsound => Answer::Refused(Refusal::Unsound),
+        Form::Sound(s) => closing_on(t, s, job),
+    }
+}
+
+// Levelling with an allowance of paths.
+pub fn levelling(t: &mut [u8], allowance: u32) -> Answer
+    ensures { λ r. ⌜ Leaves (outcome (levelling allowance) (now (t .entry))) r (now (t .exit)) [] ⌝ }
+{
+    match table_form::check(t) {
+        Form::Sizes => Answer::Refused(Refusal::Sizes),
+        Form::Unsound => Answer::Refused(Refusal::Unsound),
+        Form::Sound(s) => {
+            let l = sharing_levelling::relevel(t, s, allowance);
+            if l.level {
+                Answer::Levelled(l.paths)
+            } else {
+                Answer::Stopped(l.paths)
+            }
+        }
+    }
+}

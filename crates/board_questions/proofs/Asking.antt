@@ -23,7 +23,7 @@ use Rattle.spec_calls.proofs.ChainOrder.{sound-outcome}
 use Rattle.spec_calls.proofs.Questions.{load-refused, tight-answered, tight-list-refused, tight-height-refused}
 use Rattle.table_size.specs.declared.Size.{Size}
 use Rattle.table_size.specs.Sizes.{SoundTable}
-use Rattle.sharing_tight_set.specs.declared.set.Extent.{Extent}
+use Rattle.sharing_tight_set.specs.declared.Extent.{Extent}
 use Rattle.sharing_visits.specs.Marks.{mark}
 use Rattle.sharing_tight_set.specs.Sets.{marked, TightSet}
 use Rattle.sharing_tight_set.proofs.AsSet.{kept-few}

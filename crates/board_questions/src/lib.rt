@@ -6,9 +6,7 @@ ghost use Rattle.board_answers.specs.Answered.{Leaves};
 use board_answers::Answer;
 use board_answers::Refusal;
 use table_form::Form;
-use sharing_changes::counts;
 use table_size::Size;
-use sharing_tight_set::set;
 
 // Form check: sound, or the refusal.
 pub fn form_check(t: &[u8]) -> Answer
@@ -47,7 +45,7 @@ pub fn load(t: &[u8], bench: usize) -> Answer
         Form::Unsound => Answer::Refused(Refusal::Unsound),
         Form::Sound(s) => {
             if s.has_bench(bench) {
-                Answer::Load(counts::load(t, s, bench))
+                Answer::Load(sharing_loads::load(t, s, bench))
             } else {
                 Answer::Refused(Refusal::BenchNumber)
             }
@@ -62,7 +60,7 @@ pub fn heaviest(t: &[u8]) -> Answer
     match table_form::check(t) {
         Form::Sizes => Answer::Refused(Refusal::Sizes),
         Form::Unsound => Answer::Refused(Refusal::Unsound),
-        Form::Sound(s) => Answer::Heaviest(counts::heaviest(t, s)),
+        Form::Sound(s) => Answer::Heaviest(sharing_loads::heaviest(t, s)),
     }
 }
 
@@ -74,8 +72,8 @@ fn tight_set_on(t: &[u8], s: Size, height: usize, list: &mut [u8]) -> Answer
     if height == 0 {
         return Answer::Refused(Refusal::Height);
     }
-    let mut marks = set::unmarked();
-    let e = set::tight_set(t, s, height, &mut marks);
+    let mut marks = sharing_tight_set::unmarked();
+    let e = sharing_tight_set::tight_set(t, s, height, &mut marks);
     // No bench has this load: the height is above the heaviest.
     if e.benches == 0 {
         return Answer::Refused(Refusal::Height);
@@ -83,7 +81,7 @@ fn tight_set_on(t: &[u8], s: Size, height: usize, list: &mut [u8]) -> Answer
     if list.len() < 2 * e.benches {
         return Answer::Refused(Refusal::ListTooShort);
     }
-    set::write(s, &marks, list);
+    sharing_tight_set::write(s, &marks, list);
     Answer::TightSet(e.benches, e.jobs)
 }
 

@@ -6,7 +6,6 @@ ghost use Rattle.counter_answer_lines.specs.AnswerLines.{lineMost};
 ghost use Rattle.counter_state.specs.State.{Room, counterOf};
 ghost use Rattle.counter_perform.specs.Performed.{Performs};
 use board_answers::Refusal;
-use board_changes::changes;
 use table_size::Size;
 use table_size::Sizing;
 use counter_state::Counter;
@@ -30,7 +29,7 @@ pub fn set_table(
         Sizing::Misfit => counter_state::refuse(c, Refusal::Sizes, out, at),
         Sizing::Fit(s) => {
             let length = s.bytes();
-            let a = changes::blank(&mut bytes[..length], benches, jobs);
+            let a = board_changes::blank(&mut bytes[..length], benches, jobs);
             let tally = Tally::new();
             counter_state::tell(
                 Counter { length, tally },
@@ -59,7 +58,7 @@ pub fn take_in(
     ensures { λ r. ⌜ Performs (takeIn job first second) (counterOf c (now (bytes .entry))) (now (bytes .exit)) (now (out .entry)) (now (out .exit)) at r ⌝ }
 {
     let length = c.length;
-    let a = changes::arrival(&mut bytes[..length], job, first, second);
+    let a = board_changes::arrival(&mut bytes[..length], job, first, second);
     counter_state::tell(c.noted(a), b'A', counter_state::one(job), a, out, at)
 }
 
@@ -70,7 +69,7 @@ pub fn close_job(c: Counter, job: usize, bytes: &mut [u8], out: &mut [u8], at: u
     ensures { λ r. ⌜ Performs (closeJob job) (counterOf c (now (bytes .entry))) (now (bytes .exit)) (now (out .entry)) (now (out .exit)) at r ⌝ }
 {
     let length = c.length;
-    let a = changes::closing(&mut bytes[..length], job);
+    let a = board_changes::closing(&mut bytes[..length], job);
     counter_state::tell(c.noted(a), b'D', counter_state::one(job), a, out, at)
 }
 

@@ -3,14 +3,13 @@
 ghost use mathlib.Core.List.{[], _∷_};
 ghost use Rattle.spec_calls.specs.Calls.{outcome, blanking, arrival, closing, levelling, loadOf, heaviestLoad, tightSetOf, formCheck, levelCheck};
 ghost use Rattle.jobboard.specs.Desk.{Reported};
-use board_changes::changes;
 
 // Writes a table without jobs; 1 where the length is not that of so many benches and jobs.
 #[no_mangle]
 pub extern "C" fn jobboard_blank(table: &mut [u8], benches: u32, jobs: u32) -> u32
     ensures { λ r. ⌜ Reported (blanking benches jobs (now (table .entry))) r (now (table .exit)) [] [] [] ⌝ }
 {
-    changes::blank(table, benches as usize, jobs as usize).number()
+    board_changes::blank(table, benches as usize, jobs as usize).number()
 }
 
 // 0 for a sound table, 1 where its sizes do not fit, else 2.
@@ -34,7 +33,7 @@ pub extern "C" fn jobboard_arrival(
 ) -> u32
     ensures { λ r. ⌜ Reported (outcome (arrival job first second) (now (table .entry))) r (now (table .exit)) [] (now (holder .entry) ∷ now (rose .entry) ∷ now (moved .entry) ∷ []) (now (holder .exit) ∷ now (rose .exit) ∷ now (moved .exit) ∷ []) ⌝ }
 {
-    let a = changes::arrival(table, job as usize, first as usize, second as usize);
+    let a = board_changes::arrival(table, job as usize, first as usize, second as usize);
     let v = a.values();
     *holder = v.get(1, *holder as usize) as u32;
     *rose = v.get(2, *rose as usize) as u32;
@@ -52,7 +51,7 @@ pub extern "C" fn jobboard_closing(
 ) -> u32
     ensures { λ r. ⌜ Reported (outcome (closing job) (now (table .entry))) r (now (table .exit)) [] (now (fell .entry) ∷ now (moved .entry) ∷ []) (now (fell .exit) ∷ now (moved .exit) ∷ []) ⌝ }
 {
-    let a = changes::closing(table, job as usize);
+    let a = board_changes::closing(table, job as usize);
     let v = a.values();
     *fell = v.get(1, *fell as usize) as u32;
     *moved = v.get(2, *moved as usize) as u32;
@@ -69,7 +68,7 @@ pub extern "C" fn jobboard_levelling(
 ) -> u32
     ensures { λ r. ⌜ Reported (outcome (levelling allowance) (now (table .entry))) r (now (table .exit)) [] (now (paths .entry) ∷ now (level .entry) ∷ []) (now (paths .exit) ∷ now (level .exit) ∷ []) ⌝ }
 {
-    let a = changes::levelling(table, allowance);
+    let a = board_changes::levelling(table, allowance);
     let v = a.values();
     *paths = v.get(1, *paths as usize) as u32;
     *level = v.get(2, *level as usize) as u32;

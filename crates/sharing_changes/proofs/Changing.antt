@@ -29,7 +29,7 @@ use Rattle.table_board.specs.View.{Kept, Holds, HolderOf, Fillable}
 use Rattle.table_chains.specs.Chains.{Settled}
 use Rattle.table_board.proofs.Boards.{sound-kept, stands-job}
 use Rattle.table_board.proofs.Counts.{holders-long}
-use Rattle.sharing_paths.specs.declared.turns.Turn.{Turn}
+use Rattle.sharing_paths.specs.declared.Turn.{Turn}
 use Rattle.sharing_paths.specs.Turns.{turnedBy, lengthOf, lastOf, startOf, Turned}
 use Rattle.sharing_changes.specs.Changes.{Arrives, Closes}
 

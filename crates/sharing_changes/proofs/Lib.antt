@@ -1,3 +1,2 @@
--- Loads by the chains, arrival and closing.
-pub mod ByChains
+-- Arrival and closing.
 pub mod Changing

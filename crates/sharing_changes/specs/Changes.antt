@@ -6,8 +6,8 @@ use lib.ListN.{length}
 use Rattle.spec_table.specs.Board.{holderOf}
 use Rattle.spec_sharing.specs.Sharing.{Change, arrive, close}
 use Rattle.spec_table.specs.Table.{decode, encode}
-use Rattle.sharing_paths.specs.declared.turns.Turn.{Turn}
-use Rattle.sharing_changes.specs.declared.changes.Arrival.{Arrival}
+use Rattle.sharing_paths.specs.declared.Turn.{Turn}
+use Rattle.sharing_changes.specs.declared.Arrival.{Arrival}
 
 -- r and the table u are those of the arrival c of job j
 pub record Arrives (u : List ℕ) (j : ℕ) (c : Change) (r : Arrival) : Type 0 where

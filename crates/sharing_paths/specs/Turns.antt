@@ -14,7 +14,7 @@ use Rattle.table_size.specs.declared.Size.{Size}
 use Rattle.table_board.specs.View.{Holds}
 use Rattle.graph_lists.specs.Arrays.{at}
 use Rattle.graph_routes.specs.Route.{Follows}
-use Rattle.sharing_paths.specs.declared.turns.Turn.{Turn}
+use Rattle.sharing_paths.specs.declared.Turn.{Turn}
 
 -- jobs as steps, each to the bench at its number in `to`
 abbrev pub stepsBy : List ℕ → List ℕ → List Step

@@ -9,8 +9,7 @@ ghost use Rattle.sharing_paths.specs.Turns.{lastOf, Turned};
 use graph_lists::keys;
 use graph_lists::lists;
 use graph_lists::scratch;
-use sharing_paths::turns;
-use sharing_paths::turns::Turn;
+use sharing_paths::Turn;
 use graph_routes::ends;
 use table_size::Size;
 
@@ -46,6 +45,6 @@ pub fn turn_from(
     let mut near = scratch::benches();
     let goal = scratch::all_but(x);
     graph_search::distances(s, to, from, &goal, 0, y, &mut near);
-    let jobs = turns::turn_along(t, s, from, to, &first, &next, &near, x);
+    let jobs = sharing_paths::turn_along(t, s, from, to, &first, &next, &near, x);
     Turn { bench: y, jobs }
 }

@@ -9,8 +9,7 @@ ghost use Rattle.sharing_paths.specs.Turns.{startOf, Turned};
 use graph_lists::keys;
 use graph_lists::lists;
 use graph_lists::scratch;
-use sharing_paths::turns;
-use sharing_paths::turns::Turn;
+use sharing_paths::Turn;
 use graph_routes::ends;
 use table_size::Size;
 
@@ -44,6 +43,6 @@ pub fn turn_to(
     let mut first = scratch::benches();
     let mut next = scratch::jobs();
     lists::list_by(s.jobs(), from, &mut first, &mut next);
-    let jobs = turns::turn_along(t, s, from, to, &first, &next, &near, z);
+    let jobs = sharing_paths::turn_along(t, s, from, to, &first, &next, &near, z);
     Turn { bench: z, jobs }
 }

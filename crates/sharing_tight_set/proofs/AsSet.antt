@@ -37,7 +37,7 @@ use Rattle.sharing_arcs.proofs.AsArcs.{on-board, load-at, arcs-forth, step-arc,
 use Rattle.sharing_visits.specs.Marks.{mark, Marks, Brings}
 use Rattle.sharing_visits.proofs.Visiting.{marks-set}
 use Rattle.sharing_tight_set.specs.Sets.{AllMarked, marked, Measured, TightSet}
-use Rattle.sharing_tight_set.specs.declared.set.Extent.{Extent}
+use Rattle.sharing_tight_set.specs.declared.Extent.{Extent}
 
 -- what is marked of the benches 1 to n
 

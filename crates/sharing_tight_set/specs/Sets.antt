@@ -12,7 +12,7 @@ use Rattle.table_size.specs.Sizes.{BenchIn}
 use Rattle.table_size.specs.declared.Size.{Size}
 use Rattle.graph_lists.specs.Arrays.{at}
 use Rattle.sharing_visits.specs.Marks.{mark}
-use Rattle.sharing_tight_set.specs.declared.set.Extent.{Extent}
+use Rattle.sharing_tight_set.specs.declared.Extent.{Extent}
 
 -- every bench of 1 to B is marked
 pub record AllMarked (s : Size) (marks : List Bool) : Type 0 where

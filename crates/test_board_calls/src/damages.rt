@@ -1,7 +1,6 @@
 // Tables that are not sound, or whose sizes do not fit: every call is refused with 2 or 1, whatever its numbers, and leaves all bytes.
 use crate::Outcome;
 use crate::random;
-use board_changes::changes;
 use test_solver::Book;
 use test_solver::bytes;
 use test_solver::bytes::Table;
@@ -83,9 +82,9 @@ fn spoil_sizes(t: &mut Table, benches: usize, jobs: usize, seed: u64) {
 }
 
 fn changes_refused(t: &mut [u8], job: usize, bench: usize, due: u32) -> bool {
-    let a = changes::arrival(t, job, bench, 1).number();
-    let c = changes::closing(t, job).number();
-    let l = changes::levelling(t, 1).number();
+    let a = board_changes::arrival(t, job, bench, 1).number();
+    let c = board_changes::closing(t, job).number();
+    let l = board_changes::levelling(t, 1).number();
     a == due && c == due && l == due
 }
 

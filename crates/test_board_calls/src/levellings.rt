@@ -1,7 +1,6 @@
 // Levelling, held against itself one path at a time.
 use crate::Outcome;
 use crate::random;
-use board_changes::changes;
 use test_board_checks::one_more;
 use test_solver::Loads;
 use test_solver::MOST_BENCHES;
@@ -46,7 +45,7 @@ fn improved(before: &Loads, after: &Loads) -> bool {
 // What one path did: 1 turned, 0 none improves, MANY for anything else.
 fn one_path(t: &mut [u8], benches: usize) -> usize {
     let before = test_board_checks::loads(t, benches);
-    let answer = changes::levelling(t, 1).values();
+    let answer = board_changes::levelling(t, 1).values();
     let after = test_board_checks::loads(t, benches);
     let paths = answer.get(1, MANY);
     if paths == 0 && answer.get(2, 0) == 1 && one_more(&before, &after, 0) {
@@ -99,7 +98,7 @@ pub fn levelling(t: &mut [u8], benches: usize, level: bool, seed: u64) -> Outcom
     let needed = paths_needed(t, benches);
     let allowed = allowance(seed);
     let most = allowed as usize;
-    let answer = changes::levelling(t, allowed).values();
+    let answer = board_changes::levelling(t, allowed).values();
     let paths = answer.get(1, MANY);
     let is_level = answer.get(2, 2);
     if needed <= most {

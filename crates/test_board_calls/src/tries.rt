@@ -2,7 +2,6 @@
 use crate::Outcome;
 use crate::random;
 use board_answers::Values;
-use board_changes::changes;
 use test_board_checks::one_more;
 use test_solver::Book;
 use test_solver::Loads;
@@ -55,7 +54,7 @@ fn arrive(
 ) -> Outcome {
     let before = bytes::copied(t);
     let loads = test_board_checks::loads(t, benches);
-    let answer = changes::arrival(t, job, first, second);
+    let answer = board_changes::arrival(t, job, first, second);
     let number = answer.number();
     if number != 0 {
         return refused(t, &before, due, number);
@@ -90,7 +89,7 @@ fn closed(t: &[u8], before: &Table, loads: &Loads, benches: usize, job: usize, v
 fn close(t: &mut [u8], benches: usize, job: usize, due: u32) -> Outcome {
     let before = bytes::copied(t);
     let loads = test_board_checks::loads(t, benches);
-    let answer = changes::closing(t, job);
+    let answer = board_changes::closing(t, job);
     let number = answer.number();
     if number != 0 {
         return refused(t, &before, due, number);

@@ -3,7 +3,6 @@
 // order before.
 ghost use Prim.Native.Nat.{_≤_, _<_};
 use board_answers::Answer;
-use board_changes::changes;
 use libc::STDOUT_FILENO;
 
 const BENCHES: usize = 5;
@@ -56,7 +55,7 @@ fn keep_table(tables: &mut [u8; TABLES], jobs: usize, t: &[u8; TABLE])
 
 fn arrives(t: &mut [u8], job: usize) -> bool {
     if job <= JOBS {
-        match changes::arrival(t, job, wide(FIRST[job]), wide(SECOND[job])) {
+        match board_changes::arrival(t, job, wide(FIRST[job]), wide(SECOND[job])) {
             Answer::Arrived(_, _, _) => true,
             _ => false,
         }
@@ -182,7 +181,7 @@ fn print_count(n: u64, text: &[u8]) {
 fn blank_tables() -> [u8; TABLES] {
     let mut tables = [0; TABLES];
     let mut t = zeros();
-    changes::blank(&mut t, BENCHES, JOBS);
+    board_changes::blank(&mut t, BENCHES, JOBS);
     keep_table(&mut tables, 0, &t);
     tables
 }

@@ -1,5 +1,4 @@
 // Tables to start from: blank, or with random jobs that are held anyhow, levelled or not.
-use board_changes::changes;
 use test_board_calls::random;
 use test_solver::Book;
 use test_solver::MOST_JOBS;
@@ -66,10 +65,10 @@ pub fn random_table(book: &mut Book, benches: usize, jobs: usize, seed: u64) -> 
 // Way 0 blanks the table, way 1 levels it, any other leaves it as it is. Whether that was answered as it should be.
 pub fn begin(t: &mut [u8], benches: usize, jobs: usize, way: usize) -> bool {
     if way == 0 {
-        return changes::blank(t, benches, jobs).number() == 0;
+        return board_changes::blank(t, benches, jobs).number() == 0;
     }
     if way == 1 {
-        return changes::levelling(t, 4294967295).values().get(2, 0) == 1;
+        return board_changes::levelling(t, 4294967295).values().get(2, 0) == 1;
     }
     true
 }

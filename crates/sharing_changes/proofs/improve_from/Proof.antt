@@ -1,0 +1,48 @@
+-- The arcs are the board's, the loads its benches', and the path is turned along them: the board stays as it was until then.
+use borrow.Author.Needs.{needs}
+use Rattle.graph_lists.proofs.Listing.{array-long}
+use Rattle.sharing_changes.proofs.improve_from.Statement.{statement}
+use Rattle.sharing_changes.proofs.improve_from.Tie as tie
+
+jobs-requires : tie.Need-jobs-requires
+jobs-requires c κs = search needs
+
+jobs-requires-2 : tie.Need-jobs-requires-2
+jobs-requires-2 c κs = search needs
+
+fill-requires : tie.Need-fill-requires
+fill-requires c κs =
+    let made = c .before .before .before in
+    (made .before .before .before .pre .0, (array-long 0 (made .before .jobs .ensures), array-long 0 (made .jobs2 .ensures)))
+
+benches-requires : tie.Need-benches-requires
+benches-requires c κs = search needs
+
+loads-requires : tie.Need-loads-requires
+loads-requires c κs = search needs
+
+turn-from-requires : tie.Need-turn-from-requires
+turn-from-requires c κs =
+    let counted = c .before .before .before .before in
+    let filled = counted .before .before .before .before in
+    let start = filled .before .before .before .before .before .before .before in
+    (start .pre .0, (filled .fill .ensures, (counted .loads .ensures, start .pre .1)))
+
+same-length : tie.Need-same-length
+same-length c = search needs
+
+returns : tie.Need-returns
+returns c = c .before .before .turn-from .ensures
+
+pub improve-from-spec : {M : Type 1} → statement M
+improve-from-spec =
+    tie.close
+    (tie.spec
+    jobs-requires
+    jobs-requires-2
+    fill-requires
+    benches-requires
+    loads-requires
+    turn-from-requires
+    same-length
+    returns)

@@ -1,0 +1,2 @@
+-- Loads by the chains.
+pub mod ByChains
