@@ -7,9 +7,10 @@ use Rattle.spec_table.specs.Table.{fits, sound}
 use Rattle.spec_calls.specs.Answers.{refused}
 use Rattle.spec_calls.specs.Calls.{Call, lentList, outcome}
 use Rattle.spec_calls.proofs.Refusals.{refused-by}
-use Rattle.board_answers.specs.Answered.{refusalOf, Leaves}
-use Rattle.board_answers.specs.declared.Refusal.{Refusal}
-use Rattle.board_answers.specs.declared.Refusal.the-variants.{Sizes, Unsound}
+use Rattle.table_refusals.specs.Refusals.{refusalOf}
+use Rattle.board_answers.specs.Answered.{Leaves}
+use Rattle.table_refusals.specs.declared.Refusal.{Refusal}
+use Rattle.table_refusals.specs.declared.Refusal.the-variants.{Sizes, Unsound}
 use Rattle.board_answers.specs.declared.Answer.the-variants.{Refused}
 
 -- a refused call leaves every lent byte

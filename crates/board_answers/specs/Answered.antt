@@ -5,24 +5,10 @@ use Prim.Native.Nat.{ℕ}
 use lib.ListN.{getD, take}
 use Rattle.spec_calls.specs.Answers as paper
 use Rattle.spec_calls.specs.Calls.{Call, outcome}
-use Rattle.board_answers.specs.declared.Refusal.{Refusal}
-use Rattle.board_answers.specs.declared.Refusal.the-variants as code
+use Rattle.table_refusals.specs.Refusals.{refusalOf}
 use Rattle.board_answers.specs.declared.Answer.{Answer}
 use Rattle.board_answers.specs.declared.Values.{Values}
 use Rattle.board_answers.specs.declared.Answer.the-variants as told
-
--- the refusal
-abbrev pub refusalOf : Refusal → paper.Refusal
-refusalOf code.Sizes = paper.sizes
-refusalOf code.Unsound = paper.unsound
-refusalOf code.JobNumber = paper.jobNumber
-refusalOf code.BenchNumber = paper.benchNumber
-refusalOf code.AlreadyStanding = paper.alreadyStanding
-refusalOf code.NotStanding = paper.notStanding
-refusalOf code.Height = paper.height
-refusalOf code.ListTooShort = paper.listTooShort
-refusalOf code.CountFull = paper.countFull
-refusalOf code.Unreadable = paper.unreadable
 
 -- the answer
 abbrev pub answerOf : Answer → paper.Answer

@@ -2,42 +2,9 @@
 ghost use mathlib.Core.Path.{_≡_};
 ghost use lib.ListN.{drop};
 ghost use Rattle.spec_lists.specs.Lists.{nth};
-ghost use Rattle.spec_calls.specs.Answers.{refusalNumber, inNumbers};
-ghost use Rattle.board_answers.specs.Answered.{refusalOf, answerOf, returned, valuesOf};
-
-// Why a call is refused, in the order of document 01's table.
-pub enum Refusal {
-    Sizes,
-    Unsound,
-    JobNumber,
-    BenchNumber,
-    AlreadyStanding,
-    NotStanding,
-    Height,
-    ListTooShort,
-    CountFull,
-    Unreadable,
-}
-
-impl Refusal {
-    // The number that is returned for it.
-    pub fn number(self) -> u32
-        ensures { λ r. ⌜ r ≡ refusalNumber (refusalOf self) ⌝ }
-    {
-        match self {
-            Refusal::Sizes => 1,
-            Refusal::Unsound => 2,
-            Refusal::JobNumber => 3,
-            Refusal::BenchNumber => 4,
-            Refusal::AlreadyStanding => 5,
-            Refusal::NotStanding => 6,
-            Refusal::Height => 7,
-            Refusal::ListTooShort => 8,
-            Refusal::CountFull => 9,
-            Refusal::Unreadable => 10,
-        }
-    }
-}
+ghost use Rattle.spec_calls.specs.Answers.{inNumbers};
+ghost use Rattle.board_answers.specs.Answered.{answerOf, returned, valuesOf};
+use table_refusals::Refusal;
 
 // A call's answer.
 pub enum Answer {
@@ -69,6 +36,7 @@ pub struct Values {
 }
 
 impl Values {
+    // Makes values of which the first `count` count.
     fn new(count: usize, first: usize, second: usize, third: usize) -> Values
         ensures { λ r. ⌜ r ≡ record { count = count; first = first; second = second; third = third } ⌝ }
     {
@@ -80,7 +48,7 @@ impl Values {
         }
     }
 
-    // Value k, counted from 1; `lent` where there is none.
+    // Gives value k, counted from 1; `lent` where there is none.
     pub fn get(self, k: usize, lent: usize) -> usize
         ensures { λ r. ⌜ r ≡ nth (valuesOf self) k lent ⌝ }
     {
@@ -102,7 +70,7 @@ impl Values {
 }
 
 impl Answer {
-    // The refusal's number, 0 for an accepted call.
+    // Gives the refusal's number, 0 for an accepted call.
     pub fn number(self) -> u32
         ensures { λ r. ⌜ r ≡ returned (answerOf self) ⌝ }
     {
@@ -122,7 +90,7 @@ impl Answer {
         }
     }
 
-    // Its values, in document 01's order; yes and level are 1, no and stopped 0.
+    // Gives its values, in document 01's order; yes and level are 1, no and stopped 0.
     pub fn values(self) -> Values
         ensures { λ r. ⌜ valuesOf r ≡ drop 1 (inNumbers (answerOf self)) ⌝ }
     {

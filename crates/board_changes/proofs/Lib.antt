@@ -1,3 +1,3 @@
 -- Refusals of what each change asks, and demand 3.
-pub mod Writing
+pub mod ChangeOutcomes
 pub mod Demands

@@ -4,12 +4,12 @@ ghost use Rattle.spec_calls.specs.Calls.{blanking, outcome, arrival, closing, l
 ghost use Rattle.table_size.specs.Sizes.{SoundTable};
 ghost use Rattle.board_answers.specs.Answered.{Leaves};
 use board_answers::Answer;
-use board_answers::Refusal;
-use table_form::Form;
-use table_size::Size;
 use table_board::jobs;
+use table_form::Form;
+use table_refusals::Refusal;
+use table_size::Size;
 
-// Blanking: a table for so many benches and jobs, without jobs. Old bytes are not looked at.
+// Blanks a table for so many benches and jobs. Old bytes are not looked at.
 pub fn blank(t: &mut [u8], benches: usize, jobs: usize) -> Answer
     ensures { λ r. ⌜ Leaves (blanking benches jobs (now (t .entry))) r (now (t .exit)) [] ⌝ }
 {
@@ -20,7 +20,7 @@ pub fn blank(t: &mut [u8], benches: usize, jobs: usize) -> Answer
     }
 }
 
-// An arrival on a sound table: refusals 3, 4 and 5 in this order, else the job arrives.
+// Takes in a job on a sound table, or refuses with 3, 4 or 5, in this order.
 fn arrival_on(t: &mut [u8], s: Size, job: usize, first: usize, second: usize) -> Answer
     requires { ⌜ SoundTable (now t) s ⌝ }
     ensures { λ r. ⌜ Leaves (outcome (arrival job first second) (now (t .entry))) r (now (t .exit)) [] ⌝ }
@@ -38,7 +38,7 @@ fn arrival_on(t: &mut [u8], s: Size, job: usize, first: usize, second: usize) ->
     Answer::Arrived(a.holder, a.rose, a.moved)
 }
 
-// Arrival of a job that names two benches.
+// Takes in a job that names two benches.
 pub fn arrival(t: &mut [u8], job: usize, first: usize, second: usize) -> Answer
     ensures { λ r. ⌜ Leaves (outcome (arrival job first second) (now (t .entry))) r (now (t .exit)) [] ⌝ }
 {
@@ -49,7 +49,7 @@ pub fn arrival(t: &mut [u8], job: usize, first: usize, second: usize) -> Answer
     }
 }
 
-// A closing on a sound table: refusals 3 and 6 in this order, else the job closes.
+// Closes a job on a sound table, or refuses with 3 or 6, in this order.
 fn closing_on(t: &mut [u8], s: Size, job: usize) -> Answer
     requires { ⌜ SoundTable (now t) s ⌝ }
     ensures { λ r. ⌜ Leaves (outcome (closing job) (now (t .entry))) r (now (t .exit)) [] ⌝ }
@@ -64,7 +64,7 @@ fn closing_on(t: &mut [u8], s: Size, job: usize) -> Answer
     Answer::Closed(c.bench, c.jobs)
 }
 
-// Closing of a standing job.
+// Closes a standing job.
 pub fn closing(t: &mut [u8], job: usize) -> Answer
     ensures { λ r. ⌜ Leaves (outcome (closing job) (now (t .entry))) r (now (t .exit)) [] ⌝ }
 {
@@ -75,7 +75,7 @@ pub fn closing(t: &mut [u8], job: usize) -> Answer
     }
 }
 
-// Levelling with an allowance of paths.
+// Levels within an allowance of paths.
 pub fn levelling(t: &mut [u8], allowance: u32) -> Answer
     ensures { λ r. ⌜ Leaves (outcome (levelling allowance) (now (t .entry))) r (now (t .exit)) [] ⌝ }
 {

@@ -14,7 +14,8 @@ use Rattle.spec_sharing.specs.Paths.{steps}
 use Rattle.spec_sharing.specs.Sharing.{level, tightSet}
 use Rattle.spec_calls.specs.Answers.{Outcome}
 use Rattle.spec_calls.specs.Calls.{loadOf, heaviestLoad, tightSetOf, formCheck, levelCheck, conditions, accepted, outcome, tightSetOutcome}
-use Rattle.spec_lists.proofs.Basics.{within-both, in-getD}
+use Rattle.spec_lists.proofs.Tests.{within-both}
+use Rattle.spec_lists.proofs.Elements.{in-getD}
 use Rattle.spec_lists.proofs.Counting.{greatest-most}
 use Rattle.spec_table.proofs.Loads.{load-heaviest}
 use Rattle.spec_sharing.proofs.Walks.{reach-here}
@@ -25,10 +26,10 @@ use Rattle.table_size.specs.declared.Size.{Size}
 use Rattle.table_size.specs.Sizes.{SoundTable}
 use Rattle.sharing_tight_set.specs.declared.Extent.{Extent}
 use Rattle.sharing_visits.specs.Marks.{mark}
-use Rattle.sharing_tight_set.specs.Sets.{marked, TightSet}
-use Rattle.sharing_tight_set.proofs.AsSet.{kept-few}
+use Rattle.sharing_tight_set.specs.MarkedSets.{marked, TightSet}
+use Rattle.sharing_tight_set.proofs.AsSet.{passing-few}
 use Rattle.board_answers.specs.Answered.{answerOf, Leaves}
-use Rattle.board_answers.specs.declared.Refusal.the-variants as code
+use Rattle.table_refusals.specs.declared.Refusal.the-variants as code
 use Rattle.board_answers.specs.declared.Answer.{Answer}
 use Rattle.board_answers.specs.declared.Answer.the-variants as told
 use Rattle.board_answers.proofs.Formal.{refused-leaves}
@@ -99,7 +100,7 @@ module _ {t : List ℕ} {s : Size} (z : SoundTable t s) where
   module _ {h : ℕ} {marks : List Bool} {r : Extent} (m : TightSet (decode t) s h marks r) where
     -- the set has at most B benches
     pub set-most : r .benches ≤ mostBenches
-    set-most = omega (arith, m .benches, ap length (m .set), kept-few (mark marks) (s .benches), z .size .limits .benches-most)
+    set-most = omega (arith, m .benches, ap length (m .set), passing-few (mark marks) (s .benches), z .size .limits .benches-most)
 
     module _ (list : List ℕ) where
       -- a list that is not too short has room for the marked benches

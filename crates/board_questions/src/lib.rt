@@ -4,11 +4,11 @@ ghost use Rattle.spec_calls.specs.Calls.{outcome, loadOf, heaviestLoad, tightSe
 ghost use Rattle.table_size.specs.Sizes.{SoundTable};
 ghost use Rattle.board_answers.specs.Answered.{Leaves};
 use board_answers::Answer;
-use board_answers::Refusal;
 use table_form::Form;
+use table_refusals::Refusal;
 use table_size::Size;
 
-// Form check: sound, or the refusal.
+// Checks the form: sound, or the refusal.
 pub fn form_check(t: &[u8]) -> Answer
     ensures { λ r. ⌜ Leaves (outcome formCheck (now (t .entry))) r (now (t .entry)) [] ⌝ }
 {
@@ -19,7 +19,7 @@ pub fn form_check(t: &[u8]) -> Answer
     }
 }
 
-// Level check: whether no path improves.
+// Checks whether no path improves.
 pub fn level_check(t: &[u8]) -> Answer
     ensures { λ r. ⌜ Leaves (outcome levelCheck (now (t .entry))) r (now (t .entry)) [] ⌝ }
 {
@@ -36,7 +36,7 @@ pub fn level_check(t: &[u8]) -> Answer
     }
 }
 
-// The load of a bench.
+// Answers the load of a bench.
 pub fn load(t: &[u8], bench: usize) -> Answer
     ensures { λ r. ⌜ Leaves (outcome (loadOf bench) (now (t .entry))) r (now (t .entry)) [] ⌝ }
 {
@@ -53,7 +53,7 @@ pub fn load(t: &[u8], bench: usize) -> Answer
     }
 }
 
-// The heaviest load.
+// Answers the heaviest load.
 pub fn heaviest(t: &[u8]) -> Answer
     ensures { λ r. ⌜ Leaves (outcome heaviestLoad (now (t .entry))) r (now (t .entry)) [] ⌝ }
 {
@@ -64,7 +64,7 @@ pub fn heaviest(t: &[u8]) -> Answer
     }
 }
 
-// The tight set on a sound table: refusals 7 and 8 in this order, else its benches are listed.
+// Lists the tight set on a sound table, or refuses with 7 or 8, in this order.
 fn tight_set_on(t: &[u8], s: Size, height: usize, list: &mut [u8]) -> Answer
     requires { ⌜ SoundTable (now t) s ⌝ }
     ensures { λ r. ⌜ Leaves (outcome (tightSetOf height (now (list .entry))) (now (t .entry))) r (now (t .entry)) (now (list .exit)) ⌝ }
@@ -85,7 +85,7 @@ fn tight_set_on(t: &[u8], s: Size, height: usize, list: &mut [u8]) -> Answer
     Answer::TightSet(e.benches, e.jobs)
 }
 
-// The tight set of a height: its benches, rising, as words at the list's beginning.
+// Lists the tight set of a height: its benches, rising, as words at the list's beginning.
 pub fn tight_set(t: &[u8], height: usize, list: &mut [u8]) -> Answer
     ensures { λ r. ⌜ Leaves (outcome (tightSetOf height (now (list .entry))) (now (t .entry))) r (now (t .entry)) (now (list .exit)) ⌝ }
 {

@@ -9,7 +9,8 @@ use lib.Dec.{T, leb}
 use types.Run.{OneOf}
 use denote.Enum.Declared.{tagOf}
 use Rattle.spec_lists.specs.Lists.{member, In}
-use Rattle.spec_lists.proofs.Basics.{tests-same, not-false, not→false, true→T, T→true, T-leb, leb-T, in-member}
+use Rattle.spec_lists.proofs.Tests.{tests-same, not-false, not→false, true→T, T→true, T-leb, leb-T}
+use Rattle.spec_lists.proofs.NumberLists.{in-member}
 use Rattle.spec_calls.specs.Tally.{mostCount, countsFit, raised, noted}
 use Rattle.spec_calls.proofs.Tally.{Fits32, counts-fit, isChange, other-noted}
 use Rattle.board_answers.specs.Answered.{answerOf}

@@ -21,7 +21,7 @@ pub enum Note {
 }
 
 impl Note {
-    // The number that is returned for it, 0 for counted.
+    // Gives the number that is returned for it, 0 for counted.
     pub fn number(self) -> u32
         ensures { λ r. ⌜ r ≡ numberOf (noteOf self) ⌝ }
     {
@@ -38,7 +38,7 @@ pub struct Noted {
     pub note: Note,
 }
 
-// Whether a count can be raised by so many.
+// Tells whether a count can be raised by so many.
 fn has_room(count: u32, raise: usize) -> bool
     ensures { λ r. ⌜ r ≡ leb (count + raise) mostCount ⌝ }
 {
@@ -49,7 +49,7 @@ impl Tally {
     // The most that a count holds.
     pub const MOST_COUNT: u32 = 4294967295;
 
-    // All counts are zero.
+    // Starts with all counts zero.
     pub fn new() -> Tally
         ensures { λ r. ⌜ tallyOf r ≡ zeroTally ⌝ }
     {
@@ -60,7 +60,7 @@ impl Tally {
         }
     }
 
-    // Whether all three counts can be raised by so many.
+    // Tells whether all three counts can be raised by so many.
     fn fits(self, arrivals: usize, closings: usize, moved: usize) -> bool
         ensures { λ r. ⌜ r ≡ countsFit (more self arrivals closings moved) ⌝ }
     {
@@ -73,7 +73,7 @@ impl Tally {
         has_room(self.moved, moved)
     }
 
-    // All three counts raised, or none where one would pass the most.
+    // Raises all three counts, or none where one would pass the most.
     fn raised(mut self, arrivals: usize, closings: usize, moved: usize) -> Noted
         ensures { λ r. ⌜ NotedAs (raised (tallyOf self) (more self arrivals closings moved)) r ⌝ }
     {
@@ -92,7 +92,7 @@ impl Tally {
         }
     }
 
-    // The tally with an answer noted.
+    // Notes an answer.
     pub fn note(mut self, a: Answer) -> Noted
         ensures { λ r. ⌜ NotedAs (noted (tallyOf self) (answerOf a)) r ⌝ }
     {
@@ -107,7 +107,7 @@ impl Tally {
     }
 }
 
-// The tally raised in place.
+// Raises the lent tally in place.
 pub fn note_in_place(t: &mut Tally, a: Answer) -> Note
     ensures { λ r. ⌜ NotedAs (noted (tallyOf (now (t .entry))) (answerOf a)) (record { tally = now (t .exit); note = r }) ⌝ }
 {
@@ -116,7 +116,7 @@ pub fn note_in_place(t: &mut Tally, a: Answer) -> Note
     n.note
 }
 
-// A copy of the caller's own, raised in place.
+// Raises a copy of the caller's own in place, for callers that lend nothing.
 pub fn note_own(t: Tally, a: Answer) -> Noted
     ensures { λ r. ⌜ NotedAs (noted (tallyOf t) (answerOf a)) r ⌝ }
 {

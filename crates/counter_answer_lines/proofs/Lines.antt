@@ -12,7 +12,7 @@ use Rattle.spec_calls.specs.Answers.{Answer, refused, blanked, arrived, closed,
 use Rattle.board_answers.specs.Answered.{returned}
 use Rattle.spec_counter.specs.Counter.{lineFeed, space, digits, printed}
 use Rattle.counter_printing.specs.Wrote.{Wrote, spaced}
-use Rattle.counter_printing.proofs.Writing.{wrote-start, wrote-then, wrote-more, printed-is, spaced-append}
+use Rattle.counter_printing.proofs.WrittenText.{wrote-start, wrote-then, wrote-more, printed-is, spaced-append}
 use Rattle.counter_answer_lines.specs.AnswerLines.{refusalText, answerText}
 
 -- refusals are numbered from 1 on ..

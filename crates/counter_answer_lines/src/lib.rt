@@ -14,7 +14,7 @@ use board_answers::Values;
 // The room that any line fits into: `lineMost`, for those who lend the buffer.
 pub const LINE_MOST: usize = 10628;
 
-// "R and the refusal".
+// Prints "R and the refusal".
 pub fn refusal(out: &mut [u8], at: usize, number: usize) -> usize
     requires { ⌜ at + lineMost ≤ length (now out) ⌝ }
     ensures { λ r. ⌜ Wrote (now (out .entry)) (now (out .exit)) at r (refusalText number) ⌝ }
@@ -25,7 +25,7 @@ pub fn refusal(out: &mut [u8], at: usize, number: usize) -> usize
     counter_printing::byte(out, told, b'\n')
 }
 
-// A letter, numbers of the command and the answer's values.
+// Prints a letter, numbers of the command and the answer's values.
 fn beginning(out: &mut [u8], at: usize, letter: u8, repeated: Values, a: Answer) -> usize
     requires { ⌜ at + lineMost ≤ length (now out) ⌝ }
     ensures { λ r. ⌜ Wrote (now (out .entry)) (now (out .exit)) at r (letter ∷ spaced (valuesOf repeated ++ drop 1 (inNumbers (answerOf a)))) ⌝ }
@@ -37,7 +37,7 @@ fn beginning(out: &mut [u8], at: usize, letter: u8, repeated: Values, a: Answer)
     counter_printing::values(out, told, v)
 }
 
-// An answer's line without a list.
+// Prints an answer's line without a list.
 pub fn answer(out: &mut [u8], at: usize, letter: u8, repeated: Values, a: Answer) -> usize
     requires { ⌜ at + lineMost ≤ length (now out) ⌝ }
     ensures { λ r. ⌜ Wrote (now (out .entry)) (now (out .exit)) at r (answerText letter (valuesOf repeated) (answerOf a) []) ⌝ }
@@ -51,7 +51,7 @@ pub fn answer(out: &mut [u8], at: usize, letter: u8, repeated: Values, a: Answer
     counter_printing::byte(out, end, b'\n')
 }
 
-// An answer's line with the words of a list, as many as its first value says; a refusal lists none.
+// Prints an answer's line with the words of a list, as many as its first value says; a refusal lists none.
 pub fn listing(
     out: &mut [u8],
     at: usize,

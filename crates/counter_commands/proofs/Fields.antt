@@ -14,7 +14,7 @@ use lib.Seq.{drop-cons}
 use borrow.Author.Tests.{le-leb, lt-leb, eq-eqb, ne-eqb, leb-true, leb-false}
 use Rattle.spec_lists.specs.Lists.{all, empty}
 use Rattle.spec_counter.specs.Counter.{space, onto, pieces, digit, value, number, numbers, joined, commandFor, fieldsCommand, command}
-use Rattle.spec_lists.proofs.Basics.{Compared, same, other, compared, true→T, within-low, within-high, right, T-leb}
+use Rattle.spec_lists.proofs.Tests.{Compared, same, other, compared, true→T, within-low, within-high, right, T-leb}
 use Rattle.counter_commands.specs.Read.{digitValue, behind, onwards, Further, ReadField, followed, few, taken, given}
 use Rattle.counter_commands.specs.declared.Field.{Field}
 use Rattle.counter_commands.specs.declared.Field.the-variants as field
@@ -36,14 +36,14 @@ cut-line (c ∷ l) = go (eqb c space) (cut-line l)
 -- digits
 
 -- a byte that is a digit has its value, another has 10
-data Told (c : ℕ) : Bool → ℕ → Type 0 where
-  figure : code "0" ≤ c → c ≤ code "9" → Told c true (c - code "0")
-  another : Told c false 10
+data DigitTold (c : ℕ) : Bool → ℕ → Type 0 where
+  figure : code "0" ≤ c → c ≤ code "9" → DigitTold c true (c - code "0")
+  another : DigitTold c false 10
 
-told : (c : ℕ) → Told c (digit c) (digitValue c)
+told : (c : ℕ) → DigitTold c (digit c) (digitValue c)
 told c = go (digit c) refl
   where
-    go : (z : Bool) → digit c ≡ z → Told c z (cond z (c - code "0") 10)
+    go : (z : Bool) → digit c ≡ z → DigitTold c z (cond z (c - code "0") 10)
     go true e = figure (within-low (code "0") (code "9") c (true→T (digit c) e)) (within-high (code "0") (code "9") c (true→T (digit c) e))
     go false e = another
 
@@ -78,7 +78,7 @@ one-more n c f = go (told c)
     long (other d) true p = rw (ne-eqb v 0 (λ e. d (omega arith)), or-true)
     long (other d) false p = let big = leb-false v 65535 p in rw (lt-leb (value v f) 65535 (omega (arith, value-grows v f)), and-false)
 
-    go : {z : Bool} {d : ℕ} → Told c z d → cond ((z && all digit f) && not (eqb n 0) && leb (value v f) 65535) (some (value v f)) none ≡ cond (fitting n d) (continued (10 * n + d) f) none
+    go : {z : Bool} {d : ℕ} → DigitTold c z d → cond ((z && all digit f) && not (eqb n 0) && leb (value v f) 65535) (some (value v f)) none ≡ cond (fitting n d) (continued (10 * n + d) f) none
     go another = refl
     go (figure low high) = rw (le-leb (c - code "0") 9 (omega arith)) (long (compared n 0) (leb v 65535) refl)
 
@@ -118,7 +118,7 @@ number-starts c f = go (told c)
     zero-digit (same e) low = rw e
     zero-digit (other d) low = sym (ne-eqb (c - code "0") 0 (λ e. d (omega arith)))
 
-    go : {z : Bool} {d : ℕ} → Told c z d → cond ((z && all digit f) && (empty f || not (eqb c (code "0"))) && leb (value v f) 65535) (some (value v f)) none ≡ cond (leb d 9) (continued d f) none
+    go : {z : Bool} {d : ℕ} → DigitTold c z d → cond ((z && all digit f) && (empty f || not (eqb c (code "0"))) && leb (value v f) 65535) (some (value v f)) none ≡ cond (leb d 9) (continued d f) none
     go another = refl
     go (figure low high) =
         let e : v ≡ c - code "0" = omega arith in

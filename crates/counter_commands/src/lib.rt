@@ -41,7 +41,7 @@ enum Numbers {
     Bad,
 }
 
-// A digit's value, 10 for another byte.
+// Gives a digit's value, 10 for another byte.
 fn digit_value(byte: u8) -> usize
     ensures { λ r. ⌜ r ≡ digitValue byte ⌝ }
 {
@@ -92,7 +92,7 @@ fn read_field(line: &[u8], at: usize) -> Field
 }
 
 impl Numbers {
-    // The numbers and one more.
+    // Adds one more number.
     fn and(self, n: usize) -> Numbers
         ensures { λ r. ⌜ taken r ≡ few (followed (taken self) (some (n ∷ []))) ⌝ }
     {
@@ -122,7 +122,7 @@ fn read_numbers(line: &[u8]) -> Numbers
     numbers
 }
 
-// The command of a letter and its numbers.
+// Finds the command of a letter and its numbers.
 fn command_for(letter: u8, numbers: Numbers) -> Reading
     ensures { λ r. ⌜ readingOf r ≡ given letter (taken numbers) ⌝ }
 {

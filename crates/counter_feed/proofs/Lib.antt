@@ -1,3 +1,3 @@
 -- What is proved of the input as it comes in.
-pub mod Hearing
+pub mod Consuming
 pub mod Whole

@@ -1,2 +1,2 @@
 -- The counter program on slices.
-pub mod Heard
+pub mod Feeding

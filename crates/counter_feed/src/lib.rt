@@ -1,13 +1,12 @@
 // The counter program on slices: its input comes in pieces of any size, and each complete line is replied to.
 ghost use mathlib.Core.Path.{_≡_};
-ghost use mathlib.Core.List.{List, [], _∷_};
-ghost use Prim.Native.Nat.{ℕ, _+_, _≤_};
-ghost use lib.ListN.{length, take, set};
-ghost use Rattle.spec_counter.specs.Stream.{beginning};
+ghost use mathlib.Core.List.{[], _∷_};
+ghost use Prim.Native.Nat.{_+_, _≤_};
+ghost use lib.ListN.{length};
 ghost use Rattle.counter_answer_lines.specs.AnswerLines.{lineMost};
-ghost use Rattle.counter_feed.specs.Heard.{keptMost, placeOf, Stands, Hears, Feeds, Finishes, Begins, KeepsByte};
-use board_answers::Refusal;
+ghost use Rattle.counter_feed.specs.Feeding.{keptMost, placeOf, Stands, TakesByte, Feeds, Finishes, Begins, Appended};
 use counter_state::Counter;
+use table_refusals::Refusal;
 
 // Where the program is in its input: its state, and how many bytes of the present line it keeps.
 pub struct Reader {
@@ -16,7 +15,7 @@ pub struct Reader {
 }
 
 // The reader behind a byte, and how many bytes of the output are written.
-pub struct Heard {
+pub struct Consumed {
     pub reader: Reader,
     pub at: usize,
 }
@@ -32,7 +31,7 @@ impl Reader {
     // The bytes kept of a line: one more than a readable line may have.
     pub const KEPT_MOST: usize = 41;
 
-    // Before the first byte.
+    // Begins before the first byte.
     pub fn new() -> Reader
         ensures { λ r. ⌜ Begins r ⌝ }
     {
@@ -43,10 +42,10 @@ impl Reader {
     }
 }
 
-// A byte of the line; of a line too long to be readable no more is kept.
-fn keep(line: &mut [u8], held: usize, byte: u8) -> usize
+// Appends a byte to the line; of a line too long to be readable no more is kept.
+fn append(line: &mut [u8], held: usize, byte: u8) -> usize
     requires { ⌜ length (now line) ≡ keptMost ⌝ }
-    ensures { λ r. ⌜ KeepsByte (now (line .entry)) (now (line .exit)) held byte r ⌝ }
+    ensures { λ r. ⌜ Appended (now (line .entry)) (now (line .exit)) held byte r ⌝ }
 {
     if held < line.len() {
         line[held] = byte;
@@ -55,18 +54,25 @@ fn keep(line: &mut [u8], held: usize, byte: u8) -> usize
     held
 }
 
-// One byte of the input: a line feed ends the line, which is replied to; any other byte belongs to it.
-fn hear(r: Reader, byte: u8, bytes: &mut [u8], line: &mut [u8], out: &mut [u8], at: usize) -> Heard
+// Takes one byte of the input: a line feed ends the line, which is replied to; any other byte belongs to it.
+fn take_byte(
+    r: Reader,
+    byte: u8,
+    bytes: &mut [u8],
+    line: &mut [u8],
+    out: &mut [u8],
+    at: usize,
+) -> Consumed
     requires { ⌜ Stands r (now bytes) (now line) ⌝ }
     requires { ⌜ at + lineMost ≤ length (now out) ⌝ }
-    ensures { λ h. ⌜ Hears (placeOf r (now (bytes .entry)) (now (line .entry))) (byte ∷ []) (now (bytes .exit)) (now (line .exit)) (now (out .entry)) (now (out .exit)) at h ⌝ }
+    ensures { λ h. ⌜ TakesByte (placeOf r (now (bytes .entry)) (now (line .entry))) (byte ∷ []) (now (bytes .exit)) (now (line .exit)) (now (out .entry)) (now (out .exit)) at h ⌝ }
 {
     let counter = r.counter;
     let held = r.held;
     if byte == b'\n' {
         let reply = counter_reply::to_line(counter, &line[..held], bytes, out, at);
         let next = reply.counter;
-        return Heard {
+        return Consumed {
             reader: Reader {
                 counter: next,
                 held: 0,
@@ -74,8 +80,8 @@ fn hear(r: Reader, byte: u8, bytes: &mut [u8], line: &mut [u8], out: &mut [u8], 
             at: reply.at,
         };
     }
-    let kept = keep(line, held, byte);
-    Heard {
+    let kept = append(line, held, byte);
+    Consumed {
         reader: Reader {
             counter,
             held: kept,
@@ -84,7 +90,7 @@ fn hear(r: Reader, byte: u8, bytes: &mut [u8], line: &mut [u8], out: &mut [u8], 
     }
 }
 
-// A chunk of the input, as far as the output has room for another reply.
+// Takes a chunk of the input, as far as the output has room for another reply.
 pub fn feed(r: Reader, chunk: &[u8], bytes: &mut [u8], line: &mut [u8], out: &mut [u8]) -> Fed
     requires { ⌜ Stands r (now bytes) (now line) ⌝ }
     requires { ⌜ lineMost ≤ length (now out) ⌝ }
@@ -94,7 +100,7 @@ pub fn feed(r: Reader, chunk: &[u8], bytes: &mut [u8], line: &mut [u8], out: &mu
     let mut used = 0;
     let mut at = 0;
     while used < chunk.len() && counter_answer_lines::LINE_MOST <= out.len() - at {
-        let h = hear(reader, chunk[used], bytes, line, out, at);
+        let h = take_byte(reader, chunk[used], bytes, line, out, at);
         let next = h.reader;
         reader = next;
         at = h.at;
@@ -107,7 +113,7 @@ pub fn feed(r: Reader, chunk: &[u8], bytes: &mut [u8], line: &mut [u8], out: &mu
     }
 }
 
-// Where the input ends: "a last line without a line feed, gives 10".
+// Ends the input: "a last line without a line feed, gives 10".
 pub fn finish(r: Reader, out: &mut [u8]) -> usize
     requires { ⌜ lineMost ≤ length (now out) ⌝ }
     ensures { λ n. ⌜ Finishes r (now (out .exit)) n ⌝ }

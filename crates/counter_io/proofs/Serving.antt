@@ -7,7 +7,7 @@ use lib.ListN.{length, take, drop, length-append, length-drop}
 use lib.Seq.{length-take-le}
 use Rattle.counter_answer_lines.specs.AnswerLines.{lineMost}
 use Rattle.counter_feed.specs.declared.Reader.{Reader}
-use Rattle.counter_feed.specs.Heard.{Stands}
+use Rattle.counter_feed.specs.Feeding.{Stands}
 use Rattle.counter_io.specs.declared.Served.{Served}
 use Rattle.counter_io.specs.Serving.{Serves}
 

@@ -3,7 +3,7 @@ use Prim.Native.Nat.{_≤_}
 use mathlib.Core.List.{List}
 use Prim.Native.Nat.{ℕ}
 use lib.ListN.{length}
-use Rattle.counter_feed.specs.Heard.{Stands}
+use Rattle.counter_feed.specs.Feeding.{Stands}
 use Rattle.counter_io.specs.declared.Served.{Served}
 
 -- some of the chunk was answered, if there is any, and the reader can go on

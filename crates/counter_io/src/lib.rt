@@ -4,7 +4,7 @@ ghost use Prim.Native.Nat.{_≤_};
 ghost use lib.ListN.{length};
 ghost use Rattle.counter_answer_lines.specs.AnswerLines.{lineMost};
 ghost use Rattle.counter_state.specs.State.{tableMost};
-ghost use Rattle.counter_feed.specs.Heard.{keptMost, Stands};
+ghost use Rattle.counter_feed.specs.Feeding.{keptMost, Stands};
 ghost use Rattle.counter_io.specs.Serving.{Serves};
 use counter_feed::Reader;
 
@@ -15,14 +15,14 @@ struct Served {
     open: bool,
 }
 
-// The program's own bytes: room for every table.
+// Makes the program's own bytes: room for every table.
 fn own_bytes() -> [u8; 33008]
     ensures { λ r. ⌜ length r ≡ tableMost ⌝ }
 {
     [0; 33008]
 }
 
-// The bytes kept of a line.
+// Makes room for the bytes kept of a line.
 fn line_bytes() -> [u8; Reader::KEPT_MOST]
     ensures { λ r. ⌜ length r ≡ keptMost ⌝ }
 {
@@ -42,8 +42,8 @@ fn read_some(input: i32, chunk: &mut [u8], most: usize) -> usize
     io::count(got, chunk)
 }
 
-// Answers the beginning of a chunk. What is answered is written before more is heard, so that each answer appears as soon as its line is
-// complete.
+// Answers the beginning of a chunk. What is answered is written before more is taken, so that each answer appears
+// as soon as its line is complete.
 fn answer_some(
     r: Reader,
     output: i32,
@@ -98,7 +98,7 @@ fn answer(
 }
 
 // Reads once and answers; used is 0 where nothing more can be read or written.
-fn turn(
+fn read_and_answer(
     r: Reader,
     input: i32,
     output: i32,
@@ -149,14 +149,14 @@ fn converse(
     let mut reader = Reader::new();
     let mut used = 1;
     let mut open = true;
-    let mut turns = u64::MAX;
-    while 0 < used && 0 < turns {
-        let s = turn(reader, input, output, most, bytes, line, chunk, out);
+    let mut rounds = u64::MAX;
+    while 0 < used && 0 < rounds {
+        let s = read_and_answer(reader, input, output, most, bytes, line, chunk, out);
         let next = s.reader;
         reader = next;
         used = s.used;
         open = s.open;
-        turns -= 1;
+        rounds -= 1;
     }
     Served { reader, used, open }
 }
@@ -169,7 +169,7 @@ fn end(r: Reader, output: i32, out: &mut [u8])
     io::write_all(output, &out[..n]);
 }
 
-// The counter program: it reads at most so many bytes at a time. An answer that can't be written ends it.
+// Runs the counter program, which reads at most so many bytes at a time. An answer that can't be written ends it.
 pub fn serve(input: i32, output: i32, most: usize) {
     let mut bytes = own_bytes();
     let mut line = line_bytes();

@@ -11,7 +11,7 @@ use lib.Seq.{take-at, length-take-le, length-front}
 use Rattle.spec_lists.specs.Lists.{nth}
 use Rattle.spec_table.specs.Table.{words, bytesOf, lengthFor, sizesFit, decode, blankTable, mostBenches}
 use Rattle.spec_sharing.specs.Sharing.{tightSet}
-use Rattle.spec_calls.specs.Answers.{Outcome, Refusal, inNumbers, settled, firstHolding, sizes, blanked, refusalNumber}
+use Rattle.spec_calls.specs.Answers.{Outcome, Refusal, inNumbers, refusedOr, firstHolding, sizes, blanked, refusalNumber}
 use Rattle.spec_calls.specs.Calls.{outcome, blanking, arrival, closing, heaviestLoad, tightSetOf, answering, accepted, tightSetOutcome, formConditions, conditions}
 use Rattle.spec_calls.specs.Tally.{Tally, zeroTally, noted}
 use Rattle.spec_calls.proofs.Blanking.{blanking-refused}
@@ -29,10 +29,10 @@ use Rattle.board_answers.specs.declared.Answer.{Answer}
 use Rattle.board_tally.specs.Counts.{tallyOf}
 use Rattle.counter_printing.specs.Wrote.{Wrote}
 use Rattle.counter_answer_lines.specs.AnswerLines.{lineMost, refusalText, answerText}
-use Rattle.counter_state.specs.State.{tableMost, counterOf, Room, Told}
+use Rattle.counter_state.specs.State.{tableMost, counterOf, Room, AnswerPrinted}
 use Rattle.counter_state.specs.declared.Counter.{Counter}
 use Rattle.counter_state.specs.declared.Reply.{Reply}
-use Rattle.counter_state.proofs.Telling.{tells}
+use Rattle.counter_state.proofs.Answering.{printed-as}
 use Rattle.counter_perform.specs.Performed.{Replies, Performs}
 
 -- a part of a list at its beginning, written anew in its length
@@ -40,7 +40,7 @@ part-kept : (n : ℕ) (d e : List ℕ) → n ≤ length d → length e ≡ lengt
 part-kept n d e h k = (take-at e (drop n d) n (k ∙ length-take-le n d h), length-front d e n k)
 
 -- what is told is the reply, where the bytes hold the state's table
-replied : {next : paper.Counter} {n : ℕ} {tally : Tally} {text text' bytes out out' : List ℕ} {at : ℕ} {r : Reply} → length bytes ≡ tableMost → n ≤ tableMost → take n bytes ≡ next .table → tally ≡ next .tally → text ≡ text' → Told n tally text out out' at r → Replies next text' bytes out out' at r
+replied : {next : paper.Counter} {n : ℕ} {tally : Tally} {text text' bytes out out' : List ℕ} {at : ℕ} {r : Reply} → length bytes ≡ tableMost → n ≤ tableMost → take n bytes ≡ next .table → tally ≡ next .tally → text ≡ text' → AnswerPrinted n tally text out out' at r → Replies next text' bytes out out' at r
 replied {next} {n} {tally} {text} {text'} {bytes} {out} {out'} {at} {r} l h t y e told =
     record {
       room = record { long = l; within = subst (λ (m : ℕ). m ≤ tableMost) (sym (told .length)) h };
@@ -54,7 +54,7 @@ pub listed-fits : (t list : List ℕ) (h : ℕ) {u l : List ℕ} {a : Answer} �
 unfolding outcome accepted tightSetOutcome
 listed-fits t list h v = rw (v .answer, v .listed) (go (firstHolding (formConditions t ++ conditions (tightSetOf h list) (decode t))))
   where
-    go : (f : Option Refusal) → let o = settled f t list (accepted (tightSetOf h list) t (decode t)) in 2 * nth (inNumbers (o .answer)) 2 0 ≤ length (o .list)
+    go : (f : Option Refusal) → let o = refusedOr f t list (accepted (tightSetOf h list) t (decode t)) in 2 * nth (inNumbers (o .answer)) 2 0 ≤ length (o .list)
     go none = let set = tightSet (decode t) h in omega (arith, length-append (bytesOf set) (drop (2 * length set) list), length-bytesOf set)
     go (some r) = omega arith
 
@@ -82,11 +82,11 @@ module _ {c : Counter} {d : List ℕ} (room : Room c d) where
 
   module _ {out out' : List ℕ} {at : ℕ} {r : Reply} where
     -- the state stays
-    pub stays : {text text' : List ℕ} → text ≡ text' → Told (c .length) (tallyOf (c .tally)) text out out' at r → Replies (counterOf c d) text' d out out' at r
+    pub stays : {text text' : List ℕ} → text ≡ text' → AnswerPrinted (c .length) (tallyOf (c .tally)) text out out' at r → Replies (counterOf c d) text' d out out' at r
     stays e told = replied (room .long) (room .within) refl refl e told
 
     -- "a refused B keeps the old table"
-    pub misfit-replies : (benches jobs : ℕ) → sizing benches jobs ≡ Misfit → Told (c .length) (tallyOf (c .tally)) (refusalText (refusalNumber sizes)) out out' at r → Performs (setTable benches jobs) (counterOf c d) d out out' at r
+    pub misfit-replies : (benches jobs : ℕ) → sizing benches jobs ≡ Misfit → AnswerPrinted (c .length) (tallyOf (c .tally)) (refusalText (refusalNumber sizes)) out out' at r → Performs (setTable benches jobs) (counterOf c d) d out out' at r
     unfolding lineFor done after
     misfit-replies benches jobs e told =
         let own = paper.room benches jobs in
@@ -94,13 +94,13 @@ module _ {c : Counter} {d : List ℕ} (room : Room c d) where
 
     module _ {a : Answer} {u ns : List ℕ} where
       -- "H heaviest"
-      pub heaviest-replies : Leaves (outcome heaviestLoad (take (c .length) d)) a u [] → ns ≡ [] → Told (c .length) (tallyOf (c .tally)) (answerText (code "H") ns (answerOf a) []) out out' at r → Performs askHeaviest (counterOf c d) d out out' at r
+      pub heaviest-replies : Leaves (outcome heaviestLoad (take (c .length) d)) a u [] → ns ≡ [] → AnswerPrinted (c .length) (tallyOf (c .tally)) (answerText (code "H") ns (answerOf a) []) out out' at r → Performs askHeaviest (counterOf c d) d out out' at r
       unfolding lineFor done after
       heaviest-replies v e told = stays (λ i. answerText (code "H") (e i) (v .answer i) []) told
 
       module _ {n : ℕ} {t : Tally} (same : n ≡ c .length) (counts : t ≡ (noted (tallyOf (c .tally)) (answerOf a)) .tally) where
         -- an arrival or a closing: its answer is noted
-        changes : (letter : ℕ) {o : Outcome} {ms : List ℕ} → Leaves o a u [] → length u ≡ length (take (c .length) d) → ns ≡ ms → Told n t (answerText letter ns (answerOf a) []) out out' at r → Replies (record { table = o .table; tally = (noted (tallyOf (c .tally)) (o .answer)) .tally }) (answerText letter ms (o .answer) []) (u ++ drop (c .length) d) out out' at r
+        changes : (letter : ℕ) {o : Outcome} {ms : List ℕ} → Leaves o a u [] → length u ≡ length (take (c .length) d) → ns ≡ ms → AnswerPrinted n t (answerText letter ns (answerOf a) []) out out' at r → Replies (record { table = o .table; tally = (noted (tallyOf (c .tally)) (o .answer)) .tally }) (answerText letter ms (o .answer) []) (u ++ drop (c .length) d) out out' at r
         changes letter {o} v kept e told =
             let k = part-kept (c .length) d u (omega arith) kept in
             replied (k .1 ∙ room .long) (subst (λ (m : ℕ). m ≤ tableMost) (sym same) (room .within))
@@ -109,17 +109,17 @@ module _ {c : Counter} {d : List ℕ} (room : Room c d) where
             (λ i. answerText letter (e i) (v .answer i) []) told
 
         -- "A job, holder, bench that rose, moved"
-        pub arrival-replies : (j x y : ℕ) → Leaves (outcome (arrival j x y) (take (c .length) d)) a u [] → length u ≡ length (take (c .length) d) → ns ≡ j ∷ [] → Told n t (answerText (code "A") ns (answerOf a) []) out out' at r → Performs (takeIn j x y) (counterOf c d) (u ++ drop (c .length) d) out out' at r
+        pub arrival-replies : (j x y : ℕ) → Leaves (outcome (arrival j x y) (take (c .length) d)) a u [] → length u ≡ length (take (c .length) d) → ns ≡ j ∷ [] → AnswerPrinted n t (answerText (code "A") ns (answerOf a) []) out out' at r → Performs (takeIn j x y) (counterOf c d) (u ++ drop (c .length) d) out out' at r
         unfolding lineFor done after
         arrival-replies j x y v kept e told = changes (code "A") v kept e told
 
         -- "D job, bench that fell, moved"
-        pub closing-replies : (j : ℕ) → Leaves (outcome (closing j) (take (c .length) d)) a u [] → length u ≡ length (take (c .length) d) → ns ≡ j ∷ [] → Told n t (answerText (code "D") ns (answerOf a) []) out out' at r → Performs (closeJob j) (counterOf c d) (u ++ drop (c .length) d) out out' at r
+        pub closing-replies : (j : ℕ) → Leaves (outcome (closing j) (take (c .length) d)) a u [] → length u ≡ length (take (c .length) d) → ns ≡ j ∷ [] → AnswerPrinted n t (answerText (code "D") ns (answerOf a) []) out out' at r → Performs (closeJob j) (counterOf c d) (u ++ drop (c .length) d) out out' at r
         unfolding lineFor done after
         closing-replies j v kept e told = changes (code "D") v kept e told
 
       -- "B benches jobs": the table is blank and the tally zero, whatever was before
-      pub table-replies : (benches jobs : ℕ) {s : Size} {n : ℕ} {t : Tally} → sizing benches jobs ≡ Fit s → n ≡ lengthFor (s .benches) (s .jobs) → Leaves (blanking benches jobs (take n d)) a u [] → length u ≡ length (take n d) → t ≡ zeroTally → ns ≡ benches ∷ jobs ∷ [] → Told n t (answerText (code "B") ns (answerOf a) []) out out' at r → Performs (setTable benches jobs) (counterOf c d) (u ++ drop n d) out out' at r
+      pub table-replies : (benches jobs : ℕ) {s : Size} {n : ℕ} {t : Tally} → sizing benches jobs ≡ Fit s → n ≡ lengthFor (s .benches) (s .jobs) → Leaves (blanking benches jobs (take n d)) a u [] → length u ≡ length (take n d) → t ≡ zeroTally → ns ≡ benches ∷ jobs ∷ [] → AnswerPrinted n t (answerText (code "B") ns (answerOf a) []) out out' at r → Performs (setTable benches jobs) (counterOf c d) (u ++ drop n d) out out' at r
       unfolding lineFor done after
       table-replies benches jobs {s} {n} {t} e b v kept z f told =
           let within = size-within benches jobs e b in
@@ -137,4 +137,4 @@ module _ {c : Counter} {d : List ℕ} (room : Room c d) where
   unfolding lineFor done after
   tight-replies h {list} {l} {u} {ns} {out} {out'} {at} {next} {a} f w e wrote short =
       let v = subst (λ (k : List ℕ). Leaves (outcome (tightSetOf h k) (take (c .length) d)) a u l) f w in
-      stays refl (tells c (λ i. answerText (code "S") (e i) (v .answer i) (take (nth (inNumbers (v .answer i)) 2 0) (words (v .listed i)))) wrote short)
+      stays refl (printed-as c (λ i. answerText (code "S") (e i) (v .answer i) (take (nth (inNumbers (v .answer i)) 2 0) (words (v .listed i)))) wrote short)

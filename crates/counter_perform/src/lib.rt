@@ -5,14 +5,14 @@ ghost use Rattle.spec_counter.specs.Counter.{takeIn, closeJob, setTable, askTig
 ghost use Rattle.counter_answer_lines.specs.AnswerLines.{lineMost};
 ghost use Rattle.counter_state.specs.State.{Room, counterOf};
 ghost use Rattle.counter_perform.specs.Performed.{Performs};
-use board_answers::Refusal;
-use table_size::Size;
-use table_size::Sizing;
+use board_tally::Tally;
 use counter_state::Counter;
 use counter_state::Reply;
-use board_tally::Tally;
+use table_refusals::Refusal;
+use table_size::Size;
+use table_size::Sizing;
 
-// "B benches jobs"; "a refused B keeps the old table".
+// Performs "B benches jobs"; "a refused B keeps the old table".
 pub fn set_table(
     c: Counter,
     benches: usize,
@@ -31,7 +31,7 @@ pub fn set_table(
             let length = s.bytes();
             let a = board_changes::blank(&mut bytes[..length], benches, jobs);
             let tally = Tally::new();
-            counter_state::tell(
+            counter_state::write_answer(
                 Counter { length, tally },
                 b'B',
                 counter_state::two(benches, jobs),
@@ -43,7 +43,7 @@ pub fn set_table(
     }
 }
 
-// "A job, holder, bench that rose, moved".
+// Performs "A job and two benches", and prints "A job, holder, bench that rose, moved".
 pub fn take_in(
     c: Counter,
     job: usize,
@@ -59,10 +59,10 @@ pub fn take_in(
 {
     let length = c.length;
     let a = board_changes::arrival(&mut bytes[..length], job, first, second);
-    counter_state::tell(c.noted(a), b'A', counter_state::one(job), a, out, at)
+    counter_state::write_answer(c.noted(a), b'A', counter_state::one(job), a, out, at)
 }
 
-// "D job, bench that fell, moved".
+// Performs "D job", and prints "D job, bench that fell, moved".
 pub fn close_job(c: Counter, job: usize, bytes: &mut [u8], out: &mut [u8], at: usize) -> Reply
     requires { ⌜ Room c (now bytes) ⌝ }
     requires { ⌜ at + lineMost ≤ length (now out) ⌝ }
@@ -70,10 +70,10 @@ pub fn close_job(c: Counter, job: usize, bytes: &mut [u8], out: &mut [u8], at: u
 {
     let length = c.length;
     let a = board_changes::closing(&mut bytes[..length], job);
-    counter_state::tell(c.noted(a), b'D', counter_state::one(job), a, out, at)
+    counter_state::write_answer(c.noted(a), b'D', counter_state::one(job), a, out, at)
 }
 
-// "S height, benches, inside jobs, then the benches".
+// Performs "S height", and prints "S height, benches, inside jobs, then the benches".
 pub fn ask_tight_set(c: Counter, height: usize, bytes: &[u8], out: &mut [u8], at: usize) -> Reply
     requires { ⌜ Room c (now bytes) ⌝ }
     requires { ⌜ at + lineMost ≤ length (now out) ⌝ }
@@ -89,7 +89,7 @@ pub fn ask_tight_set(c: Counter, height: usize, bytes: &[u8], out: &mut [u8], at
     }
 }
 
-// "H heaviest".
+// Performs "H", and prints "H heaviest".
 pub fn ask_heaviest(c: Counter, bytes: &[u8], out: &mut [u8], at: usize) -> Reply
     requires { ⌜ Room c (now bytes) ⌝ }
     requires { ⌜ at + lineMost ≤ length (now out) ⌝ }
@@ -97,5 +97,5 @@ pub fn ask_heaviest(c: Counter, bytes: &[u8], out: &mut [u8], at: usize) -> Repl
 {
     let length = c.length;
     let a = board_questions::heaviest(&bytes[..length]);
-    counter_state::tell(c, b'H', counter_state::none(), a, out, at)
+    counter_state::write_answer(c, b'H', counter_state::none(), a, out, at)
 }

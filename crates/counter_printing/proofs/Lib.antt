@@ -1,2 +1,2 @@
 -- What is proved of written text.
-pub mod Writing
+pub mod WrittenText

@@ -9,7 +9,7 @@ ghost use Rattle.spec_counter.specs.Counter.{space, digits};
 ghost use Rattle.counter_printing.specs.Wrote.{Wrote, fieldMost, spaced};
 use board_answers::Values;
 
-// One byte.
+// Writes one byte.
 pub fn byte(out: &mut [u8], at: usize, b: u8) -> usize
     requires { ⌜ at < length (now out) ⌝ }
     ensures { λ r. ⌜ Wrote (now (out .entry)) (now (out .exit)) at r (b ∷ []) ⌝ }
@@ -18,7 +18,7 @@ pub fn byte(out: &mut [u8], at: usize, b: u8) -> usize
     at + 1
 }
 
-// The digits of a number, the last one behind the others: as many calls deep as there are digits.
+// Writes the digits of a number, the last one behind the others: as many calls deep as there are digits.
 fn decimal(out: &mut [u8], at: usize, n: usize) -> usize
     requires { ⌜ at + length (digits n n) ≤ length (now out) ⌝ }
     ensures { λ r. ⌜ Wrote (now (out .entry)) (now (out .exit)) at r (digits n n) ⌝ }
@@ -30,7 +30,7 @@ fn decimal(out: &mut [u8], at: usize, n: usize) -> usize
     byte(out, next, b'0' + (n % 10) as u8)
 }
 
-// A space and a number.
+// Writes a space and a number.
 pub fn number(out: &mut [u8], at: usize, n: usize) -> usize
     requires { ⌜ at + fieldMost ≤ length (now out) ⌝ }
     ensures { λ r. ⌜ Wrote (now (out .entry)) (now (out .exit)) at r (space ∷ digits n n) ⌝ }
@@ -40,7 +40,7 @@ pub fn number(out: &mut [u8], at: usize, n: usize) -> usize
     decimal(out, next, n)
 }
 
-// The values of an answer, a space before each.
+// Writes the values of an answer, a space before each.
 pub fn values(out: &mut [u8], at: usize, v: Values) -> usize
     requires { ⌜ at + 3 * fieldMost ≤ length (now out) ⌝ }
     ensures { λ r. ⌜ Wrote (now (out .entry)) (now (out .exit)) at r (spaced (valuesOf v)) ⌝ }
@@ -61,7 +61,7 @@ pub fn values(out: &mut [u8], at: usize, v: Values) -> usize
     number(out, two, v.third)
 }
 
-// The first `count` words of a list, a space before each.
+// Writes the first `count` words of a list, a space before each.
 pub fn listed(out: &mut [u8], at: usize, list: &[u8], count: usize) -> usize
     requires { ⌜ 2 * count ≤ length (now list) ⌝ }
     requires { ⌜ at + fieldMost * count ≤ length (now out) ⌝ }

@@ -12,7 +12,7 @@ use Rattle.counter_commands.specs.declared.Command.{Command}
 use Rattle.counter_commands.specs.declared.Reading.{Reading}
 use Rattle.counter_commands.specs.declared.Reading.the-variants.{Readable, Unreadable}
 use Rattle.counter_answer_lines.specs.AnswerLines.{refusalText}
-use Rattle.counter_state.specs.State.{counterOf, Room, Told}
+use Rattle.counter_state.specs.State.{counterOf, Room, AnswerPrinted}
 use Rattle.counter_state.specs.declared.Counter.{Counter}
 use Rattle.counter_state.specs.declared.Reply.{Reply}
 use Rattle.counter_perform.specs.Performed.{Performs}
@@ -24,7 +24,7 @@ pub performs-as : (s : paper.Counter) {m k : Command} {bytes out out' : List ℕ
 performs-as s {m} {k} {bytes} {out} {out'} {at} {r} e p = subst (λ (j : Command). Performs (commandOf j) s bytes out out' at r) (sym e) p
 
 -- a line that is not readable
-pub unread-replies : {c : Counter} {d : List ℕ} → Room c d → (line : List ℕ) {out out' : List ℕ} {at : ℕ} {r : Reply} {m : Reading} → readingOf m ≡ command line → m ≡ Unreadable → Told (c .length) (tallyOf (c .tally)) (refusalText (refusalNumber unreadable)) out out' at r → Answers line (counterOf c d) d out out' at r
+pub unread-replies : {c : Counter} {d : List ℕ} → Room c d → (line : List ℕ) {out out' : List ℕ} {at : ℕ} {r : Reply} {m : Reading} → readingOf m ≡ command line → m ≡ Unreadable → AnswerPrinted (c .length) (tallyOf (c .tally)) (refusalText (refusalNumber unreadable)) out out' at r → Answers line (counterOf c d) d out out' at r
 unfolding lineText lineAfter
 unread-replies room line e f told = rw (lineText, lineAfter, sym e ∙ ap readingOf f) (stays room refl told)
 

@@ -6,20 +6,27 @@ ghost use Rattle.counter_answer_lines.specs.AnswerLines.{lineMost};
 ghost use Rattle.counter_state.specs.State.{Room, counterOf};
 ghost use Rattle.counter_perform.specs.Performed.{Performs};
 ghost use Rattle.counter_reply.specs.Replies.{Answers};
-use board_answers::Refusal;
 use counter_commands::Command;
 use counter_commands::Reading;
 use counter_state::Counter;
 use counter_state::Reply;
+use table_refusals::Refusal;
 
-// A command's call, and its line.
+// Makes a command's call and prints its line.
 fn perform(c: Counter, command: Command, bytes: &mut [u8], out: &mut [u8], at: usize) -> Reply
     requires { ⌜ Room c (now bytes) ⌝ }
     requires { ⌜ at + lineMost ≤ length (now out) ⌝ }
     ensures { λ r. ⌜ Performs (commandOf command) (counterOf c (now (bytes .entry))) (now (bytes .exit)) (now (out .entry)) (now (out .exit)) at r ⌝ }
 {
     match command {
-        Command::SetTable(benches, jobs) => counter_perform::set_table(c, benches, jobs, bytes, out, at),
+        Command::SetTable(benches, jobs) => counter_perform::set_table(
+            c,
+            benches,
+            jobs,
+            bytes,
+            out,
+            at,
+        ),
         Command::TakeIn(job, first, second) => counter_perform::take_in(
             c,
             job,
@@ -35,7 +42,7 @@ fn perform(c: Counter, command: Command, bytes: &mut [u8], out: &mut [u8], at: u
     }
 }
 
-// The reply to a line, given without its line feed. The first `at` bytes of the output are written already.
+// Replies to a line, given without its line feed. The first `at` bytes of the output are written already.
 pub fn to_line(c: Counter, line: &[u8], bytes: &mut [u8], out: &mut [u8], at: usize) -> Reply
     requires { ⌜ Room c (now bytes) ⌝ }
     requires { ⌜ at + lineMost ≤ length (now out) ⌝ }

@@ -1,2 +1,2 @@
 -- What a line that is told is.
-pub mod Telling
+pub mod Answering

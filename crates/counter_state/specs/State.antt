@@ -26,7 +26,7 @@ pub record Room (c : Counter) (bytes : List ℕ) : Type 0 where
   pub within : c .length ≤ tableMost
 
 -- the reply r wrote this text; its state has a table of so many bytes, and this tally
-pub record Told (size : ℕ) (counts : Tally) (text : List ℕ) (out out' : List ℕ) (at : ℕ) (r : Reply) : Type 0 where
+pub record AnswerPrinted (size : ℕ) (counts : Tally) (text : List ℕ) (out out' : List ℕ) (at : ℕ) (r : Reply) : Type 0 where
   pub length : r .counter .length ≡ size
   pub tally : tallyOf (r .counter .tally) ≡ counts
   pub wrote : Wrote out out' at (r .at) text

@@ -5,15 +5,16 @@ ghost use Prim.Native.Nat.{ℕ, _+_, _≤_};
 ghost use lib.ListN.{length};
 ghost use Rattle.spec_calls.specs.Answers.{refusalNumber};
 ghost use Rattle.spec_calls.specs.Tally.{noted};
-ghost use Rattle.board_answers.specs.Answered.{refusalOf, answerOf, valuesOf};
+ghost use Rattle.table_refusals.specs.Refusals.{refusalOf};
+ghost use Rattle.board_answers.specs.Answered.{answerOf, valuesOf};
 ghost use Rattle.board_tally.specs.Counts.{tallyOf};
 ghost use Rattle.spec_counter.specs.Counter.{atFirst, counterList};
 ghost use Rattle.counter_answer_lines.specs.AnswerLines.{lineMost, refusalText, answerText};
-ghost use Rattle.counter_state.specs.State.{counterOf, Told};
+ghost use Rattle.counter_state.specs.State.{counterOf, AnswerPrinted};
 use board_answers::Answer;
-use board_answers::Refusal;
 use board_answers::Values;
 use board_tally::Tally;
+use table_refusals::Refusal;
 
 // "Its list has 1,000 bytes".
 const LIST_BYTES: usize = 1000;
@@ -31,7 +32,7 @@ pub struct Reply {
 }
 
 impl Counter {
-    // "Before the first B its table has length 0".
+    // Starts: "Before the first B its table has length 0".
     pub fn new() -> Counter
         ensures length { λ r. ⌜ r .length ≡ 0 ⌝ }
         ensures state { λ r. ⌜ ((bytes : List ℕ) → counterOf r bytes ≡ atFirst) ⌝ }
@@ -42,7 +43,7 @@ impl Counter {
         }
     }
 
-    // The answer noted in the program's own tally. A 9 "is not printed".
+    // Notes the answer in the program's own tally. A 9 "is not printed".
     pub fn noted(self, a: Answer) -> Counter
         ensures length { λ r. ⌜ r .length ≡ self .length ⌝ }
         ensures tally { λ r. ⌜ tallyOf (r .tally) ≡ (noted (tallyOf (self .tally)) (answerOf a)) .tally ⌝ }
@@ -93,17 +94,17 @@ pub fn two(n: usize, m: usize) -> Values
     }
 }
 
-// The list that is lent to a tight set.
+// Makes the list that is lent to a tight set.
 pub fn zero_list() -> [u8; LIST_BYTES]
     ensures { λ r. ⌜ r ≡ counterList ⌝ }
 {
     [0; LIST_BYTES]
 }
 
-// A refusal's line; the state stays.
+// Prints a refusal's line; the state stays.
 pub fn refuse(c: Counter, why: Refusal, out: &mut [u8], at: usize) -> Reply
     requires { ⌜ at + lineMost ≤ length (now out) ⌝ }
-    ensures { λ r. ⌜ Told (c .length) (tallyOf (c .tally)) (refusalText (refusalNumber (refusalOf why))) (now (out .entry)) (now (out .exit)) at r ⌝ }
+    ensures { λ r. ⌜ AnswerPrinted (c .length) (tallyOf (c .tally)) (refusalText (refusalNumber (refusalOf why))) (now (out .entry)) (now (out .exit)) at r ⌝ }
 {
     let next = counter_answer_lines::refusal(out, at, why.number() as usize);
     Reply {
@@ -112,10 +113,17 @@ pub fn refuse(c: Counter, why: Refusal, out: &mut [u8], at: usize) -> Reply
     }
 }
 
-// An answer's line, and the state after it.
-pub fn tell(c: Counter, letter: u8, repeated: Values, a: Answer, out: &mut [u8], at: usize) -> Reply
+// Prints an answer's line, and gives the state after it.
+pub fn write_answer(
+    c: Counter,
+    letter: u8,
+    repeated: Values,
+    a: Answer,
+    out: &mut [u8],
+    at: usize,
+) -> Reply
     requires { ⌜ at + lineMost ≤ length (now out) ⌝ }
-    ensures { λ r. ⌜ Told (c .length) (tallyOf (c .tally)) (answerText letter (valuesOf repeated) (answerOf a) []) (now (out .entry)) (now (out .exit)) at r ⌝ }
+    ensures { λ r. ⌜ AnswerPrinted (c .length) (tallyOf (c .tally)) (answerText letter (valuesOf repeated) (answerOf a) []) (now (out .entry)) (now (out .exit)) at r ⌝ }
 {
     let next = counter_answer_lines::answer(out, at, letter, repeated, a);
     Reply {

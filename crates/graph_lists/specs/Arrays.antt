@@ -21,8 +21,8 @@ abbrev pub at : List ℕ → ℕ → ℕ
 at l i = getD l i 0
 
 -- an arc of 1 to n leads from x to y: arc a leaves the bench at a in `from`, and leads to the one at a in `to`
-abbrev pub Leads : ℕ → List ℕ → List ℕ → ℕ → ℕ → Type 0
-Leads n from to x y = (a : ℕ) × T (within 1 n a) × (at from a ≡ x) × (at to a ≡ y)
+abbrev pub HasArc : ℕ → List ℕ → List ℕ → ℕ → ℕ → Type 0
+HasArc n from to x y = (a : ℕ) × T (within 1 n a) × (at from a ≡ x) × (at to a ≡ y)
 
 -- arcs 1 to J of a board: one that leaves a bench of 1 to B leads to one; one that leaves 0 is no arc
 pub record Arcs (s : Size) (from to : List ℕ) : Type 0 where

@@ -1,4 +1,4 @@
 -- What arrays hold, and what their functions promise.
 pub mod Arrays
 pub mod Keys
-pub mod Lists
+pub mod LinkedLists

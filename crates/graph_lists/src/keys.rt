@@ -8,7 +8,7 @@ ghost use Rattle.graph_lists.specs.Arrays.{Tells};
 ghost use Rattle.graph_lists.specs.Keys.{KeysIn, LeastKey, Reversed, QueuedIn, WantedIn};
 use table_size::Size;
 
-// The least key of benches 1 to B.
+// Finds the least key of benches 1 to B.
 pub fn least(s: Size, key: &[u16; Size::MOST_BENCHES + 1]) -> u16
     requires { ⌜ Limits s ⌝ }
     ensures { λ r. ⌜ LeastKey s (now (key .entry)) r ⌝ }
@@ -25,7 +25,7 @@ pub fn least(s: Size, key: &[u16; Size::MOST_BENCHES + 1]) -> u16
     low
 }
 
-// The keys the other way round: `other` gets the least where `key` has the greatest.
+// Reverses keys: `other` gets the least where `key` has the greatest.
 pub fn reverse(
     s: Size,
     key: &[u16; Size::MOST_BENCHES + 1],
@@ -44,7 +44,8 @@ pub fn reverse(
     }
 }
 
-// Whether a wanted bench, one with a key of at most `limit`, stands in the queue from place `begin` to `end`.
+// Tells whether a wanted bench, one with a key of at most `limit`, stands in the queue from place `begin` to
+// `end`.
 pub fn wanted_among(
     queue: &[u16; Size::MOST_BENCHES + 1],
     begin: usize,

@@ -5,20 +5,21 @@ ghost use lib.ListN.{replicate, set};
 ghost use Rattle.spec_table.specs.Table.{mostBenches, mostJobs};
 use table_size::Size;
 
-// Zeros.
+// Makes zeros, one for each bench.
 pub fn benches() -> [u16; Size::MOST_BENCHES + 1]
     ensures { λ r. ⌜ r ≡ replicate (mostBenches + 1) 0 ⌝ }
 {
     [0; Size::MOST_BENCHES + 1]
 }
 
+// Makes zeros, one for each job.
 pub fn jobs() -> [u16; Size::MOST_JOBS + 1]
     ensures { λ r. ⌜ r ≡ replicate (mostJobs + 1) 0 ⌝ }
 {
     [0; Size::MOST_JOBS + 1]
 }
 
-// The key that only bench x has as 0: x is the one bench that is wanted.
+// Makes the key that only bench x has as 0: x is the one bench that is wanted.
 pub fn all_but(x: usize) -> [u16; Size::MOST_BENCHES + 1]
     requires { ⌜ x ≤ mostBenches ⌝ }
     ensures { λ r. ⌜ r ≡ set (replicate (mostBenches + 1) 1) x 0 ⌝ }

@@ -12,7 +12,7 @@ use borrow.Author.Tests.{leb-true, leb-false, ltb-true, ltb-false}
 use Rattle.table_size.specs.Sizes.{BenchIn}
 use Rattle.table_size.specs.declared.Size.{Size}
 use Rattle.graph_lists.specs.Arrays.{at, Tells}
-use Rattle.graph_routes.specs.Ends.{Candidate, Before, Chosen}
+use Rattle.graph_routes.specs.Ends.{Candidate, Before, BestEnd}
 
 -- comparisons
 
@@ -113,8 +113,8 @@ module _ {s : Size} {weights dist : List ℕ} {x : ℕ} where
     choose-other n = stays (λ e. n) (λ d c. absurd (n c))
 
     -- .. or not before the best, whose number is lower ..
-    pub choose-keep : best ≢ 0 → (Before weights dist y best → ⊥) → Sofar s weights dist x (y + 1) best
-    choose-keep d n = stays (λ e. absurd (d e)) (λ d c. let l = f .some d .below in not-before-ahead weights dist best y n (omega arith))
+    pub choose-filter : best ≢ 0 → (Before weights dist y best → ⊥) → Sofar s weights dist x (y + 1) best
+    choose-filter d n = stays (λ e. absurd (d e)) (λ d c. let l = f .some d .below in not-before-ahead weights dist best y n (omega arith))
 
     -- .. a candidate that is ahead of those seen is the new best ..
     takes : Candidate s weights dist x y → ((z : ℕ) → z < y → Candidate s weights dist x z → Ahead weights dist y z) → Sofar s weights dist x (y + 1) y
@@ -134,7 +134,7 @@ module _ {s : Size} {weights dist : List ℕ} {x : ℕ} where
     choose-better c d b = takes c (λ z h k. before-ahead weights dist y best z b (f .some d .first z h k))
 
     -- .. and after the last bench it is the best of all
-    pub choose-end : s .benches < y → Chosen s weights dist x best
+    pub choose-end : s .benches < y → BestEnd s weights dist x best
     choose-end h =
         record {
           none = λ e z c. f .none e z (omega (arith, c .bench .most)) c;

@@ -12,56 +12,56 @@ use Rattle.spec_lists.specs.Lists.{within}
 use Rattle.spec_table.specs.Table.{mostBenches, mostJobs}
 use Rattle.table_size.specs.Sizes.{Limits}
 use Rattle.table_size.specs.declared.Size.{Size}
-use Rattle.graph_lists.specs.Arrays.{at, Leads}
-use Rattle.graph_lists.specs.Lists.{ListedBy, On, head, tail, Ways}
-use Rattle.graph_search.specs.Spread.{Distances}
+use Rattle.graph_lists.specs.Arrays.{at, HasArc}
+use Rattle.graph_lists.specs.LinkedLists.{ListedBy, On, onHead, onTail, AdjacencyLists}
+use Rattle.graph_search.specs.BreadthFirst.{Distances}
 use Rattle.graph_routes.specs.Route.{FirstNearer, Falls, Follows, Routed}
 use Rattle.graph_lists.proofs.Listing.{on-some, on-rest, on-above, on-listed}
-use Rattle.graph_search.proofs.Widening.{bench-within}
+use Rattle.graph_search.proofs.Expanding.{bench-within}
 
 -- distances to v, by arcs taken backwards, fall along arcs
 pub distances-fall : {s : Size} {from to : List ℕ} {Wanted : ℕ → Type 0} {v : ℕ} {dist : List ℕ} → Distances s to from Wanted v dist → Falls s from to dist
 distances-fall {s} {from} {to} {dist = dist} d = record { bench = d .bench; most = d .most; nearer = nearer }
   where
-    nearer : (y n : ℕ) → at dist y ≡ suc (suc n) → (z : ℕ) × (at dist z ≡ suc n) × Leads (s .jobs) from to y z
+    nearer : (y n : ℕ) → at dist y ≡ suc (suc n) → (z : ℕ) × (at dist z ≡ suc n) × HasArc (s .jobs) from to y z
     nearer y n e = let q = d .comes y n e in let a = q .2 in (q .0, q .1, (a .0, a .1, a .3, a .2))
 
 -- the smallest arc that goes nearer
 
 -- no arc of x before arc a goes nearer; a is 0 after the last
-pub record Seeking (first next to dist : List ℕ) (x a : ℕ) : Type 0 where
+pub record Seeking (head next to dist : List ℕ) (x a : ℕ) : Type 0 where
   pub number : a ≤ mostJobs
-  pub on : (b : ℕ) → On next a b → On next (at first x) b
-  pub left : (b : ℕ) → On next (at first x) b → at dist x ≡ suc (at dist (at to b)) → On next a b
+  pub on : (b : ℕ) → On next a b → On next (at head x) b
+  pub left : (b : ℕ) → On next (at head x) b → at dist x ≡ suc (at dist (at to b)) → On next a b
 
-module _ {first next to dist : List ℕ} {x : ℕ} (ways : Ways first next to) (bench : T (within 1 mostBenches x)) where
+module _ {head next to dist : List ℕ} {x : ℕ} (adjacency : AdjacencyLists head next to) (bench : T (within 1 mostBenches x)) where
   -- before the first arc none was passed over
-  pub seeking-start : Seeking first next to dist x (at first x)
-  seeking-start = record { number = ways .heads x bench; on = λ b o. o; left = λ b o e. o }
+  pub seeking-start : Seeking head next to dist x (at head x)
+  seeking-start = record { number = adjacency .heads x bench; on = λ b o. o; left = λ b o e. o }
 
   -- the arc after a is greater, or a is the last
-  pub seeking-rises : {a : ℕ} → a ≢ 0 → Seeking first next to dist x a → (at next a ≡ 0) ⊎ ((a < at next a) × (at next a ≤ mostJobs))
-  seeking-rises {a} d i = ways .rise x a bench (i .on a (head a d))
+  pub seeking-rises : {a : ℕ} → a ≢ 0 → Seeking head next to dist x a → (at next a ≡ 0) ⊎ ((a < at next a) × (at next a ≤ mostJobs))
+  seeking-rises {a} d i = adjacency .rise x a bench (i .on a (onHead a d))
 
   -- an arc that does not go nearer can be passed over
-  pub seeking-turn : {a : ℕ} → a ≢ 0 → at dist x ≢ suc (at dist (at to a)) → Seeking first next to dist x a → Seeking first next to dist x (at next a)
+  pub seeking-turn : {a : ℕ} → a ≢ 0 → at dist x ≢ suc (at dist (at to a)) → Seeking head next to dist x a → Seeking head next to dist x (at next a)
   seeking-turn {a} d n i =
       record {
         number = ⊎-elim (λ e. omega arith) (λ p. p .1) (seeking-rises d i);
-        on = λ b o. i .on b (tail a b d o);
+        on = λ b o. i .on b (onTail a b d o);
         left = λ b o e. on-rest (i .left b o e) (λ q. n (subst (λ (c : ℕ). at dist x ≡ suc (at dist (at to c))) (sym q) e));
       }
 
   -- the first that goes nearer is the smallest
-  pub seeking-found : {a : ℕ} → a ≢ 0 → at dist x ≡ suc (at dist (at to a)) → Seeking first next to dist x a → FirstNearer first next to dist x a
+  pub seeking-found : {a : ℕ} → a ≢ 0 → at dist x ≡ suc (at dist (at to a)) → Seeking head next to dist x a → FirstNearer head next to dist x a
   seeking-found {a} d e i =
       record {
         none = λ z. absurd (d z);
-        some = λ z. (i .on a (head a d), e, λ b o q. on-above (λ c j. ways .rise x c bench (i .on c j)) (i .left b o q));
+        some = λ z. (i .on a (onHead a d), e, λ b o q. on-above (λ c j. adjacency .rise x c bench (i .on c j)) (i .left b o q));
       }
 
 -- after the last arc there is none
-pub seeking-none : {first next to dist : List ℕ} {x : ℕ} → Seeking first next to dist x 0 → FirstNearer first next to dist x 0
+pub seeking-none : {head next to dist : List ℕ} {x : ℕ} → Seeking head next to dist x 0 → FirstNearer head next to dist x 0
 seeking-none i = record { none = λ z a o e. on-some (i .left a o e) refl; some = λ d. absurd (d refl) }
 
 -- the whole way
@@ -73,13 +73,13 @@ Nearest n from to dist y a =
     × ((c : ℕ) → T (within 1 n c) → at from c ≡ y → at dist y ≡ suc (at dist (at to c)) → a ≤ c)
 
 -- distances that fall, and the arcs along which they do, listed
-pub record Fallen (s : Size) (from to dist first next : List ℕ) : Type 0 where
+pub record Fallen (s : Size) (from to dist head next : List ℕ) : Type 0 where
   pub limits : Limits s
   pub falls : Falls s from to dist
-  pub listed : ListedBy (mostBenches + 1) (s .jobs) from first next
+  pub listed : ListedBy (mostBenches + 1) (s .jobs) from head next
 
 -- from a bench that is farther than the last, the smallest arc of its list that goes nearer is one of all arcs
-pub nearest : {s : Size} {from to dist first next : List ℕ} {y r : ℕ} → Fallen s from to dist first next → 1 < at dist y → FirstNearer first next to dist y r → Nearest (s .jobs) from to dist y r
+pub nearest : {s : Size} {from to dist head next : List ℕ} {y r : ℕ} → Fallen s from to dist head next → 1 < at dist y → FirstNearer head next to dist y r → Nearest (s .jobs) from to dist y r
 nearest {dist = dist} {y = y} {r = r} f h p =
     let b = f .falls .bench y (omega arith) in
     let below : y < mostBenches + 1 = omega (arith, b .most, f .limits .benches-most) in
@@ -100,7 +100,7 @@ pub record Routing (s : Size) (from to dist : List ℕ) (x : ℕ) (path : List �
 pub routing-start : {s : Size} {from to dist : List ℕ} {x : ℕ} {path : List ℕ} → 1 ≤ at dist x → length path ≡ mostBenches + 1 → Routing s from to dist x path x 0
 routing-start h r = record { follows = λ l f. f; falls = omega arith; numbered = h; room = r }
 
-module _ {s : Size} {from to dist first next : List ℕ} {x : ℕ} {path : List ℕ} {y n : ℕ} (f : Fallen s from to dist first next) (i : Routing s from to dist x path y n) where
+module _ {s : Size} {from to dist head next : List ℕ} {x : ℕ} {path : List ℕ} {y n : ℕ} (f : Fallen s from to dist head next) (i : Routing s from to dist x path y n) where
   -- y is a bench
   pub routing-bench : T (within 1 mostBenches y)
   routing-bench = bench-within s y (f .limits) (f .falls .bench y (i .numbered))

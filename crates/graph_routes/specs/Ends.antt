@@ -27,6 +27,6 @@ module _ (s : Size) (weights dist : List ℕ) (x : ℕ) where
     pub first : (z : ℕ) → Candidate s weights dist x z → (at weights y < at weights z) ⊎ ((at weights y ≡ at weights z) × ((at dist y < at dist z) ⊎ ((at dist y ≡ at dist z) × (y ≤ z))))
 
   -- r is the best candidate, 0 where there is none
-  pub record Chosen (r : ℕ) : Type 0 where
+  pub record BestEnd (r : ℕ) : Type 0 where
     pub none : r ≡ 0 → (z : ℕ) → Candidate s weights dist x z → ⊥
     pub some : r ≢ 0 → Best r

@@ -9,19 +9,19 @@ use Rattle.spec_lists.specs.Lists.{within}
 use Rattle.spec_table.specs.Table.{mostBenches}
 use Rattle.table_size.specs.Sizes.{BenchIn}
 use Rattle.table_size.specs.declared.Size.{Size}
-use Rattle.graph_lists.specs.Arrays.{at, Leads}
-use Rattle.graph_lists.specs.Lists.{On}
+use Rattle.graph_lists.specs.Arrays.{at, HasArc}
+use Rattle.graph_lists.specs.LinkedLists.{On}
 
 -- r is the smallest arc from x to a bench that is one nearer, 0 where there is none
-pub record FirstNearer (first next to dist : List ℕ) (x r : ℕ) : Type 0 where
-  pub none : r ≡ 0 → (a : ℕ) → On next (at first x) a → at dist x ≡ suc (at dist (at to a)) → ⊥
-  pub some : r ≢ 0 → On next (at first x) r × (at dist x ≡ suc (at dist (at to r))) × ((a : ℕ) → On next (at first x) a → at dist x ≡ suc (at dist (at to a)) → r ≤ a)
+pub record FirstNearer (head next to dist : List ℕ) (x r : ℕ) : Type 0 where
+  pub none : r ≡ 0 → (a : ℕ) → On next (at head x) a → at dist x ≡ suc (at dist (at to a)) → ⊥
+  pub some : r ≢ 0 → On next (at head x) r × (at dist x ≡ suc (at dist (at to r))) × ((a : ℕ) → On next (at head x) a → at dist x ≡ suc (at dist (at to a)) → r ≤ a)
 
 -- from every numbered bench but those numbered 1 an arc leads to one that is one lower
 pub record Falls (s : Size) (from to dist : List ℕ) : Type 0 where
   pub bench : (y : ℕ) → 1 ≤ at dist y → BenchIn s y
   pub most : (y : ℕ) → at dist y ≤ mostBenches
-  pub nearer : (y n : ℕ) → at dist y ≡ suc (suc n) → (z : ℕ) × (at dist z ≡ suc n) × Leads (s .jobs) from to y z
+  pub nearer : (y n : ℕ) → at dist y ≡ suc (suc n) → (z : ℕ) × (at dist z ≡ suc n) × HasArc (s .jobs) from to y z
 
 -- the arcs follow each other from x, each to a bench that is one nearer, and each is the smallest that does
 abbrev pub Follows : ℕ → List ℕ → List ℕ → List ℕ → ℕ → List ℕ → Type 0

@@ -3,10 +3,10 @@
 ghost use Rattle.table_size.specs.Sizes.{Limits, BenchIn};
 ghost use Rattle.graph_lists.specs.Arrays.{Tells};
 ghost use Rattle.graph_lists.specs.Keys.{KeysIn};
-ghost use Rattle.graph_routes.specs.Ends.{Candidate, Before, Chosen};
+ghost use Rattle.graph_routes.specs.Ends.{Candidate, Before, BestEnd};
 use table_size::Size;
 
-// Whether a path between x and y improves: y is found, and its weight less by two or more.
+// Tells whether a path between x and y improves: y is found, and its weight less by two or more.
 fn improves(
     s: Size,
     weights: &[u16; Size::MOST_BENCHES + 1],
@@ -26,7 +26,7 @@ fn improves(
     weights[y] + 2 <= weights[x]
 }
 
-// Whether y, a bench with a lower weight than z, or with the same and nearer, comes before it.
+// Tells whether y, a bench with a lower weight than z, or with the same and nearer, comes before it.
 fn before(
     s: Size,
     weights: &[u16; Size::MOST_BENCHES + 1],
@@ -48,7 +48,8 @@ fn before(
     }
 }
 
-// The bench where the improving path between x and it comes first, by weight, distance and number; 0 where there is none.
+// Chooses the bench where the improving path between x and it comes first, by weight, distance and number; 0 where
+// there is none.
 pub fn choose(
     s: Size,
     weights: &[u16; Size::MOST_BENCHES + 1],
@@ -58,7 +59,7 @@ pub fn choose(
     requires { ⌜ Limits s ⌝ }
     requires { ⌜ KeysIn s (now weights) ⌝ }
     requires { ⌜ BenchIn s x ⌝ }
-    ensures { λ r. ⌜ Chosen s (now (weights .entry)) (now (dist .entry)) x r ⌝ }
+    ensures { λ r. ⌜ BestEnd s (now (weights .entry)) (now (dist .entry)) x r ⌝ }
 {
     let benches = s.benches();
     let mut best = 0;

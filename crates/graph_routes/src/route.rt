@@ -7,25 +7,25 @@ ghost use Rattle.spec_lists.specs.Lists.{within};
 ghost use Rattle.spec_table.specs.Table.{mostBenches};
 ghost use Rattle.table_size.specs.Sizes.{Limits};
 ghost use Rattle.graph_lists.specs.Arrays.{at, Arcs};
-ghost use Rattle.graph_lists.specs.Lists.{ListedBy, Ways};
+ghost use Rattle.graph_lists.specs.LinkedLists.{ListedBy, AdjacencyLists};
 ghost use Rattle.graph_routes.specs.Route.{FirstNearer, Falls, Routed};
 use table_size::Size;
 
-// The smallest arc from x to a bench that is one nearer; 0 where there is none.
+// Finds the smallest arc from x to a bench that is one nearer; 0 where there is none.
 fn nearer(
-    first: &[u16; Size::MOST_BENCHES + 1],
+    head: &[u16; Size::MOST_BENCHES + 1],
     next: &[u16; Size::MOST_JOBS + 1],
     to: &[u16; Size::MOST_JOBS + 1],
     dist: &[u16; Size::MOST_BENCHES + 1],
     x: usize,
 ) -> usize
-    requires { ⌜ Ways (now first) (now next) (now to) ⌝ }
+    requires { ⌜ AdjacencyLists (now head) (now next) (now to) ⌝ }
     requires { ⌜ T (within 1 mostBenches x) ⌝ }
     requires { ⌜ 1 ≤ at (now dist) x ⌝ }
-    ensures { λ r. ⌜ FirstNearer (now (first .entry)) (now (next .entry)) (now (to .entry)) (now (dist .entry)) x r ⌝ }
+    ensures { λ r. ⌜ FirstNearer (now (head .entry)) (now (next .entry)) (now (to .entry)) (now (dist .entry)) x r ⌝ }
 {
     let near = dist[x] - 1;
-    let mut a = first[x] as usize;
+    let mut a = head[x] as usize;
     while a != 0 {
         if dist[to[a] as usize] == near {
             return a;
@@ -35,13 +35,14 @@ fn nearer(
     0
 }
 
-// From x each time by the smallest arc to a bench that is one nearer, until the distance is 0: the arcs into `path`, and their number. The lists
-// are those of the arcs by the bench that they leave; of `from`, what they leave, only the contract speaks.
+// Goes from x each time by the smallest arc to a bench that is one nearer, until the distance is 0: the arcs into
+// `path`, and their number. The lists are those of the arcs by the bench that they leave; of `from`, what they
+// leave, only the contract speaks.
 pub fn route(
     s: Size,
     from: &[u16; Size::MOST_JOBS + 1],
     to: &[u16; Size::MOST_JOBS + 1],
-    first: &[u16; Size::MOST_BENCHES + 1],
+    head: &[u16; Size::MOST_BENCHES + 1],
     next: &[u16; Size::MOST_JOBS + 1],
     dist: &[u16; Size::MOST_BENCHES + 1],
     x: usize,
@@ -49,7 +50,7 @@ pub fn route(
 ) -> usize
     requires { ⌜ Limits s ⌝ }
     requires { ⌜ Arcs s (now from) (now to) ⌝ }
-    requires { ⌜ ListedBy (mostBenches + 1) (s .jobs) (now from) (now first) (now next) ⌝ }
+    requires { ⌜ ListedBy (mostBenches + 1) (s .jobs) (now from) (now head) (now next) ⌝ }
     requires { ⌜ Falls s (now from) (now to) (now dist) ⌝ }
     requires { ⌜ 1 ≤ at (now dist) x ⌝ }
     requires { ⌜ length (now path) ≡ mostBenches + 1 ⌝ }
@@ -58,7 +59,7 @@ pub fn route(
     let mut y = x;
     let mut n = 0;
     while 1 < dist[y] {
-        let a = nearer(first, next, to, dist, y);
+        let a = nearer(head, next, to, dist, y);
         path[n] = a as u16;
         n += 1;
         y = to[a] as usize;

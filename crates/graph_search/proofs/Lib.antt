@@ -1,2 +1,2 @@
 -- Breadth-first search.
-pub mod Widening
+pub mod Expanding

@@ -1,2 +1,2 @@
 -- What the search promises.
-pub mod Spread
+pub mod BreadthFirst

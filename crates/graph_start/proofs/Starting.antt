@@ -9,17 +9,17 @@ use lib.Dec.{T}
 use lib.ListN.{replicate}
 use Rattle.spec_lists.specs.Lists.{within}
 use Rattle.spec_table.specs.Table.{mostBenches, mostJobs}
-use Rattle.spec_lists.proofs.Basics.{within-low, within-high, within-both}
+use Rattle.spec_lists.proofs.Tests.{within-low, within-high, within-both}
 use Rattle.table_size.specs.Sizes.{Limits, BenchIn}
 use Rattle.table_size.specs.declared.Size.{Size}
-use Rattle.graph_lists.specs.Arrays.{at, Leads, Reached, here, step, Arcs, LoadsIn}
+use Rattle.graph_lists.specs.Arrays.{at, HasArc, Reached, here, step, Arcs, LoadsIn}
 use Rattle.graph_lists.specs.Keys.{KeysIn, LeastKey, Reversed, Wanted, QueuedIn, WantedIn}
-use Rattle.graph_lists.specs.Lists.{LeastFrom, ListedBy, Joins, Ways}
-use Rattle.graph_search.specs.Spread.{Spread}
+use Rattle.graph_lists.specs.LinkedLists.{LeastFrom, ListedBy, Adjacent, AdjacencyLists}
+use Rattle.graph_search.specs.BreadthFirst.{BreadthFirst}
 use Rattle.graph_start.specs.Start.{Between, AsHeavy, StartsLow, FirstStart, StartOf, Searching, Searched}
 use Rattle.graph_start.specs.declared.Range.{Range}
-use Rattle.graph_lists.proofs.Listing.{array-at, least-some, listed-ways, joins-leads}
-use Rattle.graph_search.proofs.Widening.{reached-same, queued-few, none-queued, none-stays, spread-stays}
+use Rattle.graph_lists.proofs.Listing.{array-at, least-some, listed-adjacency, adjacent-has-arc}
+use Rattle.graph_search.proofs.Expanding.{reached-same, queued-few, none-queued, none-stays, search-within}
 
 -- the least and the greatest load
 
@@ -56,15 +56,15 @@ module _ {Joined : ℕ → ℕ → Type 0} where
   reached-more x y z (step _ w _ i r) j = step x w z i (reached-more w y z r j)
 
   -- what a search from v found is reached from v
-  found-reached : {Wanted : ℕ → Type 0} {v found end : ℕ} {dist queue' dist' : List ℕ} → Spread Joined Wanted v found dist end queue' dist' → (n y : ℕ) → at dist y ≡ 0 → at dist' y ≡ suc n → Reached Joined v y
+  found-reached : {Wanted : ℕ → Type 0} {v found end : ℕ} {dist queue' dist' : List ℕ} → BreadthFirst Joined Wanted v found dist end queue' dist' → (n y : ℕ) → at dist y ≡ 0 → at dist' y ≡ suc n → Reached Joined v y
   found-reached {v = v} s zero y e f = subst (Reached Joined v) (sym (s .only y e f)) (here v)
   found-reached {v = v} s (suc n) y e f =
       let (z, ez, fz, j) = s .comes y n e f in
       reached-more v z y (found-reached s n z ez fz) j
 
   -- a search puts benches into the queue
-  pub spread-queued : {Wanted : ℕ → Type 0} {x found end : ℕ} {dist queue' dist' : List ℕ} → Spread Joined Wanted x found dist end queue' dist' → QueuedIn queue' found end
-  spread-queued {queue' = queue'} s =
+  pub search-queued : {Wanted : ℕ → Type 0} {x found end : ℕ} {dist queue' dist' : List ℕ} → BreadthFirst Joined Wanted x found dist end queue' dist' → QueuedIn queue' found end
+  search-queued {queue' = queue'} s =
       record {
         most = queued-few (s .queued);
         bench = λ i l u. let (e, f) = s .new i l u in within-high 1 mostBenches (at queue' i) (s .bench (at queue' i) e f);
@@ -101,7 +101,7 @@ module _ {Joined : ℕ → ℕ → Type 0} {loads : List ℕ} where
   found-none {dist = dist} s w h l (y, r, low) =
       omega (arith, s .high y (reached-all (λ z. 1 ≤ at dist z) (λ z u. s .shut z u) w y h r))
 
-  module _ {n load x found end : ℕ} {queue dist queue' dist' : List ℕ} (a : Among Joined loads n load x found queue dist) (some : x ≢ 0) (least : 2 ≤ load) (s : Spread Joined (Wanted loads (load - 2)) x found dist end queue' dist') where
+  module _ {n load x found end : ℕ} {queue dist queue' dist' : List ℕ} (a : Among Joined loads n load x found queue dist) (some : x ≢ 0) (least : 2 ≤ load) (s : BreadthFirst Joined (Wanted loads (load - 2)) x found dist end queue' dist') where
     -- the search from x found a load that is lower by two or more: x is the first that starts an improving path
     pub among-first : WantedIn queue' found end loads (load - 2) → FirstStart Joined loads x
     among-first (i, l, u, low) =
@@ -128,7 +128,7 @@ module _ {Joined : ℕ → ℕ → Type 0} {loads : List ℕ} where
 
       -- .. what is found is handed on, and has at least the load less one ..
       among-searching : x ≤ n → Searching Joined loads n load end queue' dist'
-      among-searching h = record { queued = s .queued; stays = spread-stays (a .searching .stays) h s; shut = shut; high = high; none = a .searching .none }
+      among-searching h = record { queued = s .queued; stays = search-within (a .searching .stays) h s; shut = shut; high = high; none = a .searching .none }
         where
           shut : (z y : ℕ) → 1 ≤ at dist' z → Joined z y → 1 ≤ at dist' y
           shut z y h j =
@@ -234,29 +234,29 @@ module _ {s : Size} {loads : List ℕ} {r : Range} (l : LoadsIn s loads) (b : Be
       ]
 
   -- .. and a bench that starts an improving path has the least and two, or more
-  starts-above : {from to : List ℕ} → Arcs s from to → (w : ℕ) → T (within 1 mostBenches w) → StartsLow (Leads (s .jobs) from to) loads w → r .low + 2 ≤ at loads w
+  starts-above : {from to : List ℕ} → Arcs s from to → (w : ℕ) → T (within 1 mostBenches w) → StartsLow (HasArc (s .jobs) from to) loads w → r .low + 2 ≤ at loads w
   starts-above {from} {to} arcs w t (y, reach, low) =
       omega (arith, b .least y (reached-all (BenchIn s) on w y (record { least = within-low 1 mostBenches w t; most = loaded-most l w (omega arith) }) reach))
     where
-      on : (z u : ℕ) → BenchIn s z → Leads (s .jobs) from to z u → BenchIn s u
+      on : (z u : ℕ) → BenchIn s z → HasArc (s .jobs) from to z u → BenchIn s u
       on z u h (a, i, e, f) = subst (BenchIn s) f (arcs .leads a i (omega (arith, h .least)))
 
 -- the lists of arcs and of loads, and what is found: no bench above this load starts an improving path, and none below the least load and two
-pub record Falling (n low : ℕ) (to loads first next heavy after : List ℕ) (load found : ℕ) (queue dist : List ℕ) : Type 0 where
-  pub ways : Ways first next to
+pub record Falling (n low : ℕ) (to loads head next heavy after : List ℕ) (load found : ℕ) (queue dist : List ℕ) : Type 0 where
+  pub adjacency : AdjacencyLists head next to
   pub each : (k : ℕ) → 2 ≤ k → k ≤ mostJobs → AsHeavy n loads after k (at heavy k)
   pub most : load ≤ mostJobs
-  pub above : (w : ℕ) → T (within 1 mostBenches w) → StartsLow (Joins first next to) loads w → low + 2 ≤ at loads w
-  pub searching : Searching (Joins first next to) loads n load found queue dist
+  pub above : (w : ℕ) → T (within 1 mostBenches w) → StartsLow (Adjacent head next to) loads w → low + 2 ≤ at loads w
+  pub searching : Searching (Adjacent head next to) loads n load found queue dist
 
 -- before the greatest load no bench was searched
-pub falling-start : {s : Size} {from to loads first next heavy after queue dist : List ℕ} {r : Range} → Limits s → Arcs s from to → LoadsIn s loads → Between s loads r → ListedBy (mostBenches + 1) (s .jobs) from first next → ListedBy (mostJobs + 1) (s .benches) loads heavy after → queue ≡ replicate (mostBenches + 1) 0 → dist ≡ replicate (mostBenches + 1) 0 → Falling (s .benches) (r .low) to loads first next heavy after (r .high) 0 queue dist
+pub falling-start : {s : Size} {from to loads head next heavy after queue dist : List ℕ} {r : Range} → Limits s → Arcs s from to → LoadsIn s loads → Between s loads r → ListedBy (mostBenches + 1) (s .jobs) from head next → ListedBy (mostJobs + 1) (s .benches) loads heavy after → queue ≡ replicate (mostBenches + 1) 0 → dist ≡ replicate (mostBenches + 1) 0 → Falling (s .benches) (r .low) to loads head next heavy after (r .high) 0 queue dist
 falling-start {loads = loads} limits arcs l b listed benches q d =
     record {
-      ways = listed-ways limits arcs listed;
+      adjacency = listed-adjacency limits arcs listed;
       each = listed-heavy limits l benches;
       most = b .few;
-      above = λ w t h. starts-above l b arcs w t (starts-same loads (λ x y. joins-leads limits arcs listed x y .0) w h);
+      above = λ w t h. starts-above l b arcs w t (starts-same loads (λ x y. adjacent-has-arc limits arcs listed x y .0) w h);
       searching = record {
         queued = none-queued q d;
         stays = none-stays limits arcs listed d;
@@ -266,28 +266,28 @@ falling-start {loads = loads} limits arcs l b listed benches q d =
       };
     }
 
-module _ {n low : ℕ} {to loads first next heavy after : List ℕ} {load found : ℕ} {queue dist : List ℕ} (f : Falling n low to loads first next heavy after load found queue dist) where
+module _ {n low : ℕ} {to loads head next heavy after : List ℕ} {load found : ℕ} {queue dist : List ℕ} (f : Falling n low to loads head next heavy after load found queue dist) where
   -- the benches of this load are listed
   pub falling-heavy : low + 1 < load → AsHeavy n loads after load (at heavy load)
   falling-heavy h = f .each load (omega arith) (f .most)
 
   -- one load less
-  pub falling-turn : {found' : ℕ} {queue' dist' : List ℕ} → Searching (Joins first next to) loads n (load - 1) found' queue' dist' → Falling n low to loads first next heavy after (load - 1) found' queue' dist'
-  falling-turn g = record { ways = f .ways; each = f .each; most = omega (arith, f .most); above = f .above; searching = g }
+  pub falling-turn : {found' : ℕ} {queue' dist' : List ℕ} → Searching (Adjacent head next to) loads n (load - 1) found' queue' dist' → Falling n low to loads head next heavy after (load - 1) found' queue' dist'
+  falling-turn g = record { adjacency = f .adjacency; each = f .each; most = omega (arith, f .most); above = f .above; searching = g }
 
   -- no load is left of which a bench starts an improving path
-  falling-end : load ≤ low + 1 → StartOf (Joins first next to) loads 0
+  falling-end : load ≤ low + 1 → StartOf (Adjacent head next to) loads 0
   falling-end h =
       record { none = λ _ w t g. f .searching .none w t (omega (arith, f .above w t g)) g; some = λ d. absurd (d refl) }
 
-module _ {s : Size} {from to first next : List ℕ} (limits : Limits s) (arcs : Arcs s from to) (listed : ListedBy (mostBenches + 1) (s .jobs) from first next) {loads : List ℕ} where
+module _ {s : Size} {from to head next : List ℕ} (limits : Limits s) (arcs : Arcs s from to) (listed : ListedBy (mostBenches + 1) (s .jobs) from head next) {loads : List ℕ} where
   -- the first is known ..
-  pub falling-some : {r : ℕ} → FirstStart (Joins first next to) loads r → r ≢ 0 → StartOf (Leads (s .jobs) from to) loads r
-  falling-some g d = start-same (joins-leads limits arcs listed) (record { none = λ e. absurd (d e); some = λ _. g })
+  pub falling-some : {r : ℕ} → FirstStart (Adjacent head next to) loads r → r ≢ 0 → StartOf (HasArc (s .jobs) from to) loads r
+  falling-some g d = start-same (adjacent-has-arc limits arcs listed) (record { none = λ e. absurd (d e); some = λ _. g })
 
   -- .. or there is none
-  pub falling-none : {n low : ℕ} {heavy after : List ℕ} {load found : ℕ} {queue dist : List ℕ} → Falling n low to loads first next heavy after load found queue dist → load ≤ low + 1 → StartOf (Leads (s .jobs) from to) loads 0
-  falling-none f h = start-same (joins-leads limits arcs listed) (falling-end f h)
+  pub falling-none : {n low : ℕ} {heavy after : List ℕ} {load found : ℕ} {queue dist : List ℕ} → Falling n low to loads head next heavy after load found queue dist → load ≤ low + 1 → StartOf (HasArc (s .jobs) from to) loads 0
+  falling-none f h = start-same (adjacent-has-arc limits arcs listed) (falling-end f h)
 
 -- a load above the least can be lessened
 pub load-less : (low load : ℕ) → low + 1 < load → (1 ≤ load) × (load - 1 < load)

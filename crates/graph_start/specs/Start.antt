@@ -7,8 +7,8 @@ use lib.Dec.{T}
 use Rattle.spec_lists.specs.Lists.{within}
 use Rattle.spec_table.specs.Table.{mostBenches, mostJobs}
 use Rattle.graph_lists.specs.Arrays.{at, Reached}
-use Rattle.graph_lists.specs.Lists.{LeastFrom}
-use Rattle.graph_search.specs.Spread.{Queued, Stays}
+use Rattle.graph_lists.specs.LinkedLists.{LeastFrom}
+use Rattle.graph_search.specs.BreadthFirst.{Queued, WithinBenches}
 use Rattle.table_size.specs.Sizes.{BenchIn}
 use Rattle.table_size.specs.declared.Size.{Size}
 use Rattle.graph_start.specs.declared.Range.{Range}
@@ -48,7 +48,7 @@ module _ (Joined : ℕ → ℕ → Type 0) (loads : List ℕ) where
   -- at least the load less one
   pub record Searching (n load found : ℕ) (queue dist : List ℕ) : Type 0 where
     pub queued : Queued found queue dist
-    pub stays : Stays n Joined dist
+    pub stays : WithinBenches n Joined dist
     pub shut : (z y : ℕ) → 1 ≤ at dist z → Joined z y → 1 ≤ at dist y
     pub high : (y : ℕ) → 1 ≤ at dist y → load ≤ at loads y + 1
     pub none : (w : ℕ) → T (within 1 mostBenches w) → load < at loads w → StartsLow w → ⊥

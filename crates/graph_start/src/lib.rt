@@ -1,8 +1,8 @@
 // The first bench of the path that levelling turns: of the benches that start an improving path the one with the greatest load, then the
 // lowest. Loads go down and numbers up; what a bench reached need not be searched again from a lighter one.
 ghost use Rattle.table_size.specs.Sizes.{Limits};
-ghost use Rattle.graph_lists.specs.Arrays.{Leads, Arcs, LoadsIn};
-ghost use Rattle.graph_lists.specs.Lists.{Ways, Joins};
+ghost use Rattle.graph_lists.specs.Arrays.{HasArc, Arcs, LoadsIn};
+ghost use Rattle.graph_lists.specs.LinkedLists.{AdjacencyLists, Adjacent};
 ghost use Rattle.graph_start.specs.Start.{Between, AsHeavy, Searching, Searched, StartOf};
 use graph_lists::keys;
 use graph_lists::lists;
@@ -21,7 +21,8 @@ struct Search {
     found: usize,
 }
 
-// The least and the greatest load of benches 1 to B. Where they differ by less than two, no bench starts an improving path.
+// Finds the least and the greatest load of benches 1 to B. Where they differ by less than two, no bench starts an
+// improving path.
 pub fn range_of(s: Size, loads: &[u16; Size::MOST_BENCHES + 1]) -> Range
     requires { ⌜ Limits s ⌝ }
     requires { ⌜ LoadsIn s (now loads) ⌝ }
@@ -36,7 +37,7 @@ pub fn range_of(s: Size, loads: &[u16; Size::MOST_BENCHES + 1]) -> Range
 
 // Searches from the benches of this load, from x on, until one reaches a load that is lower by two or more.
 fn start_among(
-    first: &[u16; Size::MOST_BENCHES + 1],
+    head: &[u16; Size::MOST_BENCHES + 1],
     next: &[u16; Size::MOST_JOBS + 1],
     to: &[u16; Size::MOST_JOBS + 1],
     loads: &[u16; Size::MOST_BENCHES + 1],
@@ -48,17 +49,17 @@ fn start_among(
     queue: &mut [u16; Size::MOST_BENCHES + 1],
     dist: &mut [u16; Size::MOST_BENCHES + 1],
 ) -> Search
-    requires { ⌜ Ways (now first) (now next) (now to) ⌝ }
+    requires { ⌜ AdjacencyLists (now head) (now next) (now to) ⌝ }
     requires { ⌜ AsHeavy benches (now loads) (now after) load x ⌝ }
-    requires { ⌜ Searching (Joins (now first) (now next) (now to)) (now loads) benches load found (now queue) (now dist) ⌝ }
-    ensures { λ r. ⌜ Searched (Joins (now (first .entry)) (now (next .entry)) (now (to .entry))) (now (loads .entry)) benches load r (now (queue .exit)) (now (dist .exit)) ⌝ }
+    requires { ⌜ Searching (Adjacent (now head) (now next) (now to)) (now loads) benches load found (now queue) (now dist) ⌝ }
+    ensures { λ r. ⌜ Searched (Adjacent (now (head .entry)) (now (next .entry)) (now (to .entry))) (now (loads .entry)) benches load r (now (queue .exit)) (now (dist .exit)) ⌝ }
 {
     let mut found = found;
     let mut x = x;
     while x != 0 {
         let limit = (load - 2) as u16;
-        let end = graph_search::spread(
-            first,
+        let end = graph_search::breadth_first(
+            head,
             next,
             to,
             benches,
@@ -81,8 +82,8 @@ fn start_among(
     Search { start: 0, found }
 }
 
-// The bench of greatest load, then lowest number, among those that start an improving path; 0 where none does. No bench with the least load
-// or one more does.
+// Finds the bench of greatest load, then lowest number, among those that start an improving path; 0 where none
+// does. No bench with the least load or one more does.
 pub fn first_start(
     s: Size,
     from: &[u16; Size::MOST_JOBS + 1],
@@ -94,11 +95,11 @@ pub fn first_start(
     requires { ⌜ Arcs s (now from) (now to) ⌝ }
     requires { ⌜ LoadsIn s (now loads) ⌝ }
     requires { ⌜ Between s (now loads) r ⌝ }
-    ensures { λ r. ⌜ StartOf (Leads (s .jobs) (now (from .entry)) (now (to .entry))) (now (loads .entry)) r ⌝ }
+    ensures { λ r. ⌜ StartOf (HasArc (s .jobs) (now (from .entry)) (now (to .entry))) (now (loads .entry)) r ⌝ }
 {
-    let mut first = scratch::benches();
+    let mut head = scratch::benches();
     let mut next = scratch::jobs();
-    lists::list_by(s.jobs(), from, &mut first, &mut next);
+    lists::list_by(s.jobs(), from, &mut head, &mut next);
     let mut heavy = scratch::jobs();
     let mut after = scratch::benches();
     let benches = s.benches();
@@ -110,7 +111,7 @@ pub fn first_start(
     while r.low + 1 < load {
         let x = heavy[load] as usize;
         let searched = start_among(
-            &first,
+            &head,
             &next,
             to,
             loads,

@@ -6,14 +6,16 @@ use mathlib.Core.Bool.{Bool, true, false, cond, not, _&&_}
 use mathlib.Core.List.{List, [], _∷_}
 use lib.Dec.{T, eqb}
 use lib.ListN.{length, drop}
-use Rattle.spec_lists.specs.Lists.{bit, member, rising, all, empty, Each}
+use Rattle.spec_lists.specs.Lists.{bit, member, range, all, empty, Each}
 use Rattle.spec_table.specs.Board.{Board, holderOf, namesOf, stands, load, heaviest}
 use Rattle.spec_table.specs.Table.{mostBenches, mostJobs, sound, decode}
 use Rattle.spec_sharing.specs.Sharing.{Levelled, arrive, close, relevel, level, tightSet, inside}
 use Rattle.spec_calls.specs.Answers.{Answer, Outcome, isRefused, inNumbers, refused, blanked, arrived, closed, loadIs, heaviestIs, tightSetIs, isSound, levelYes, levelNo, levelled, stopped}
 use Rattle.spec_calls.specs.Calls.{Call, arrival, closing, levelling, loadOf, heaviestLoad, tightSetOf, formCheck, levelCheck, accepted, outcome, arrivalOutcome, closingOutcome, levellingOutcome, tightSetOutcome}
 use Rattle.spec_sharing.specs.Demand2.{handed}
-use Rattle.spec_lists.proofs.Basics.{true→T, false→not, not-false, within-high, is-empty, length-keep, length-rising}
+use Rattle.spec_lists.proofs.Tests.{true→T, false→not, not-false, within-high}
+use Rattle.spec_lists.proofs.Elements.{is-empty, length-filter}
+use Rattle.spec_lists.proofs.NumberLists.{length-range}
 use Rattle.spec_table.proofs.Named.{length-shares}
 use Rattle.spec_lists.proofs.Counting.{bit-le, count-most, total-most, greatest-most}
 use Rattle.spec_table.proofs.Sound.{sound-storable}
@@ -41,7 +43,7 @@ inside-most set (names ∷ named) = omega (arith, bit-le (not (empty names) && a
 -- at most all benches are in a tight set
 tight-most : (b : Board) (h : ℕ) → length (tightSet b h) ≤ b .benches
 tight-most b h =
-    omega (arith, ap length (tight-rising b h), length-keep (λ x. member x (tightSet b h)) (rising 1 (b .benches)), length-rising 1 (b .benches))
+    omega (arith, ap length (tight-rising b h), length-filter (λ x. member x (tightSet b h)) (range 1 (b .benches)), length-range 1 (b .benches))
 
 module _ (t : List ℕ) (s : T (sound t)) where
   -- a sound table has at most 500 benches ..

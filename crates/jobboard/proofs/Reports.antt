@@ -7,7 +7,7 @@ use mir.Syntax.{w32}
 use mir.Val.{Fits}
 use Rattle.spec_lists.specs.Lists.{nth}
 use Rattle.spec_calls.specs.Answers.{Outcome, inNumbers}
-use Rattle.spec_lists.proofs.Basics.{each-nth}
+use Rattle.spec_lists.proofs.Elements.{each-nth}
 use Rattle.board_answers.specs.Answered.{answerOf, returned, valuesOf, Leaves}
 use Rattle.board_answers.specs.declared.Answer.{Answer}
 use Rattle.board_answers.specs.declared.Values.{Values}

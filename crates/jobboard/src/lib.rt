@@ -12,7 +12,7 @@ pub extern "C" fn jobboard_blank(table: &mut [u8], benches: u32, jobs: u32) -> u
     board_changes::blank(table, benches as usize, jobs as usize).number()
 }
 
-// 0 for a sound table, 1 where its sizes do not fit, else 2.
+// Checks the form: 0 for a sound table, 1 where its sizes do not fit, else 2.
 #[no_mangle]
 pub extern "C" fn jobboard_check(table: &[u8]) -> u32
     ensures { λ r. ⌜ Reported (outcome formCheck (now (table .entry))) r (now (table .entry)) [] [] [] ⌝ }
@@ -20,7 +20,8 @@ pub extern "C" fn jobboard_check(table: &[u8]) -> u32
     board_questions::form_check(table).number()
 }
 
-// Arrival of a job that names two benches. Results: the bench that holds it in the end, the bench whose load rose, the other jobs moved.
+// Takes in a job that names two benches. Results: the bench that holds it in the end, the bench whose load rose,
+// the other jobs moved.
 #[no_mangle]
 pub extern "C" fn jobboard_arrival(
     table: &mut [u8],
@@ -41,7 +42,7 @@ pub extern "C" fn jobboard_arrival(
     a.number()
 }
 
-// Closing of a standing job. Results: the bench whose load fell, the jobs moved.
+// Closes a standing job. Results: the bench whose load fell, the jobs moved.
 #[no_mangle]
 pub extern "C" fn jobboard_closing(
     table: &mut [u8],
@@ -58,7 +59,7 @@ pub extern "C" fn jobboard_closing(
     a.number()
 }
 
-// Levelling with an allowance of paths. Results: the paths turned, and 1 for level or 0 for stopped.
+// Levels within an allowance of paths. Results: the paths turned, and 1 for level or 0 for stopped.
 #[no_mangle]
 pub extern "C" fn jobboard_levelling(
     table: &mut [u8],
@@ -75,7 +76,7 @@ pub extern "C" fn jobboard_levelling(
     a.number()
 }
 
-// Level check. Result: 1 for yes, 0 for no.
+// Checks whether no path improves. Result: 1 for yes, 0 for no.
 #[no_mangle]
 pub extern "C" fn jobboard_level_check(table: &[u8], level: &mut u32) -> u32
     ensures { λ r. ⌜ Reported (outcome levelCheck (now (table .entry))) r (now (table .entry)) [] (now (level .entry) ∷ []) (now (level .exit) ∷ []) ⌝ }
@@ -86,7 +87,7 @@ pub extern "C" fn jobboard_level_check(table: &[u8], level: &mut u32) -> u32
     a.number()
 }
 
-// The load of a bench.
+// Reports the load of a bench.
 #[no_mangle]
 pub extern "C" fn jobboard_load(table: &[u8], bench: u32, load: &mut u32) -> u32
     ensures { λ r. ⌜ Reported (outcome (loadOf bench) (now (table .entry))) r (now (table .entry)) [] (now (load .entry) ∷ []) (now (load .exit) ∷ []) ⌝ }
@@ -97,7 +98,7 @@ pub extern "C" fn jobboard_load(table: &[u8], bench: u32, load: &mut u32) -> u32
     a.number()
 }
 
-// The heaviest load.
+// Reports the heaviest load.
 #[no_mangle]
 pub extern "C" fn jobboard_heaviest(table: &[u8], load: &mut u32) -> u32
     ensures { λ r. ⌜ Reported (outcome heaviestLoad (now (table .entry))) r (now (table .entry)) [] (now (load .entry) ∷ []) (now (load .exit) ∷ []) ⌝ }
@@ -108,7 +109,8 @@ pub extern "C" fn jobboard_heaviest(table: &[u8], load: &mut u32) -> u32
     a.number()
 }
 
-// The tight set of a height: its benches, rising, as words at the list's beginning. Results: benches in the set, jobs inside.
+// Writes the tight set of a height: its benches, rising, as words at the list's beginning. Results: benches in the
+// set, jobs inside.
 #[no_mangle]
 pub extern "C" fn jobboard_tight_set(
     table: &[u8],

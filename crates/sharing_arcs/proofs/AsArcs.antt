@@ -13,7 +13,9 @@ use Rattle.spec_lists.specs.Lists.{within, In, nth}
 use Rattle.spec_table.specs.Board.{Board, holderOf, namesOf, stands, load, namesFit}
 use Rattle.spec_table.specs.Table.{mostBenches, mostJobs, decode}
 use Rattle.spec_sharing.specs.Paths.{Step, stepBy, steps, endOf, Walk}
-use Rattle.spec_lists.proofs.Basics.{T→true, within-low, within-high, within-both, is-empty, some-in, each-nth, two-elements, in-numbered, numbered-nth, length-values}
+use Rattle.spec_lists.proofs.Tests.{T→true, within-low, within-high, within-both}
+use Rattle.spec_lists.proofs.Elements.{is-empty, some-in, each-nth, two-elements, in-enumerate, enumerate-nth}
+use Rattle.spec_lists.proofs.NumberLists.{length-values}
 use Rattle.spec_table.proofs.Named.{length-shares, pair-fits}
 use Rattle.spec_lists.proofs.Counting.{count-none, count-most}
 use Rattle.spec_sharing.proofs.Distances.{storable-one-other}
@@ -22,12 +24,12 @@ use Rattle.spec_sharing.proofs.Walks.{Reach, reach-here, reach-first}
 use Rattle.table_size.specs.Sizes.{BenchIn}
 use Rattle.table_size.specs.declared.Size.{Size}
 use Rattle.table_size.proofs.Sizes.{board-bench}
-use Rattle.table_board.specs.View.{Kept, Loaded, Place, NameOf}
-use Rattle.table_board.proofs.Boards.{names-job, holder-most, stands-held, names-length}
-use Rattle.table_board.proofs.Counts.{holders-long}
-use Rattle.graph_lists.specs.Arrays.{at, Leads, Arcs, Reached, here, step, LoadsIn}
+use Rattle.table_board.specs.BoardView.{HoldsBoard, Loaded, Position, NameOf}
+use Rattle.table_board.proofs.RecordsAsBoard.{names-job, holder-most, stands-held, names-length}
+use Rattle.table_board.proofs.LoadCounts.{holders-long}
+use Rattle.graph_lists.specs.Arrays.{at, HasArc, Arcs, Reached, here, step, LoadsIn}
 use Rattle.graph_lists.specs.Keys.{KeysIn}
-use Rattle.graph_search.specs.Spread.{Distances}
+use Rattle.graph_search.specs.BreadthFirst.{Distances}
 use Rattle.sharing_arcs.specs.Arcs.{otherThan, otherOf, OtherOf, ArcsOf}
 use Rattle.spec_sharing.proofs.Search.{NumberedAway, NumberedTo}
 
@@ -49,14 +51,14 @@ pair-other a c h d (inr (inl e)) =
     rw (ne-eqb a h f) (record { named = inl refl; apart = f; sum = omega arith })
 pair-other a c h d (inr (inr i)) = absurd i
 
-module _ (t : List ℕ) (s : Size) (j : ℕ) (kept : Kept t s) where
+module _ (t : List ℕ) (s : Size) (j : ℕ) (holdsBoard : HoldsBoard t s) where
   -- a job that is held stands ..
   held-stands : holderOf (decode t) j ≢ 0 → T (stands (decode t) j)
-  held-stands d = rw (stands-held t s j kept, ne-eqb (holderOf (decode t) j) 0 d) tt
+  held-stands d = rw (stands-held t s j holdsBoard, ne-eqb (holderOf (decode t) j) 0 d) tt
 
   -- .. names two benches ..
   held-two : holderOf (decode t) j ≢ 0 → length (namesOf (decode t) j) ≡ 2
-  held-two d = let n = names-length t s j kept in rw (T→true (stands (decode t) j) (held-stands d)) at n
+  held-two d = let n = names-length t s j holdsBoard in rw (T→true (stands (decode t) j) (held-stands d)) at n
 
   -- .. and leads to the other of them ..
   held-other : holderOf (decode t) j ≢ 0 → Other (namesOf (decode t) j) (holderOf (decode t) j) (otherOf (decode t) j)
@@ -64,25 +66,25 @@ module _ (t : List ℕ) (s : Size) (j : ℕ) (kept : Kept t s) where
       let b = decode t in
       let names = namesOf b j in
       let n = two-elements names (held-two d) in
-      let f = each-nth (λ names. T (namesFit (b .benches) names)) (b .named) j [] tt (kept .storable .valid .names) in
+      let f = each-nth (λ names. T (namesFit (b .benches) names)) (b .named) j [] tt (holdsBoard .storable .valid .names) in
       let i = some-in names (held-stands d) in
-      let h = held-named names (holderOf b j) (i .0) (i .1) (shares-nth b (kept .storable .valid) j) in
+      let h = held-named names (holderOf b j) (i .0) (i .1) (shares-nth b (holdsBoard .storable .valid) j) in
       rw (n .2) (pair-other (n .0) (n .1) (holderOf b j) ((pair-fits (b .benches) (n .0) (n .1)) .0 (rw (n .2) at f) .2) (rw (n .2) at h))
 
   -- .. from a bench ..
   held-leaves : holderOf (decode t) j ≢ 0 → BenchIn s (holderOf (decode t) j)
-  held-leaves d = board-bench (holderOf (decode t) j) (kept .size) (holder-bench (decode t) (kept .storable .valid) j (held-stands d))
+  held-leaves d = board-bench (holderOf (decode t) j) (holdsBoard .size) (holder-bench (decode t) (holdsBoard .storable .valid) j (held-stands d))
 
   -- .. to a bench
   held-leads : holderOf (decode t) j ≢ 0 → BenchIn s (otherOf (decode t) j)
   held-leads d =
-      board-bench (otherOf (decode t) j) (kept .size) (named-bench (decode t) (kept .storable .valid) j (otherOf (decode t) j) (held-other d .named))
+      board-bench (otherOf (decode t) j) (holdsBoard .size) (named-bench (decode t) (holdsBoard .storable .valid) j (otherOf (decode t) j) (held-other d .named))
 
   -- one that nobody holds leads nowhere
   free-other : holderOf (decode t) j ≡ 0 → otherOf (decode t) j ≡ 0
   free-other e =
       let b = decode t in
-      ap (otherThan (holderOf b j)) (is-empty (namesOf b j) (rw (stands-held t s j kept, e) tt))
+      ap (otherThan (holderOf b j)) (is-empty (namesOf b j) (rw (stands-held t s j holdsBoard, e) tt))
 
   -- where a job leads to is at most the last bench
   other-most : otherOf (decode t) j ≤ s .benches
@@ -98,7 +100,7 @@ module _ (t : List ℕ) (s : Size) (j : ℕ) (kept : Kept t s) where
 
   module _ (h : ℕ) (e : h ≡ holderOf (decode t) j) (d : h ≢ 0) where
     -- .. two names for one that h holds ..
-    pub held-place : (k : ℕ) → 1 ≤ k → k ≤ 2 → Place (namesOf (decode t) j) k
+    pub held-place : (k : ℕ) → 1 ≤ k → k ≤ 2 → Position (namesOf (decode t) j) k
     held-place k l u = record { least = l; most = omega (arith, held-two (λ f. d (e ∙ f))) }
 
     -- .. and what is left of their sum
@@ -148,17 +150,17 @@ module _ {b : Board} (s : Size) {from to : List ℕ} where
 -- loads
 
 -- a bench beyond the last has no load
-load-beyond : (t : List ℕ) (s : Size) (x : ℕ) → Kept t s → s .benches < x → load ((decode t) .holders) x ≡ 0
+load-beyond : (t : List ℕ) (s : Size) (x : ℕ) → HoldsBoard t s → s .benches < x → load ((decode t) .holders) x ≡ 0
 load-beyond t s x k l = count-none x ((decode t) .holders) never
   where
     never : In x ((decode t) .holders) → ⊥
     never i =
-        let n = in-numbered 1 x ((decode t) .holders) i in
-        let r = numbered-nth (n .0, x) ((decode t) .holders) 0 (n .1) in
+        let n = in-enumerate 1 x ((decode t) .holders) i in
+        let r = enumerate-nth (n .0, x) ((decode t) .holders) 0 (n .1) in
         omega (arith, r .2, holder-most t s (n .0) k)
 
 -- the loads of a board are loads of its size ..
-pub loads-in : {t : List ℕ} {s : Size} {loads : List ℕ} → Kept t s → Loaded (decode t) loads → LoadsIn s loads
+pub loads-in : {t : List ℕ} {s : Size} {loads : List ℕ} → HoldsBoard t s → Loaded (decode t) loads → LoadsIn s loads
 loads-in {t} {s} {loads} k l = record { most = most; beyond = beyond; long = long }
   where
     long : length loads ≡ mostBenches + 1
@@ -178,21 +180,21 @@ loads-in {t} {s} {loads} k l = record { most = most; beyond = beyond; long = lon
     beyond x h = at-load (λ n. n ≡ 0) x (load-beyond t s x k h) refl
 
 -- .. so none is above the most jobs
-pub loads-keys : {t : List ℕ} {s : Size} {loads : List ℕ} → Kept t s → Loaded (decode t) loads → KeysIn s loads
+pub loads-keys : {t : List ℕ} {s : Size} {loads : List ℕ} → HoldsBoard t s → Loaded (decode t) loads → KeysIn s loads
 loads-keys k l = record { most = λ x b. omega (arith, loads-in k l .most x (b .least), k .size .limits .jobs-most) }
 
-module _ {t : List ℕ} {s : Size} (kept : Kept t s) where
+module _ {t : List ℕ} {s : Size} (holdsBoard : HoldsBoard t s) where
   -- a bench of the size is one of the board ..
   pub on-board : {x : ℕ} → BenchIn s x → T (within 1 ((decode t) .benches) x)
-  on-board {x} i = rw (kept .size .board-benches) (within-both 1 (s .benches) x (i .least) (i .most))
+  on-board {x} i = rw (holdsBoard .size .board-benches) (within-both 1 (s .benches) x (i .least) (i .most))
 
   -- .. and its load stands at its number
   pub load-at : {loads : List ℕ} {x : ℕ} → Loaded (decode t) loads → BenchIn s x → at loads x ≡ load ((decode t) .holders) x
-  load-at {x = x} l i = l .bench x (omega (arith, i .most, kept .size .limits .benches-most))
+  load-at {x = x} l i = l .bench x (omega (arith, i .most, holdsBoard .size .limits .benches-most))
 
 -- arcs and steps
 
-module _ {t : List ℕ} {s : Size} {from to : List ℕ} (kept : Kept t s) (arcs : ArcsOf (decode t) s from to) where
+module _ {t : List ℕ} {s : Size} {from to : List ℕ} (holdsBoard : HoldsBoard t s) (arcs : ArcsOf (decode t) s from to) where
   -- an arc from a bench is a job that is held
   arc-held : (a : ℕ) → T (within 1 (s .jobs) a) → 1 ≤ at from a → holderOf (decode t) a ≢ 0
   arc-held a w l e = omega (arith, arcs .holders a w)
@@ -201,8 +203,8 @@ module _ {t : List ℕ} {s : Size} {from to : List ℕ} (kept : Kept t s) (arcs 
   pub arcs-forth : Arcs s from to
   arcs-forth =
       record {
-        leaves = λ a w. rw (arcs .holders a w) (holder-most t s a kept);
-        leads = λ a w l. rw (arcs .others a w) (held-leads t s a kept (arc-held a w l));
+        leaves = λ a w. rw (arcs .holders a w) (holder-most t s a holdsBoard);
+        leads = λ a w l. rw (arcs .others a w) (held-leads t s a holdsBoard (arc-held a w l));
         from-long = arcs .from-long;
         to-long = arcs .to-long;
       }
@@ -211,8 +213,8 @@ module _ {t : List ℕ} {s : Size} {from to : List ℕ} (kept : Kept t s) (arcs 
   pub arcs-back : Arcs s to from
   arcs-back =
       record {
-        leaves = λ a w. rw (arcs .others a w) (other-most t s a kept);
-        leads = λ a w l. rw (arcs .holders a w) (held-leaves t s a kept (led-held t s a kept (omega (arith, arcs .others a w))));
+        leaves = λ a w. rw (arcs .others a w) (other-most t s a holdsBoard);
+        leads = λ a w l. rw (arcs .holders a w) (held-leaves t s a holdsBoard (led-held t s a holdsBoard (omega (arith, arcs .others a w))));
         from-long = arcs .to-long;
         to-long = arcs .from-long;
       }
@@ -222,9 +224,9 @@ module _ {t : List ℕ} {s : Size} {from to : List ℕ} (kept : Kept t s) (arcs 
   arc-step a x w l e =
       let b = decode t in
       let h : holderOf b a ≡ x = sym (arcs .holders a w) ∙ e in
-      let o = held-other t s a kept (λ z. omega arith) in
+      let o = held-other t s a holdsBoard (λ z. omega arith) in
       rw (arcs .others a w)
-      (is-step b x (stepBy a (otherOf b a)) h (o .named) (λ f. o .apart (f ∙ sym h)) (sym (length-shares (b .named) (b .holders) (kept .storable .valid .shares))))
+      (is-step b x (stepBy a (otherOf b a)) h (o .named) (λ f. o .apart (f ∙ sym h)) (sym (length-shares (b .named) (b .holders) (holdsBoard .storable .valid .shares))))
 
   -- .. and every step an arc
   pub step-arc : (x : ℕ) (q : Step) → In q (steps (decode t) x) → T (within 1 (s .jobs) (q .job)) × (at from (q .job) ≡ x) × (at to (q .job) ≡ q .to)
@@ -232,15 +234,15 @@ module _ {t : List ℕ} {s : Size} {from to : List ℕ} (kept : Kept t s) (arcs 
       let b = decode t in
       let j = q .job in
       let r = step-is b x q i in
-      let n = names-job t s j (q .to) (kept .size) (r .1) in
+      let n = names-job t s j (q .to) (holdsBoard .size) (r .1) in
       let w = within-both 1 (s .jobs) j (n .least) (n .most) in
-      let h = holder-bench b (kept .storable .valid) j (named-stands b j (q .to) (r .1)) in
+      let h = holder-bench b (holdsBoard .storable .valid) j (named-stands b j (q .to) (r .1)) in
       let f : at from j ≡ x = arcs .holders j w ∙ r .0 in
       let l : 1 ≤ x = omega (arith, within-low 1 (b .benches) (holderOf b j) h, r .0) in
-      (w, f, storable-one-other b (kept .storable) x (stepBy j (at to j)) q (arc-step j x w l f) i refl)
+      (w, f, storable-one-other b (holdsBoard .storable) x (stepBy j (at to j)) q (arc-step j x w l f) i refl)
 
   -- what arcs reach from a bench, steps reach ..
-  pub arcs-reach : (x y : ℕ) → 1 ≤ x → Reached (Leads (s .jobs) from to) x y → Reach (steps (decode t)) x y
+  pub arcs-reach : (x y : ℕ) → 1 ≤ x → Reached (HasArc (s .jobs) from to) x y → Reach (steps (decode t)) x y
   arcs-reach x y h (here _) = reach-here (steps (decode t)) x
   arcs-reach x y h (step _ z _ (a, w, e, f) r) =
       let i = arcs-forth .leads a w (omega arith) in
@@ -248,15 +250,15 @@ module _ {t : List ℕ} {s : Size} {from to : List ℕ} (kept : Kept t s) (arcs 
       reach-first (steps (decode t)) x y (stepBy a (at to a)) (arc-step a x w h e) q
 
   -- .. and where a walk ends, arcs come
-  walk-reached : (x : ℕ) (r : List Step) → Walk (steps (decode t)) x r → Reached (Leads (s .jobs) from to) x (endOf x r)
+  walk-reached : (x : ℕ) (r : List Step) → Walk (steps (decode t)) x r → Reached (HasArc (s .jobs) from to) x (endOf x r)
   walk-reached x [] w = here x
   walk-reached x (q ∷ r) w =
       let i = step-arc x q (w .0) in
       step x (q .to) (endOf (q .to) r) (q .job, i .0, i .1, i .2) (walk-reached (q .to) r (w .1))
 
   -- .. so what steps reach, arcs reach
-  pub steps-reach : (x y : ℕ) → Reach (steps (decode t)) x y → Reached (Leads (s .jobs) from to) x y
-  steps-reach x y q = subst (Reached (Leads (s .jobs) from to) x) (q .2) (walk-reached x (q .0) (q .1))
+  pub steps-reach : (x y : ℕ) → Reach (steps (decode t)) x y → Reached (HasArc (s .jobs) from to) x y
+  steps-reach x y q = subst (Reached (HasArc (s .jobs) from to) x) (q .2) (walk-reached x (q .0) (q .1))
 
   -- distances
 
@@ -264,12 +266,12 @@ module _ {t : List ℕ} {s : Size} {from to : List ℕ} (kept : Kept t s) (arcs 
   pub distances-away : {Wanted : ℕ → Type 0} {v : ℕ} {dist : List ℕ} (m : ℕ) → BenchIn s v → Distances s from to Wanted v dist → ((w : ℕ) → 1 ≤ at dist w → Wanted w → m ≤ at dist w) → NumberedAway ((decode t) .benches) (steps (decode t)) m v (at dist)
   distances-away m b d far =
       record {
-        here = (on-board kept b, d .here);
+        here = (on-board holdsBoard b, d .here);
         only = λ y w e. d .only y e;
         from = λ y n w e.
             let (z, f, (a, u, g, h)) = d .comes y n e in
             let i = d .bench z (omega arith) in
-            (z, stepBy a (at to a), on-board kept i, arc-step a z u (i .least) g, h, f);
+            (z, stepBy a (at to a), on-board holdsBoard i, arc-step a z u (i .least) g, h, f);
         on = λ z q w l u i. let r = step-arc z q i in d .on z (q .to) l (λ k f h. omega (arith, far k f h)) (q .job, r .0, r .1, r .2);
       }
 

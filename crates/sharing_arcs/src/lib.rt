@@ -5,14 +5,14 @@ ghost use lib.ListN.{length};
 ghost use Rattle.spec_table.specs.Board.{holderOf};
 ghost use Rattle.spec_table.specs.Table.{mostJobs, decode};
 ghost use Rattle.table_size.specs.Sizes.{JobIn};
-ghost use Rattle.table_board.specs.View.{Kept};
+ghost use Rattle.table_board.specs.BoardView.{HoldsBoard};
 ghost use Rattle.sharing_arcs.specs.Arcs.{OtherOf, ArcsOf};
-use table_size::Size;
 use table_board::jobs;
+use table_size::Size;
 
-// The other bench that job j names; 0 where it does not stand.
+// Finds the other bench that job j names; 0 where it does not stand.
 fn other(t: &[u8], s: Size, j: usize, holder: usize) -> usize
-    requires { ⌜ Kept (now t) s ⌝ }
+    requires { ⌜ HoldsBoard (now t) s ⌝ }
     requires { ⌜ JobIn s j ⌝ }
     requires { ⌜ holder ≡ holderOf (decode (now t)) j ⌝ }
     ensures { λ r. ⌜ OtherOf (decode (now (t .entry))) s j r ⌝ }
@@ -24,14 +24,14 @@ fn other(t: &[u8], s: Size, j: usize, holder: usize) -> usize
     jobs::name(t, s, j, 1) + jobs::name(t, s, j, 2) - holder
 }
 
-// At j the bench that holds job j, and the other one; 0 and 0 where it does not stand.
+// Writes, at j, the bench that holds job j, and the other one; 0 and 0 where it does not stand.
 pub fn fill(
     t: &[u8],
     s: Size,
     from: &mut [u16; Size::MOST_JOBS + 1],
     to: &mut [u16; Size::MOST_JOBS + 1],
 )
-    requires { ⌜ Kept (now t) s ⌝ }
+    requires { ⌜ HoldsBoard (now t) s ⌝ }
     requires { ⌜ length (now from) ≡ mostJobs + 1 ⌝ }
     requires { ⌜ length (now to) ≡ mostJobs + 1 ⌝ }
     ensures { λ _. ⌜ ArcsOf (decode (now (t .entry))) s (now (from .exit)) (now (to .exit)) ⌝ }

@@ -9,48 +9,49 @@ use mathlib.Core.Option.{Option, none, some}
 use lib.Dec.{T, eqb}
 use lib.ListN.{length, length-map}
 use borrow.Author.Tests.{lt-ltb, le-ltb}
-use Rattle.spec_lists.specs.Lists.{bit, count, keep, In}
+use Rattle.spec_lists.specs.Lists.{bit, count, filter, In}
 use Rattle.spec_table.specs.Board.{Board, Valid, holderOf, stands, put, load, namesFit}
 use Rattle.spec_sharing.specs.Paths.{Step, BenchPath, jobs, IsPath}
-use Rattle.spec_sharing.specs.Sharing.{Change, getter, arrivalChoice, closingChoice, afterArrival, afterClosing, arrive, close}
+use Rattle.spec_sharing.specs.Sharing.{Change, lightestNamed, arrivalChoice, closingChoice, afterArrival, afterClosing, arrive, close}
 use Rattle.spec_table.specs.Table.{decode, encode}
-use Rattle.spec_lists.proofs.Basics.{Member, is-in, not-in, membered, in-member, nth-change-same}
+use Rattle.spec_lists.proofs.Elements.{nth-update-same}
+use Rattle.spec_lists.proofs.NumberLists.{Member, is-in, not-in, membered, in-member}
 use Rattle.spec_table.proofs.Named.{fit-bench}
-use Rattle.spec_lists.proofs.Counting.{count-none, count-some, different-count, keep-counts}
+use Rattle.spec_lists.proofs.Counting.{count-none, count-some, distinct-count, filter-counts}
 use Rattle.spec_sharing.proofs.Paths.{holder-bench, improvingFrom-only}
 use Rattle.spec_sharing.proofs.Choice.{arrival-choice}
-use Rattle.spec_sharing.proofs.Sets.{getter-in}
+use Rattle.spec_sharing.proofs.Sets.{lightestNamed-in}
 use Rattle.spec_sharing.proofs.Flip.{path-jobs, flip-moves, flip-keeps}
-use Rattle.spec_calls.proofs.Outcomes.{MayArrive}
+use Rattle.spec_calls.specs.Calls.{MayArrive}
 use Rattle.table_size.specs.Sizes.{BenchIn, JobIn, SoundTable}
 use Rattle.table_size.specs.declared.Size.{Size}
 use Rattle.table_size.proofs.Sizes.{board-job, board-bench}
-use Rattle.table_board.specs.View.{Kept, Holds, HolderOf, Fillable}
-use Rattle.table_chains.specs.Chains.{Settled}
-use Rattle.table_board.proofs.Boards.{sound-kept, stands-job}
-use Rattle.table_board.proofs.Counts.{holders-long}
-use Rattle.sharing_paths.specs.declared.Turn.{Turn}
-use Rattle.sharing_paths.specs.Turns.{turnedBy, lengthOf, lastOf, startOf, Turned}
-use Rattle.sharing_changes.specs.Changes.{Arrives, Closes}
+use Rattle.table_board.specs.BoardView.{HoldsBoard, Holds, HolderOf, Fillable}
+use Rattle.table_chains.specs.Chains.{ChainsRebuilt}
+use Rattle.table_board.proofs.RecordsAsBoard.{sound-holds-board, stands-job}
+use Rattle.table_board.proofs.LoadCounts.{holders-long}
+use Rattle.sharing_paths.specs.declared.Flip.{Flip}
+use Rattle.sharing_paths.specs.Flips.{flippedBy, lengthOf, lastOf, startOf, Flipped}
+use Rattle.sharing_changes.specs.ChangeResults.{IsArrival, IsClosing}
 
 -- the lighter of two benches: the second if it has less ..
-pub lighter-second : (holders : List ℕ) (x y : ℕ) {m n : ℕ} → m ≡ load holders y → n ≡ load holders x → m < n → y ≡ getter holders (x ∷ y ∷ [])
+pub lighter-second : (holders : List ℕ) (x y : ℕ) {m n : ℕ} → m ≡ load holders y → n ≡ load holders x → m < n → y ≡ lightestNamed holders (x ∷ y ∷ [])
 lighter-second holders x y e f l = rw (lt-ltb (load holders y) (load holders x) (omega arith)) refl
 
 -- .. else the first
-pub lighter-first : (holders : List ℕ) (x y : ℕ) {m n : ℕ} → m ≡ load holders y → n ≡ load holders x → n ≤ m → x ≡ getter holders (x ∷ y ∷ [])
+pub lighter-first : (holders : List ℕ) (x y : ℕ) {m n : ℕ} → m ≡ load holders y → n ≡ load holders x → n ≤ m → x ≡ lightestNamed holders (x ∷ y ∷ [])
 lighter-first holders x y e f l = rw (le-ltb (load holders y) (load holders x) (omega arith)) refl
 
 -- a path turned on the board b, which the table held: the choice is that on b
-turned-on : {u v : List ℕ} {s : Size} {b : Board} {r : Turn} (choice : Board → Option BenchPath) (end : Option BenchPath → ℕ) → decode u ≡ b → Turned u v s (choice (decode u)) (end (choice (decode u))) r → (decode v ≡ turnedBy b (choice b)) × (r .bench ≡ end (choice b)) × (r .jobs ≡ lengthOf (choice b))
-turned-on {u} {v} {s} {b} {r} choice end e t =
-    subst (λ (d : Board). (decode v ≡ turnedBy d (choice d)) × (r .bench ≡ end (choice d)) × (r .jobs ≡ lengthOf (choice d))) e (t .holds .board, t .bench, t .jobs)
+flipped-on : {u v : List ℕ} {s : Size} {b : Board} {r : Flip} (choice : Board → Option BenchPath) (end : Option BenchPath → ℕ) → decode u ≡ b → Flipped u v s (choice (decode u)) (end (choice (decode u))) r → (decode v ≡ flippedBy b (choice b)) × (r .bench ≡ end (choice b)) × (r .jobs ≡ lengthOf (choice b))
+flipped-on {u} {v} {s} {b} {r} choice end e t =
+    subst (λ (d : Board). (decode v ≡ flippedBy d (choice d)) × (r .bench ≡ end (choice d)) × (r .jobs ≡ lengthOf (choice d))) e (t .holds .board, t .bench, t .jobs)
 
 -- an arrival
 
 -- the bench that gets the job is one of the two
-getting-in : (holders : List ℕ) (x y : ℕ) {g : ℕ} → g ≡ getter holders (x ∷ y ∷ []) → In g (x ∷ y ∷ [])
-getting-in holders x y e = rw e (getter-in holders (x ∷ y ∷ []) tt)
+getting-in : (holders : List ℕ) (x y : ℕ) {g : ℕ} → g ≡ lightestNamed holders (x ∷ y ∷ []) → In g (x ∷ y ∷ [])
+getting-in holders x y e = rw e (lightestNamed-in holders (x ∷ y ∷ []) tt)
 
 module _ {t : List ℕ} {s : Size} {j x y : ℕ} (z : SoundTable t s) (m : MayArrive (decode t) j x y) where
   -- the arriving job's number is one of 1 to J ..
@@ -62,11 +63,11 @@ module _ {t : List ℕ} {s : Size} {j x y : ℕ} (z : SoundTable t s) (m : MayAr
   arriving-bench {a} i = board-bench a (z .size) (fit-bench ((decode t) .benches) (x ∷ y ∷ []) a (m .fit) i)
 
   -- .. so the one that gets it is one, too ..
-  pub getting-bench : {g : ℕ} → g ≡ getter ((decode t) .holders) (x ∷ y ∷ []) → BenchIn s g
+  pub getting-bench : {g : ℕ} → g ≡ lightestNamed ((decode t) .holders) (x ∷ y ∷ []) → BenchIn s g
   getting-bench e = arriving-bench (getting-in ((decode t) .holders) x y e)
 
   -- .. and a record can hold the job
-  pub arriving-fills : {g : ℕ} → g ≡ getter ((decode t) .holders) (x ∷ y ∷ []) → Fillable s j (x ∷ y ∷ []) g
+  pub arriving-fills : {g : ℕ} → g ≡ lightestNamed ((decode t) .holders) (x ∷ y ∷ []) → Fillable s j (x ∷ y ∷ []) g
   arriving-fills {g} e =
       record {
         job = arriving-job;
@@ -76,9 +77,9 @@ module _ {t : List ℕ} {s : Size} {j x y : ℕ} (z : SoundTable t s) (m : MayAr
       }
 
 -- a list but for j, and how often j stands in it
-others-count : (j : ℕ) (l : List ℕ) → length (keep (λ i. not (eqb i j)) l) + count j l ≡ length l
+others-count : (j : ℕ) (l : List ℕ) → length (filter (λ i. not (eqb i j)) l) + count j l ≡ length l
 others-count j [] = refl
-others-count j (y ∷ l) = omega (arith, keep-counts (λ i. not (eqb i j)) y l, others-count j l, once (eqb y j))
+others-count j (y ∷ l) = omega (arith, filter-counts (λ i. not (eqb i j)) y l, others-count j l, once (eqb y j))
   where
     once : (z : Bool) → bit (not z) + bit z ≡ 1
     once true = refl
@@ -99,7 +100,7 @@ strayed-once (inl w) d = absurd (d (w .0))
 strayed-once (inr w) d = w .1
 
 -- bench x has just got job j, and a path is turned: its jobs are the others that change holder, and j if it does
-arrival-moved : (c : Board) → Valid c → (j x n : ℕ) → holderOf c j ≡ x → (o : Option BenchPath) → arrivalChoice c x ≡ o → Strayed (holderOf (turnedBy c o) j) x n → n + length ((afterArrival c j x o) .moved) ≡ lengthOf o
+arrival-moved : (c : Board) → Valid c → (j x n : ℕ) → holderOf c j ≡ x → (o : Option BenchPath) → arrivalChoice c x ≡ o → Strayed (holderOf (flippedBy c o) j) x n → n + length ((afterArrival c j x o) .moved) ≡ lengthOf o
 arrival-moved c v j x n e none q d = omega (arith, strayed-not d e)
 arrival-moved c v j x n e (some p) q d =
     omega (arith, others-count j (jobs p), length-map (p .route) (λ (s : Step). s .job), among (membered j (jobs p)))
@@ -109,60 +110,60 @@ arrival-moved c v j x n e (some p) q d =
 
     among : {z : Bool} → Member j (jobs p) z → n ≡ count j (jobs p)
     among (is-in i) =
-        omega (arith, strayed-once d (λ k. flip-moves c v p path j i (k ∙ sym e)), count-some j (jobs p) i, different-count (jobs p) (path-jobs c v p path) j)
+        omega (arith, strayed-once d (λ k. flip-moves c v p path j i (k ∙ sym e)), count-some j (jobs p) i, distinct-count (jobs p) (path-jobs c v p path) j)
     among (not-in f) = omega (arith, strayed-not d (flip-keeps c v p path j f ∙ e), count-none j (jobs p) f)
 
 -- the table u holds the board of the arrival c of job j, and h holds j there; r tells the bench, and how many jobs moved: the arrival's
 -- and n more
-pub record Handed (u : List ℕ) (j : ℕ) (c : Change) (h n : ℕ) (r : Turn) : Type 0 where
+pub record Handed (u : List ℕ) (j : ℕ) (c : Change) (h n : ℕ) (r : Flip) : Type 0 where
   pub board : decode u ≡ c .board
   pub holder : h ≡ holderOf (c .board) j
   pub rose : r .bench ≡ c .bench
   pub moved : n + length (c .moved) ≡ r .jobs
 
 -- the board and the bench are those of the path that is turned
-handed-by : (u : List ℕ) (c : Board) (j x h n : ℕ) (o : Option BenchPath) (r : Turn) → decode u ≡ turnedBy c o → h ≡ holderOf (turnedBy c o) j → r .bench ≡ lastOf x o → n + length ((afterArrival c j x o) .moved) ≡ r .jobs → Handed u j (afterArrival c j x o) h n r
+handed-by : (u : List ℕ) (c : Board) (j x h n : ℕ) (o : Option BenchPath) (r : Flip) → decode u ≡ flippedBy c o → h ≡ holderOf (flippedBy c o) j → r .bench ≡ lastOf x o → n + length ((afterArrival c j x o) .moved) ≡ r .jobs → Handed u j (afterArrival c j x o) h n r
 handed-by u c j x h n none r b k e m = record { board = b; holder = k; rose = e; moved = m }
 handed-by u c j x h n (some p) r b k e m = record { board = b; holder = k; rose = e; moved = m }
 
 -- the job is put on the board, and the path turned
-pub arrival-handed : {t u v : List ℕ} {s : Size} {j x y g h n : ℕ} {r : Turn} → SoundTable t s → MayArrive (decode t) j x y → g ≡ getter ((decode t) .holders) (x ∷ y ∷ []) → Holds u s (put (decode t) j (x ∷ y ∷ []) g) → Turned u v s (arrivalChoice (decode u) g) (lastOf g (arrivalChoice (decode u) g)) r → HolderOf v s j h → Strayed h g n → Handed v j (arrive (decode t) j (x ∷ y ∷ [])) h n r
+pub arrival-handed : {t u v : List ℕ} {s : Size} {j x y g h n : ℕ} {r : Flip} → SoundTable t s → MayArrive (decode t) j x y → g ≡ lightestNamed ((decode t) .holders) (x ∷ y ∷ []) → Holds u s (put (decode t) j (x ∷ y ∷ []) g) → Flipped u v s (arrivalChoice (decode u) g) (lastOf g (arrivalChoice (decode u) g)) r → HolderOf v s j h → Strayed h g n → Handed v j (arrive (decode t) j (x ∷ y ∷ [])) h n r
 unfolding arrive
 arrival-handed {t} {u} {v} {s} {j} {x} {y} {g} {h} {n} {r} z m e a f k d = rw (sym e) handed
   where
     c : Board
     c = put (decode t) j (x ∷ y ∷ []) g
 
-    turned : (decode v ≡ turnedBy c (arrivalChoice c g)) × (r .bench ≡ lastOf g (arrivalChoice c g)) × (r .jobs ≡ lengthOf (arrivalChoice c g))
-    turned = turned-on (λ (b : Board). arrivalChoice b g) (lastOf g) (a .board) f
+    flipped : (decode v ≡ flippedBy c (arrivalChoice c g)) × (r .bench ≡ lastOf g (arrivalChoice c g)) × (r .jobs ≡ lengthOf (arrivalChoice c g))
+    flipped = flipped-on (λ (b : Board). arrivalChoice b g) (lastOf g) (a .board) f
 
     job : JobIn s j
     job = arriving-job z m
 
     got : holderOf c j ≡ g
     got =
-        nth-change-same ((decode t) .holders) j g 0 (job .least) (omega (arith, job .most, holders-long (sound-kept t s z)))
+        nth-update-same ((decode t) .holders) j g 0 (job .least) (omega (arith, job .most, holders-long (sound-holds-board t s z)))
 
-    holder : h ≡ holderOf (turnedBy c (arrivalChoice c g)) j
-    holder = k .value ∙ ap (λ (b : Board). holderOf b j) (turned .0)
+    holder : h ≡ holderOf (flippedBy c (arrivalChoice c g)) j
+    holder = k .value ∙ ap (λ (b : Board). holderOf b j) (flipped .0)
 
     moved : n + length ((afterArrival c j g (arrivalChoice c g)) .moved) ≡ lengthOf (arrivalChoice c g)
     moved =
-        arrival-moved c (subst Valid (a .board) (a .kept .storable .valid)) j g n got (arrivalChoice c g) refl (subst (λ (i : ℕ). Strayed i g n) holder d)
+        arrival-moved c (subst Valid (a .board) (a .holdsBoard .storable .valid)) j g n got (arrivalChoice c g) refl (subst (λ (i : ℕ). Strayed i g n) holder d)
 
     handed : Handed v j (afterArrival c j g (arrivalChoice c g)) h n r
-    handed = handed-by v c j g h n (arrivalChoice c g) r (turned .0) holder (turned .1) (moved ∙ sym (turned .2))
+    handed = handed-by v c j g h n (arrivalChoice c g) r (flipped .0) holder (flipped .1) (moved ∙ sym (flipped .2))
 
 -- then the chains are made anew: the arrival is done
-pub arrival-settled : {u w : List ℕ} {s : Size} {j h n : ℕ} {c : Change} {r : Turn} → Handed u j c h n r → Settled u w s → Arrives w j c (record { holder = h; rose = r .bench; moved = r .jobs - n })
-arrival-settled d e =
+pub arrival-rebuilt : {u w : List ℕ} {s : Size} {j h n : ℕ} {c : Change} {r : Flip} → Handed u j c h n r → ChainsRebuilt u w s → IsArrival w j c (record { holder = h; rose = r .bench; moved = r .jobs - n })
+arrival-rebuilt d e =
     record { bytes = e .bytes ∙ ap encode (d .board); holder = d .holder; rose = d .rose; moved = omega (arith, d .moved) }
 
 -- a closing
 
 -- a standing job can be closed: its number is one of 1 to J ..
-pub closing-job : (t : List ℕ) (s : Size) (j : ℕ) → SoundTable t s → T (stands (decode t) j) → Kept t s × JobIn s j
-closing-job t s j z p = (sound-kept t s z, stands-job t s j (z .size) p)
+pub closing-job : (t : List ℕ) (s : Size) (j : ℕ) → SoundTable t s → T (stands (decode t) j) → HoldsBoard t s × JobIn s j
+closing-job t s j z p = (sound-holds-board t s z, stands-job t s j (z .size) p)
 
 -- .. and its holder is a bench of 1 to B
 pub closing-bench : {t : List ℕ} {s : Size} {j x : ℕ} → SoundTable t s → T (stands (decode t) j) → HolderOf t s j x → BenchIn s x
@@ -170,15 +171,15 @@ closing-bench {t} {s} {j} z p e =
     rw (e .value) (board-bench (holderOf (decode t) j) (z .size) (holder-bench (decode t) (z .storable .valid) j p))
 
 -- the board, the bench and the jobs are those of the path that is turned
-closes-by : (u w : List ℕ) (s : Size) (c : Board) (x : ℕ) (o : Option BenchPath) (r : Turn) → decode u ≡ turnedBy c o → r .bench ≡ startOf x o → r .jobs ≡ lengthOf o → Settled u w s → Closes w (afterClosing c x o) r
+closes-by : (u w : List ℕ) (s : Size) (c : Board) (x : ℕ) (o : Option BenchPath) (r : Flip) → decode u ≡ flippedBy c o → r .bench ≡ startOf x o → r .jobs ≡ lengthOf o → ChainsRebuilt u w s → IsClosing w (afterClosing c x o) r
 closes-by u w s c x none r b e m d = record { bytes = d .bytes ∙ ap encode b; fell = e; moved = m }
 closes-by u w s c x (some p) r b e m d =
     record { bytes = d .bytes ∙ ap encode b; fell = e; moved = m ∙ sym (length-map (p .route) (λ (s : Step). s .job)) }
 
 -- the job is taken off the board, the path turned, the chains made anew: the closing is done
-pub closing-settled : {t u v w : List ℕ} {s : Size} {j x : ℕ} {r : Turn} → HolderOf t s j x → Holds u s (put (decode t) j [] 0) → Turned u v s (closingChoice (decode u) x) (startOf x (closingChoice (decode u) x)) r → Settled v w s → Closes w (close (decode t) j) r
+pub closing-rebuilt : {t u v w : List ℕ} {s : Size} {j x : ℕ} {r : Flip} → HolderOf t s j x → Holds u s (put (decode t) j [] 0) → Flipped u v s (closingChoice (decode u) x) (startOf x (closingChoice (decode u) x)) r → ChainsRebuilt v w s → IsClosing w (close (decode t) j) r
 unfolding close
-closing-settled {t} {u} {v} {w} {s} {j} {x} {r} e a f d =
+closing-rebuilt {t} {u} {v} {w} {s} {j} {x} {r} e a f d =
     let c = put (decode t) j [] 0 in
-    let turned = turned-on (λ (b : Board). closingChoice b x) (startOf x) (a .board) f in
-    rw (sym (e .value)) (closes-by v w s c x (closingChoice c x) r (turned .0) (turned .1) (turned .2) d)
+    let flipped = flipped-on (λ (b : Board). closingChoice b x) (startOf x) (a .board) f in
+    rw (sym (e .value)) (closes-by v w s c x (closingChoice c x) r (flipped .0) (flipped .1) (flipped .2) d)

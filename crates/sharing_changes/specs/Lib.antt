@@ -1,2 +1,2 @@
 -- What arrival and closing leave.
-pub mod Changes
+pub mod ChangeResults

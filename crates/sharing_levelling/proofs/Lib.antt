@@ -1,2 +1,2 @@
 -- Paths turned one after the other.
-pub mod Turning
+pub mod Flipping

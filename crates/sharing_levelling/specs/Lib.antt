@@ -1,2 +1,2 @@
 -- What levelling leaves.
-pub mod Levels
+pub mod LevellingResult

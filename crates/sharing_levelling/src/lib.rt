@@ -5,11 +5,11 @@ ghost use lib.ListN.{length};
 ghost use Rattle.spec_sharing.specs.Sharing.{level};
 ghost use Rattle.spec_table.specs.Table.{mostJobs, decode};
 ghost use Rattle.table_size.specs.Sizes.{SoundTable};
-ghost use Rattle.table_board.specs.View.{Kept};
-ghost use Rattle.sharing_levelling.specs.Levels.{NextStart, LevellingOf};
+ghost use Rattle.table_board.specs.BoardView.{HoldsBoard};
+ghost use Rattle.sharing_levelling.specs.LevellingResult.{NextStart, LevellingOf};
 use graph_lists::scratch;
-use table_size::Size;
 use table_board::loads;
+use table_size::Size;
 
 // What levelling reports: the paths turned, and whether no improving path is left.
 pub struct Levelling {
@@ -17,8 +17,8 @@ pub struct Levelling {
     pub level: bool,
 }
 
-// The first bench of the path that levelling turns next, 0 where the board is level. Where there is one, `from`, `to` and `load` get the
-// board's arcs and loads.
+// Finds the first bench of the path that levelling flips next, 0 where the board is level. Where there is one,
+// `from`, `to` and `load` get the board's arcs and loads.
 fn next_start(
     t: &[u8],
     s: Size,
@@ -26,7 +26,7 @@ fn next_start(
     to: &mut [u16; Size::MOST_JOBS + 1],
     load: &mut [u16; Size::MOST_BENCHES + 1],
 ) -> usize
-    requires { ⌜ Kept (now t) s ⌝ }
+    requires { ⌜ HoldsBoard (now t) s ⌝ }
     requires { ⌜ length (now from) ≡ mostJobs + 1 ⌝ }
     requires { ⌜ length (now to) ≡ mostJobs + 1 ⌝ }
     ensures { λ r. ⌜ NextStart (decode (now (t .entry))) s (now (from .exit)) (now (to .exit)) (now (load .exit)) r ⌝ }
@@ -40,9 +40,9 @@ fn next_start(
     graph_start::first_start(s, from, to, load, range)
 }
 
-// Whether no improving path is left.
+// Tells whether no improving path is left.
 pub fn is_level(t: &[u8], s: Size) -> bool
-    requires { ⌜ Kept (now t) s ⌝ }
+    requires { ⌜ HoldsBoard (now t) s ⌝ }
     ensures { λ r. ⌜ r ≡ level (decode (now (t .entry))) ⌝ }
 {
     let mut from = scratch::jobs();
@@ -51,7 +51,7 @@ pub fn is_level(t: &[u8], s: Size) -> bool
     next_start(t, s, &mut from, &mut to, &mut load) == 0
 }
 
-// While an improving path is left and the allowance is not used up, one is turned.
+// Flips one path after the other, while an improving one is left and the allowance is not used up.
 pub fn relevel(t: &mut [u8], s: Size, allowance: u32) -> Levelling
     requires { ⌜ SoundTable (now t) s ⌝ }
     ensures { λ r. ⌜ LevellingOf (now (t .entry)) (now (t .exit)) allowance r ⌝ }
@@ -62,11 +62,11 @@ pub fn relevel(t: &mut [u8], s: Size, allowance: u32) -> Levelling
     let mut paths = 0;
     let mut x = next_start(t, s, &mut from, &mut to, &mut load);
     while x != 0 && paths < allowance {
-        sharing_paths_from::turn_from(t, s, &from, &to, &load, x);
+        sharing_paths_from::flip_from(t, s, &from, &to, &load, x);
         paths += 1;
         x = next_start(t, s, &mut from, &mut to, &mut load);
     }
-    table_chains::settle(t, s);
+    table_chains::rebuild_chains(t, s);
     Levelling {
         paths,
         level: x == 0,

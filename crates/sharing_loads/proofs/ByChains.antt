@@ -13,8 +13,8 @@ use Rattle.spec_lists.proofs.Counting.{count-most}
 use Rattle.table_size.specs.Sizes.{BenchIn, SoundTable}
 use Rattle.table_size.specs.declared.Size.{Size}
 use Rattle.table_chains.specs.Chains.{chainFrom, ChainOf, NextOf, Rest}
-use Rattle.table_board.proofs.Boards.{sound-kept}
-use Rattle.table_board.proofs.Counts.{holders-long}
+use Rattle.table_board.proofs.RecordsAsBoard.{sound-holds-board}
+use Rattle.table_board.proofs.LoadCounts.{holders-long}
 use Rattle.table_chains.proofs.ChainView.{chain-end, chain-load, rest-first, rest-next, rest-less}
 
 -- `count` jobs of bench x's chain were met, and those from job j on are left
@@ -34,15 +34,15 @@ module _ {t : List ℕ} {x count j : ℕ} (m : Met t x count j) where
   -- .. never more than there are ..
   pub met-few : {s : Size} → SoundTable t s → count ≤ mostJobs
   met-few {s} z =
-      omega (arith, m .sum, count-most x ((decode t) .holders), holders-long (sound-kept t s z), z .size .limits .jobs-most)
+      omega (arith, m .sum, count-most x ((decode t) .holders), holders-long (sound-holds-board t s z), z .size .limits .jobs-most)
 
   -- .. and in the end the whole load
   pub met-end : j ≡ 0 → count ≡ load ((decode t) .holders) x
   met-end e = omega (arith, m .sum, ap (λ (i : ℕ). length (chainFrom t i)) e, ap length (chain-end t))
 
 -- as the code takes n if it is more: p is the greater one of m and n
-abbrev pub Raised : ℕ → ℕ → ℕ → Type 0
-Raised m n p = ((m < n) × (p ≡ n)) ⊎ ((n ≤ m) × (p ≡ m))
+abbrev pub Maximum : ℕ → ℕ → ℕ → Type 0
+Maximum m n p = ((m < n) × (p ≡ n)) ⊎ ((n ≤ m) × (p ≡ m))
 
 -- `most` is the greatest value of f over 1 to `done`, which is not above n
 pub record Highest (n : ℕ) (f : ℕ → ℕ) (done most : ℕ) : Type 0 where
@@ -55,10 +55,10 @@ highest-start n f = record { few = omega arith; value = omega arith }
 
 module _ {n : ℕ} {f : ℕ → ℕ} {done most : ℕ} (h : Highest n f done most) where
   -- .. and over one more the greater one of two
-  pub highest-turn : {m p : ℕ} → done < n → m ≡ f (done + 1) → Raised most m p → Highest n f (done + 1) p
+  pub highest-turn : {m p : ℕ} → done < n → m ≡ f (done + 1) → Maximum most m p → Highest n f (done + 1) p
   highest-turn {m} {p} l e r = record { few = omega arith; value = rw add-one (go (rw add-one at e) r) }
     where
-      go : m ≡ f (suc done) → Raised most m p → p ≡ greatest (suc done) f
+      go : m ≡ f (suc done) → Maximum most m p → p ≡ greatest (suc done) f
       go e (inl w) = omega (arith, e, w .0, w .1, h .value)
       go e (inr w) = omega (arith, e, w .0, w .1, h .value)
 

@@ -5,14 +5,14 @@ ghost use Rattle.spec_table.specs.Table.{decode};
 ghost use Rattle.table_size.specs.Sizes.{BenchIn, SoundTable};
 use table_size::Size;
 
-// The load of bench x: the number of jobs on its chain.
+// Counts the jobs on bench x's chain: its load.
 pub fn load(t: &[u8], s: Size, x: usize) -> usize
     requires { ⌜ SoundTable (now t) s ⌝ }
     requires { ⌜ BenchIn s x ⌝ }
     ensures { λ r. ⌜ r ≡ load (decode (now (t .entry)) .holders) x ⌝ }
 {
     let mut count = 0;
-    let mut j = table_chains::first(t, s, x);
+    let mut j = table_chains::head(t, s, x);
     while j != 0 {
         count += 1;
         j = table_chains::next(t, s, j);
@@ -20,7 +20,7 @@ pub fn load(t: &[u8], s: Size, x: usize) -> usize
     count
 }
 
-// The heaviest load.
+// Finds the heaviest load, from bench 1 up.
 pub fn heaviest(t: &[u8], s: Size) -> usize
     requires { ⌜ SoundTable (now t) s ⌝ }
     ensures { λ r. ⌜ r ≡ heaviest (decode (now (t .entry))) ⌝ }

@@ -1,2 +1,2 @@
 -- What turning a path does.
-pub mod Turns
+pub mod Flips

@@ -1,85 +1,85 @@
 -- Marks as a set: counted, written to a list, and the tight set of a board.
 use Prim.Native.Nat.{ℕ, zero, suc, _+_, _*_, _/_, _%_, _≤_, _<_}
 use native.Mathlib.Omega.{arith}
-use mathlib.Core.Path.{_≡_, refl, sym, ap, subst, _∙_}
+use mathlib.Core.Path.{_≡_, refl, sym, ap, _∙_}
 use mathlib.Core.Logic.{_↔_}
-use mathlib.Core.Bool.{Bool, true, false, cond, not, false≢true}
+use mathlib.Core.Bool.{Bool, true, false, cond, not}
 use mathlib.Core.List.{List, [], _∷_, _++_, append-nil}
-use lib.Dec.{T, eqb}
-use lib.ListN.{length, getD, set, drop, replicate, length-append}
+use lib.Dec.{T}
+use lib.ListN.{length, set, drop, replicate, length-append}
 use lib.Seq.{getD-set-same, getD-set-other}
-use Rattle.spec_lists.specs.Lists.{bit, within, count, member, rising, total, keep, In}
-use Rattle.spec_table.specs.Board.{Board, Valid, load, Shares}
-use Rattle.spec_sharing.specs.Paths.{Step, stepBy, steps}
+use Rattle.spec_lists.specs.Lists.{bit, within, count, member, range, total, filter, In}
+use Rattle.spec_table.specs.Board.{Board, load}
+use Rattle.spec_sharing.specs.Paths.{Step, steps}
 use Rattle.spec_sharing.specs.Sharing.{tightSet, inside}
 use Rattle.spec_table.specs.Table.{mostBenches, mostJobs, decode, bytesOf}
-use Rattle.spec_lists.proofs.Basics.{true→T, false→not, never→false, Compared, same, other, compared, T-eqb, within-low, within-both, in-each, keep-in, member-in, Member, is-in, not-in, membered, member-marked, length-keep, length-rising}
-use Rattle.spec_table.proofs.Named.{length-shares}
-use Rattle.spec_lists.proofs.Counting.{bit-other, total-same, total-count, keep-counts}
-use Rattle.spec_sharing.proofs.Paths.{is-step}
-use Rattle.spec_sharing.proofs.Sets.{inside-skips, inside-counts}
-use Rattle.spec_table.proofs.Sound.{two-more, two-more-high}
-use Rattle.spec_sharing.proofs.TightSet.{tight-marked, tight-bench, tight-reached}
-use Rattle.spec_sharing.proofs.Walks.{Reach, reach-here, reach-more, reach-all}
+use Rattle.spec_lists.proofs.Tests.{true→T, false→not, Compared, same, other, compared, within-both}
+use Rattle.spec_lists.proofs.Elements.{length-filter}
+use Rattle.spec_lists.proofs.NumberLists.{member-marked, length-range}
+use Rattle.spec_lists.proofs.Counting.{total-same, filter-counts}
+use Rattle.spec_table.proofs.Places.{two-more, two-more-high}
+use Rattle.spec_sharing.proofs.Certificate.{loadIn}
+use Rattle.spec_sharing.proofs.TightSet.{tight-marked, tight-inside}
+use Rattle.spec_sharing.proofs.Walks.{Reach, reach-here, reach-all}
 use Rattle.table_words.specs.Bytes.{setWord}
 use Rattle.table_size.specs.Sizes.{Limits, BenchIn}
 use Rattle.table_size.specs.declared.Size.{Size}
 use Rattle.table_words.proofs.Bytes.{length-setWord}
 use Rattle.table_size.proofs.Sizes.{board-bench}
-use Rattle.table_board.specs.View.{Kept, Loaded}
-use Rattle.graph_lists.specs.Arrays.{at, Leads, LoadsIn}
+use Rattle.table_board.specs.BoardView.{HoldsBoard, Loaded}
+use Rattle.graph_lists.specs.Arrays.{at, HasArc, LoadsIn}
 use Rattle.graph_lists.specs.Keys.{LeastKey}
-use Rattle.graph_lists.specs.Lists.{ListedBy, Joins}
-use Rattle.graph_lists.proofs.Listing.{array-at, joins-leads}
-use Rattle.graph_search.proofs.Widening.{reached-same}
+use Rattle.graph_lists.specs.LinkedLists.{ListedBy, Adjacent}
+use Rattle.graph_lists.proofs.Listing.{array-at, adjacent-has-arc}
+use Rattle.graph_search.proofs.Expanding.{reached-same}
 use Rattle.sharing_arcs.specs.Arcs.{ArcsOf}
 use Rattle.sharing_arcs.proofs.AsArcs.{on-board, load-at, arcs-forth, step-arc, arcs-reach}
-use Rattle.sharing_visits.specs.Marks.{mark, Marks, Brings}
+use Rattle.sharing_visits.specs.Marks.{mark, Marks, ClosedOver}
 use Rattle.sharing_visits.proofs.Visiting.{marks-set}
-use Rattle.sharing_tight_set.specs.Sets.{AllMarked, marked, Measured, TightSet}
+use Rattle.sharing_tight_set.specs.MarkedSets.{AllMarked, marked, Measured, TightSet}
 use Rattle.sharing_tight_set.specs.declared.Extent.{Extent}
 
 -- what is marked of the benches 1 to n
 
 -- the numbers of 1 to n that pass the test
-abbrev pub kept : (ℕ → Bool) → ℕ → List ℕ
-kept p n = keep p (rising 1 n)
+abbrev pub passing : (ℕ → Bool) → ℕ → List ℕ
+passing p n = filter p (range 1 n)
 
 -- rising numbers end with the last
-rising-last : (i n last : ℕ) → last ≡ i + n → rising i (suc n) ≡ rising i n ++ (last ∷ [])
-rising-last i zero last e = ap (λ (x : ℕ). x ∷ []) (omega arith)
-rising-last i (suc n) last e = ap (λ (l : List ℕ). i ∷ l) (rising-last (suc i) n last (omega arith))
+range-last : (i n last : ℕ) → last ≡ i + n → range i (suc n) ≡ range i n ++ (last ∷ [])
+range-last i zero last e = ap (λ (x : ℕ). x ∷ []) (omega arith)
+range-last i (suc n) last e = ap (λ (l : List ℕ). i ∷ l) (range-last (suc i) n last (omega arith))
 
 -- of a list before another what passes comes first
-keep-append : (p : ℕ → Bool) (k l : List ℕ) → keep p (k ++ l) ≡ keep p k ++ keep p l
-keep-append p [] l = refl
-keep-append p (x ∷ k) l = go (p x) (keep-append p k l)
+filter-append : (p : ℕ → Bool) (k l : List ℕ) → filter p (k ++ l) ≡ filter p k ++ filter p l
+filter-append p [] l = refl
+filter-append p (x ∷ k) l = go (p x) (filter-append p k l)
   where
-    go : (z : Bool) → keep p (k ++ l) ≡ keep p k ++ keep p l → cond z (x ∷ keep p (k ++ l)) (keep p (k ++ l)) ≡ cond z (x ∷ keep p k) (keep p k) ++ keep p l
+    go : (z : Bool) → filter p (k ++ l) ≡ filter p k ++ filter p l → cond z (x ∷ filter p (k ++ l)) (filter p (k ++ l)) ≡ cond z (x ∷ filter p k) (filter p k) ++ filter p l
     go true e = ap (λ (m : List ℕ). x ∷ m) e
     go false e = e
 
 -- one number more: it comes last if it passes
-kept-next : (p : ℕ → Bool) (n : ℕ) → kept p (suc n) ≡ kept p n ++ cond (p (suc n)) (suc n ∷ []) []
-kept-next p n = ap (keep p) (rising-last 1 n (suc n) (omega arith)) ∙ keep-append p (rising 1 n) (suc n ∷ [])
+passing-next : (p : ℕ → Bool) (n : ℕ) → passing p (suc n) ≡ passing p n ++ cond (p (suc n)) (suc n ∷ []) []
+passing-next p n = ap (filter p) (range-last 1 n (suc n) (omega arith)) ∙ filter-append p (range 1 n) (suc n ∷ [])
 
 -- .. and then they are one more
-kept-counts : (p : ℕ → Bool) (n : ℕ) → length (kept p (suc n)) ≡ length (kept p n) + bit (p (suc n))
-kept-counts p n =
-    omega (arith, ap length (kept-next p n), length-append (kept p n) (keep p (suc n ∷ [])), keep-counts p (suc n) [])
+passing-counts : (p : ℕ → Bool) (n : ℕ) → length (passing p (suc n)) ≡ length (passing p n) + bit (p (suc n))
+passing-counts p n =
+    omega (arith, ap length (passing-next p n), length-append (passing p n) (filter p (suc n ∷ [])), filter-counts p (suc n) [])
 
 -- they are not more than n
-pub kept-few : (p : ℕ → Bool) (n : ℕ) → length (kept p n) ≤ n
-kept-few p n = omega (arith, length-keep p (rising 1 n), length-rising 1 n)
+pub passing-few : (p : ℕ → Bool) (n : ℕ) → length (passing p n) ≤ n
+passing-few p n = omega (arith, length-filter p (range 1 n), length-range 1 n)
 
 -- a wider range has no fewer
-kept-more : (p : ℕ → Bool) (n m : ℕ) → n ≤ m → length (kept p n) ≤ length (kept p m)
-kept-more p n zero l = let e : n ≡ 0 = omega arith in omega (arith, ap (λ (k : ℕ). length (kept p k)) e)
-kept-more p n (suc m) l = go (compared n (suc m)) (λ h. kept-more p n m h)
+passing-more : (p : ℕ → Bool) (n m : ℕ) → n ≤ m → length (passing p n) ≤ length (passing p m)
+passing-more p n zero l = let e : n ≡ 0 = omega arith in omega (arith, ap (λ (k : ℕ). length (passing p k)) e)
+passing-more p n (suc m) l = go (compared n (suc m)) (λ h. passing-more p n m h)
   where
-    go : {z : Bool} → Compared n (suc m) z → (n ≤ m → length (kept p n) ≤ length (kept p m)) → length (kept p n) ≤ length (kept p (suc m))
-    go (same e) ih = omega (arith, ap (λ (k : ℕ). length (kept p k)) e)
-    go (other d) ih = omega (arith, ih (omega arith), kept-counts p m)
+    go : {z : Bool} → Compared n (suc m) z → (n ≤ m → length (passing p n) ≤ length (passing p m)) → length (passing p n) ≤ length (passing p (suc m))
+    go (same e) ih = omega (arith, ap (λ (k : ℕ). length (passing p k)) e)
+    go (other d) ih = omega (arith, ih (omega arith), passing-counts p m)
 
 -- counting
 
@@ -91,7 +91,7 @@ markedLoad loads marks y = cond (mark marks y) (at loads y) 0
 pub record Measuring (loads : List ℕ) (marks : List Bool) (count jobs x : ℕ) : Type 0 where
   pub done : ℕ
   pub next : x ≡ suc done
-  pub counted : count ≡ length (kept (mark marks) done)
+  pub counted : count ≡ length (passing (mark marks) done)
   pub added : jobs ≡ total done (markedLoad loads marks)
 
 -- no bench is counted yet
@@ -106,7 +106,7 @@ measure-turn {loads} {marks} {count} {jobs} {x} count' jobs' m e f =
     record {
       done = suc (m .done);
       next = omega (arith, m .next);
-      counted = omega (arith, m .counted, kept-counts (mark marks) (m .done));
+      counted = omega (arith, m .counted, passing-counts (mark marks) (m .done));
       added = omega (arith, m .added);
     }
 
@@ -149,8 +149,8 @@ written-next (a ∷ b ∷ list) (v ∷ l) w h =
 pub record Writing (list₀ : List ℕ) (marks : List Bool) (list : List ℕ) (count x : ℕ) : Type 0 where
   pub done : ℕ
   pub next : x ≡ suc done
-  pub counted : count ≡ length (kept (mark marks) done)
-  pub bytes : list ≡ written list₀ (kept (mark marks) done)
+  pub counted : count ≡ length (passing (mark marks) done)
+  pub bytes : list ≡ written list₀ (passing (mark marks) done)
   pub long : length list ≡ length list₀
 
 -- no bench is written yet
@@ -161,100 +161,38 @@ write-start list marks = record { done = 0; next = refl; counted = refl; bytes =
 pub write-room : {list₀ : List ℕ} {marks : List Bool} {list : List ℕ} {count x : ℕ} (s : Size) → Writing list₀ marks list count x → mark marks x ≡ true → x ≤ s .benches → 2 * length (marked s marks) ≤ length list₀ → 2 * count + 1 < length list
 write-room {list₀} {marks} s m e l u =
     let f = ap bit (rw (m .next) at e) in
-    omega (arith, m .next, m .counted, m .long, kept-counts (mark marks) (m .done), kept-more (mark marks) (suc (m .done)) (s .benches) (omega (arith, m .next)))
+    omega (arith, m .next, m .counted, m .long, passing-counts (mark marks) (m .done), passing-more (mark marks) (suc (m .done)) (s .benches) (omega (arith, m .next)))
 
 -- bench x is written if it is marked
 pub write-turn : {list₀ : List ℕ} {marks : List Bool} {list : List ℕ} {count x : ℕ} (list' : List ℕ) (count' : ℕ) → Writing list₀ marks list count x → (mark marks x ≡ true → 2 * count + 1 < length list) → list' ≡ cond (mark marks x) (setWord list count x) list → count' ≡ count + bit (mark marks x) → Writing list₀ marks list' count' (x + 1)
 write-turn {list₀} {marks} {list} {count} {x} list' count' m room e f =
     let g = rw (m .next) at f in
-    let all : kept (mark marks) (suc (m .done)) ≡ before ++ cond (mark marks x) (x ∷ []) [] = rw (m .next) (kept-next (mark marks) (m .done)) in
+    let all : passing (mark marks) (suc (m .done)) ≡ before ++ cond (mark marks x) (x ∷ []) [] = rw (m .next) (passing-next (mark marks) (m .done)) in
     record {
       done = suc (m .done);
       next = omega (arith, m .next);
-      counted = omega (arith, m .counted, kept-counts (mark marks) (m .done));
-      bytes = e ∙ turned (mark marks x) refl ∙ ap (written list₀) (sym all);
-      long = ap length e ∙ length-turned (mark marks x) ∙ m .long;
+      counted = omega (arith, m .counted, passing-counts (mark marks) (m .done));
+      bytes = e ∙ stepped (mark marks x) refl ∙ ap (written list₀) (sym all);
+      long = ap length e ∙ length-stepped (mark marks x) ∙ m .long;
     }
   where
     before : List ℕ
-    before = kept (mark marks) (m .done)
+    before = passing (mark marks) (m .done)
 
-    length-turned : (z : Bool) → length (cond z (setWord list count x) list) ≡ length list
-    length-turned true = length-setWord list count x
-    length-turned false = refl
+    length-stepped : (z : Bool) → length (cond z (setWord list count x) list) ≡ length list
+    length-stepped true = length-setWord list count x
+    length-stepped false = refl
 
-    turned : (z : Bool) → mark marks x ≡ z → cond z (setWord list count x) list ≡ written list₀ (before ++ cond z (x ∷ []) [])
-    turned true q =
+    stepped : (z : Bool) → mark marks x ≡ z → cond z (setWord list count x) list ≡ written list₀ (before ++ cond z (x ∷ []) [])
+    stepped true q =
         rw (m .bytes, m .counted) (written-next list₀ before x (omega (arith, room q, m .counted, m .long)))
-    turned false q = m .bytes ∙ ap (written list₀) (sym (append-nil before))
+    stepped false q = m .bytes ∙ ap (written list₀) (sym (append-nil before))
 
 -- all benches are written
 pub write-end : {list₀ : List ℕ} {marks : List Bool} {list : List ℕ} {count x : ℕ} (s : Size) → Writing list₀ marks list count x → x ≡ s .benches + 1 → list ≡ bytesOf (marked s marks) ++ drop (2 * length (marked s marks)) list₀
 write-end s m e =
     let d : m .done ≡ s .benches = omega (arith, m .next) in
     rw d at (m .bytes)
-
--- the jobs inside a tight set
-
--- what passes a test is counted as before, and nothing else
-count-keep : (p : ℕ → Bool) (x : ℕ) (l : List ℕ) → count x (keep p l) ≡ cond (p x) (count x l) 0
-count-keep p x [] = go (p x)
-  where
-    go : (z : Bool) → count x [] ≡ cond z (count x []) 0
-    go true = refl
-    go false = refl
-count-keep p x (y ∷ l) = go (p y) (p x) (ap p) (count-keep p x l)
-  where
-    go : (z w : Bool) → (y ≡ x → z ≡ w) → count x (keep p l) ≡ cond w (count x l) 0 → count x (cond z (y ∷ keep p l) (keep p l)) ≡ cond w (bit (eqb y x) + count x l) 0
-    go true true f ih = omega arith
-    go true false f ih = omega (arith, bit-other y x (λ e. false≢true (sym (f e))))
-    go false true f ih = omega (arith, bit-other y x (λ e. false≢true (f e)))
-    go false false f ih = ih
-
--- the loads of the benches that pass a test are the jobs that such benches hold
-loads-held : (n : ℕ) (p : ℕ → Bool) (holders : List ℕ) → ((x : ℕ) → T (p x) → T (within 1 n x)) → total n (λ x. cond (p x) (load holders x) 0) ≡ length (keep p holders)
-loads-held n p holders w =
-    total-same n (λ x. cond (p x) (load holders x) 0) (λ x. count x (keep p holders)) (λ x l u. sym (count-keep p x holders))
-    ∙ total-count n (keep p holders) (in-each (λ x. T (within 1 n x)) (keep p holders) (λ x i. w x (keep-in p x holders i .1)))
-
--- row by row: if the jobs held in the set name benches of the set only, the jobs inside it are those held in it
-inside-held : (set : List ℕ) → (In 0 set → ⊥) → (named : List (List ℕ)) (holders : List ℕ) → Shares named holders → ((i y : ℕ) → In (getD holders i 0) set → In y (getD named i []) → In y set) → inside set named ≡ length (keep (λ h. member h set) holders)
-inside-held set none [] [] s f = refl
-inside-held set none [] (h ∷ holders) s f = absurd s
-inside-held set none (names ∷ named) [] s f = absurd s
-inside-held set none ([] ∷ named) (h ∷ holders) s f =
-    let out : member h set ≡ false = never→false (member h set) (λ t. none (subst (λ (x : ℕ). In x set) (T-eqb h 0 (s .0)) (member-in h set t))) in
-    omega (arith, inside-held set none named holders (s .1) (λ i. f (suc i)), keep-counts (λ h. member h set) h holders, ap bit out)
-inside-held set none ((x ∷ names) ∷ named) (h ∷ holders) s f =
-    go (membered h set) (inside-held set none named holders (s .1) (λ i. f (suc i)))
-  where
-    row : List ℕ
-    row = x ∷ names
-
-    go : {z : Bool} → Member h set z → inside set named ≡ length (keep (λ h. member h set) holders) → inside set (row ∷ named) ≡ length (cond z (h ∷ keep (λ h. member h set) holders) (keep (λ h. member h set) holders))
-    go (is-in i) ih = omega (arith, inside-counts set row named refl (in-each (λ y. In y set) row (λ y j. f 0 y i j)))
-    go (not-in out) ih = omega (arith, inside-skips set row named h (member-in h row (s .0)) out)
-
--- no job held in a tight set names a bench outside it
-tight-row : (b : Board) → Valid b → (h i y : ℕ) → In (getD (b .holders) i 0) (tightSet b h) → In y (getD (b .named) i []) → In y (tightSet b h)
-tight-row b v h i y j k = go (compared y x)
-  where
-    x : ℕ
-    x = getD (b .holders) i 0
-
-    go : {z : Bool} → Compared y x z → In y (tightSet b h)
-    go (same e) = rw e j
-    go (other d) =
-        let q = stepBy (suc i) y in
-        let r = (tight-reached b v h x) .0 j in
-        (tight-reached b v h y) .1 (r .0, r .1, r .2, reach-more (steps b) (r .0) x q (r .3) (is-step b x q refl k d (sym (length-shares (b .named) (b .holders) (v .shares)))))
-
--- so the jobs inside a tight set are its benches' loads
-tight-inside : (b : Board) → Valid b → (h : ℕ) → inside (tightSet b h) (b .named) ≡ total (b .benches) (λ x. cond (member x (tightSet b h)) (load (b .holders) x) 0)
-tight-inside b v h =
-    let set = tightSet b h in
-    inside-held set (λ i. let l = within-low 1 (b .benches) 0 (tight-bench b h 0 i) in omega arith) (b .named) (b .holders) (v .shares) (tight-row b v h)
-    ∙ sym (loads-held (b .benches) (λ x. member x set) (b .holders) (λ x t. tight-bench b h x (member-in x set t)))
 
 -- marking all
 
@@ -288,13 +226,13 @@ abbrev FromHeavy : Board → ℕ → ℕ → Type 0
 FromHeavy b h y = (x : ℕ) × T (within 1 (b .benches) x) × (h ≤ load (b .holders) x) × Reach (steps b) x y
 
 -- marks at exactly these benches of 1 to B are the tight set
-marks-tight : {t : List ℕ} {s : Size} (h : ℕ) (marks : List Bool) → Kept t s → ((y : ℕ) → T (within 1 ((decode t) .benches) y) → T (mark marks y) ↔ FromHeavy (decode t) h y) → marked s marks ≡ tightSet (decode t) h
+marks-tight : {t : List ℕ} {s : Size} (h : ℕ) (marks : List Bool) → HoldsBoard t s → ((y : ℕ) → T (within 1 ((decode t) .benches) y) → T (mark marks y) ↔ FromHeavy (decode t) h y) → marked s marks ≡ tightSet (decode t) h
 marks-tight {t} {s} h marks k f =
-    ap (λ (n : ℕ). keep (mark marks) (rising 1 n)) (sym (k .size .board-benches))
+    ap (λ (n : ℕ). filter (mark marks) (range 1 n)) (sym (k .size .board-benches))
     ∙ sym (tight-marked (decode t) (k .storable .valid) h (mark marks) f)
 
 -- where every bench has load h or more, all benches are the tight set
-pub all-tight : {t : List ℕ} {s : Size} {h r : ℕ} {loads : List ℕ} {marks : List Bool} → Kept t s → Loaded (decode t) loads → LeastKey s loads r → h ≤ r → AllMarked s marks → marked s marks ≡ tightSet (decode t) h
+pub all-tight : {t : List ℕ} {s : Size} {h r : ℕ} {loads : List ℕ} {marks : List Bool} → HoldsBoard t s → Loaded (decode t) loads → LeastKey s loads r → h ≤ r → AllMarked s marks → marked s marks ≡ tightSet (decode t) h
 all-tight {t} {s} {h} {r} {loads} {marks} k l m u a =
     marks-tight h marks k (λ y w. (λ i. own y w, λ i. a .bench y (board-bench y (k .size) w)))
   where
@@ -303,62 +241,66 @@ all-tight {t} {s} {h} {r} {loads} {marks} k l m u a =
         let b = board-bench y (k .size) w in
         (y, w, omega (arith, m .least y b, load-at k l b), reach-here (steps (decode t)) y)
 
--- what `mark_brought` has when its benches are marked
-pub record Found (t : List ℕ) (s : Size) (h : ℕ) (from to first next loads : List ℕ) (marks₀ marks : List Bool) : Type 0 where
-  pub kept : Kept t s
+-- what `mark-closure` has when its benches are marked
+pub record ClosureMarked (t : List ℕ) (s : Size) (h : ℕ) (from to head next loads : List ℕ) (marks₀ marks : List Bool) : Type 0 where
+  pub holdsBoard : HoldsBoard t s
   pub arcs : ArcsOf (decode t) s from to
-  pub listed : ListedBy (mostBenches + 1) (s .jobs) from first next
+  pub listed : ListedBy (mostBenches + 1) (s .jobs) from head next
   pub loaded : Loaded (decode t) loads
   pub blank : marks₀ ≡ replicate (mostBenches + 1) false
-  pub brought : Brings (Joins first next to) (λ x. BenchIn s x × (h ≤ at loads x)) marks₀ marks
+  pub closed : ClosedOver (Adjacent head next to) (λ x. BenchIn s x × (h ≤ at loads x)) marks₀ marks
 
-module _ {t : List ℕ} {s : Size} {h : ℕ} {from to first next loads : List ℕ} {marks₀ marks : List Bool} (f : Found t s h from to first next loads marks₀ marks) where
+module _ {t : List ℕ} {s : Size} {h : ℕ} {from to head next loads : List ℕ} {marks₀ marks : List Bool} (f : ClosureMarked t s h from to head next loads marks₀ marks) where
   -- every mark is new
   new : (y : ℕ) → T (not (mark marks₀ y))
   new y = false→not (mark marks₀ y) (array-at (mostBenches + 1) (f .blank) y)
 
   -- what is listed are these arcs
-  joined : (x y : ℕ) → Joins first next to x y ↔ Leads (s .jobs) from to x y
-  joined = joins-leads (f .kept .size .limits) (arcs-forth (f .kept) (f .arcs)) (f .listed)
+  joined : (x y : ℕ) → Adjacent head next to x y ↔ HasArc (s .jobs) from to x y
+  joined = adjacent-has-arc (f .holdsBoard .size .limits) (arcs-forth (f .holdsBoard) (f .arcs)) (f .listed)
 
   -- a step is a listed arc
-  step-joined : (x : ℕ) (q : Step) → In q (steps (decode t) x) → Joins first next to x (q .to)
-  step-joined x q i = let r = step-arc (f .kept) (f .arcs) x q i in (joined x (q .to)) .1 (q .job, r .0, r .1, r .2)
+  step-joined : (x : ℕ) (q : Step) → In q (steps (decode t) x) → Adjacent head next to x (q .to)
+  step-joined x q i = let r = step-arc (f .holdsBoard) (f .arcs) x q i in (joined x (q .to)) .1 (q .job, r .0, r .1, r .2)
 
   -- a marked bench is reached from one with load h or more ..
   marked-reached : (y : ℕ) → T (mark marks y) → FromHeavy (decode t) h y
   marked-reached y m =
-      let (x, (b, l), r) = f .brought .only y (new y) m in
-      let q = arcs-reach (f .kept) (f .arcs) x y (b .least) (reached-same (λ x y. (joined x y) .0) x y r) in
-      (x, on-board (f .kept) b, omega (arith, load-at (f .kept) (f .loaded) b), q)
+      let (x, (b, l), r) = f .closed .only y (new y) m in
+      let q = arcs-reach (f .holdsBoard) (f .arcs) x y (b .least) (reached-same (λ x y. (joined x y) .0) x y r) in
+      (x, on-board (f .holdsBoard) b, omega (arith, load-at (f .holdsBoard) (f .loaded) b), q)
 
   -- .. and each that is reached is marked
   reached-marked : (y : ℕ) → FromHeavy (decode t) h y → T (mark marks y)
   reached-marked y (x, w, l, r) = reach-all (steps (decode t)) (λ z. T (mark marks z)) on x y start r
     where
       on : (z : ℕ) (q : Step) → T (mark marks z) → In q (steps (decode t) z) → T (mark marks (q .to))
-      on z q m i = f .brought .shut z (q .to) (new z) m (step-joined z q i)
+      on z q m i = f .closed .shut z (q .to) (new z) m (step-joined z q i)
 
       start : T (mark marks x)
-      start = let b = board-bench x (f .kept .size) w in f .brought .every x (b, omega (arith, load-at (f .kept) (f .loaded) b))
+      start = let b = board-bench x (f .holdsBoard .size) w in f .closed .every x (b, omega (arith, load-at (f .holdsBoard) (f .loaded) b))
 
   -- so the marked benches are the tight set
   pub found-tight : marked s marks ≡ tightSet (decode t) h
-  found-tight = marks-tight h marks (f .kept) (λ y w. (marked-reached y, reached-marked y))
+  found-tight = marks-tight h marks (f .holdsBoard) (λ y w. (marked-reached y, reached-marked y))
 
-module _ {t : List ℕ} {s : Size} {loads : List ℕ} (h : ℕ) (marks : List Bool) (k : Kept t s) (l : Loaded (decode t) loads) (tight : marked s marks ≡ tightSet (decode t) h) where
+module _ {t : List ℕ} {s : Size} {loads : List ℕ} (h : ℕ) (marks : List Bool) (k : HoldsBoard t s) (l : Loaded (decode t) loads) (tight : marked s marks ≡ tightSet (decode t) h) where
   -- the loads of the marked benches are the jobs inside the tight set ..
   marked-inside : total (s .benches) (markedLoad loads marks) ≡ inside (tightSet (decode t) h) ((decode t) .named)
   marked-inside =
       ap (λ (n : ℕ). total n (markedLoad loads marks)) (sym (k .size .board-benches))
-      ∙ total-same ((decode t) .benches) (markedLoad loads marks) (λ x. cond (member x (tightSet (decode t) h)) (load ((decode t) .holders) x) 0) each
+      ∙ total-same ((decode t) .benches) (markedLoad loads marks) (loadIn (tightSet (decode t) h) ((decode t) .holders)) each
       ∙ sym (tight-inside (decode t) (k .storable .valid) h)
     where
-      each : (x : ℕ) → 1 ≤ x → x ≤ (decode t) .benches → markedLoad loads marks x ≡ cond (member x (tightSet (decode t) h)) (load ((decode t) .holders) x) 0
+      one : (z : Bool) (k : ℕ) → cond z k 0 ≡ bit z * k
+      one true k = omega arith
+      one false k = omega arith
+
+      each : (x : ℕ) → 1 ≤ x → x ≤ (decode t) .benches → markedLoad loads marks x ≡ loadIn (tightSet (decode t) h) ((decode t) .holders) x
       each x i u =
           let b = board-bench x (k .size) (within-both 1 ((decode t) .benches) x i u) in
           let e : member x (tightSet (decode t) h) ≡ mark marks x = ap (member x) (sym tight) ∙ member-marked (s .benches) (mark marks) x (within-both 1 (s .benches) x (b .least) (b .most)) in
-          rw (e, load-at k l b) refl
+          rw (e, load-at k l b) (one (mark marks x) (load ((decode t) .holders) x))
 
   -- .. so what is measured is the tight set's
   pub measured-tight : {r : Extent} → Measured s loads marks r → TightSet (decode t) s h marks r

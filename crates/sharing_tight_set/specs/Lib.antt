@@ -1,2 +1,2 @@
 -- What a tight set's marks promise.
-pub mod Sets
+pub mod MarkedSets

@@ -7,15 +7,15 @@ ghost use lib.ListN.{length, drop, replicate};
 ghost use Rattle.spec_table.specs.Table.{mostBenches, decode, bytesOf};
 ghost use Rattle.spec_sharing.specs.Sharing.{tightSet};
 ghost use Rattle.table_size.specs.Sizes.{Limits};
-ghost use Rattle.table_board.specs.View.{Kept, Loaded};
+ghost use Rattle.table_board.specs.BoardView.{HoldsBoard, Loaded};
 ghost use Rattle.graph_lists.specs.Arrays.{LoadsIn};
 ghost use Rattle.sharing_visits.specs.Marks.{Marks};
-ghost use Rattle.sharing_tight_set.specs.Sets.{AllMarked, marked, Measured, TightSet};
+ghost use Rattle.sharing_tight_set.specs.MarkedSets.{AllMarked, marked, Measured, TightSet};
 use graph_lists::keys;
 use graph_lists::lists;
 use graph_lists::scratch;
-use table_size::Size;
 use table_board::loads;
+use table_size::Size;
 
 // How many benches are in a set, and how many jobs they hold.
 pub struct Extent {
@@ -23,14 +23,14 @@ pub struct Extent {
     pub jobs: usize,
 }
 
-// No mark.
+// Makes marks of which none is set.
 pub fn unmarked() -> [bool; Size::MOST_BENCHES + 1]
     ensures { λ r. ⌜ r ≡ replicate (mostBenches + 1) false ⌝ }
 {
     [false; Size::MOST_BENCHES + 1]
 }
 
-// The number of marked benches, and their loads added up.
+// Counts the marked benches, and adds up their loads.
 fn measure(
     s: Size,
     loads: &[u16; Size::MOST_BENCHES + 1],
@@ -57,7 +57,7 @@ fn measure(
     }
 }
 
-// Every bench of 1 to B marked.
+// Marks every bench of 1 to B.
 fn mark_all(s: Size, marks: &mut [bool; Size::MOST_BENCHES + 1])
     requires { ⌜ Limits s ⌝ }
     requires { ⌜ Marks (now marks) ⌝ }
@@ -71,15 +71,15 @@ fn mark_all(s: Size, marks: &mut [bool; Size::MOST_BENCHES + 1])
     }
 }
 
-// The benches with load h or more, and what they bring in, marked.
-fn mark_brought(
+// Marks the benches with load h or more, and what they bring in.
+fn mark_closure(
     t: &[u8],
     s: Size,
     loads: &[u16; Size::MOST_BENCHES + 1],
     h: usize,
     marks: &mut [bool; Size::MOST_BENCHES + 1],
 )
-    requires { ⌜ Kept (now t) s ⌝ }
+    requires { ⌜ HoldsBoard (now t) s ⌝ }
     requires { ⌜ Loaded (decode (now t)) (now loads) ⌝ }
     requires { ⌜ now marks ≡ replicate (mostBenches + 1) false ⌝ }
     ensures { λ _. ⌜ marked s (now (marks .exit)) ≡ tightSet (decode (now (t .entry))) h ⌝ }
@@ -87,17 +87,17 @@ fn mark_brought(
     let mut from = scratch::jobs();
     let mut to = scratch::jobs();
     sharing_arcs::fill(t, s, &mut from, &mut to);
-    let mut first = scratch::benches();
+    let mut head = scratch::benches();
     let mut next = scratch::jobs();
-    lists::list_by(s.jobs(), &from, &mut first, &mut next);
-    sharing_visits::visit_heavy(s, &first, &next, &to, loads, h, marks);
+    lists::list_by(s.jobs(), &from, &mut head, &mut next);
+    sharing_visits::visit_heavy(s, &head, &next, &to, loads, h, marks);
 }
 
-// The tight set of height h, marked: the number of its benches and of the jobs inside. Where every bench has load h or more, it is all
-// benches, and no search is made. A job inside is held inside, and a job that a bench of the set holds is inside, so the loads are
-// counted and not the jobs.
+// Marks the tight set of height h; tells the number of its benches and of the jobs inside. Where every bench has
+// load h or more, it is all benches, and no search is made. A job inside is held inside, and a job that a bench of
+// the set holds is inside, so the loads are counted and not the jobs.
 pub fn tight_set(t: &[u8], s: Size, h: usize, marks: &mut [bool; Size::MOST_BENCHES + 1]) -> Extent
-    requires { ⌜ Kept (now t) s ⌝ }
+    requires { ⌜ HoldsBoard (now t) s ⌝ }
     requires { ⌜ now marks ≡ replicate (mostBenches + 1) false ⌝ }
     ensures { λ r. ⌜ TightSet (decode (now (t .entry))) s h (now (marks .exit)) r ⌝ }
 {
@@ -106,12 +106,12 @@ pub fn tight_set(t: &[u8], s: Size, h: usize, marks: &mut [bool; Size::MOST_BENC
     if h <= keys::least(s, &load) as usize {
         mark_all(s, marks);
     } else {
-        mark_brought(t, s, &load, h, marks);
+        mark_closure(t, s, &load, h, marks);
     }
     measure(s, &load, marks)
 }
 
-// The marked benches, rising, as words at the list's beginning.
+// Writes the marked benches, rising, as words at the list's beginning.
 pub fn write(s: Size, marks: &[bool; Size::MOST_BENCHES + 1], list: &mut [u8])
     requires { ⌜ Limits s ⌝ }
     requires { ⌜ 2 * length (marked s (now marks)) ≤ length (now list) ⌝ }

@@ -11,32 +11,32 @@ use lib.ListN.{length, set, length-set}
 use lib.Seq.{getD-set-same, getD-set-other}
 use Rattle.spec_lists.specs.Lists.{bit, within, total}
 use Rattle.spec_table.specs.Table.{mostBenches, mostJobs}
-use Rattle.spec_lists.proofs.Basics.{true→T, T→true, false→not, within-low, within-high, Compared, same, other, compared}
+use Rattle.spec_lists.proofs.Tests.{true→T, T→true, false→not, within-low, within-high, Compared, same, other, compared}
 use Rattle.spec_lists.proofs.Counting.{total-le, total-but-one}
 use Rattle.table_size.specs.Sizes.{BenchIn}
 use Rattle.table_size.specs.declared.Size.{Size}
 use Rattle.graph_lists.specs.Arrays.{at, Reached, here, step}
-use Rattle.graph_lists.specs.Lists.{On, head, tail, Joins, Ways}
+use Rattle.graph_lists.specs.LinkedLists.{On, onHead, onTail, Adjacent, AdjacencyLists}
 use Rattle.graph_lists.proofs.Listing.{on-some, on-next, on-most, left, left-less}
-use Rattle.sharing_visits.specs.Marks.{mark, Marks, OnChain, FromList, Brings}
+use Rattle.sharing_visits.specs.Marks.{mark, Marks, OnChain, FromList, ClosedOver}
 
 -- chains
 
-module _ {first next to : List ℕ} (w : Ways first next to) where
+module _ {head next to : List ℕ} (w : AdjacencyLists head next to) where
   -- a bench's chain begins with a job on it, or has none
-  pub chain-first : (x : ℕ) → T (within 1 mostBenches x) → OnChain first next (at first x)
-  chain-first x b = go (compared (at first x) 0)
+  pub chain-first : (x : ℕ) → T (within 1 mostBenches x) → OnChain head next (at head x)
+  chain-first x b = go (compared (at head x) 0)
     where
-      go : {z : Bool} → Compared (at first x) 0 z → OnChain first next (at first x)
+      go : {z : Bool} → Compared (at head x) 0 z → OnChain head next (at head x)
       go (same e) = inl e
-      go (other d) = inr (x, b, head (at first x) d)
+      go (other d) = inr (x, b, onHead (at head x) d)
 
-  module _ (j : ℕ) (o : OnChain first next j) where
+  module _ (j : ℕ) (o : OnChain head next j) where
     -- a number on a chain is a job's or 0 ..
     pub chain-most : j ≤ mostJobs
     chain-most = go o
       where
-        go : OnChain first next j → j ≤ mostJobs
+        go : OnChain head next j → j ≤ mostJobs
         go (inl e) = omega arith
         go (inr r) = on-most (w .heads (r .0) (r .1)) (λ i. w .rise (r .0) i (r .1)) (r .2)
 
@@ -46,10 +46,10 @@ module _ {first next to : List ℕ} (w : Ways first next to) where
       chain-leads = ⊎-elim (λ e. absurd (d e)) (λ r. w .leads (r .0) j (r .1) (r .2)) o
 
       -- .. the one after it is on the chain too, or it was the last ..
-      pub chain-next : OnChain first next (at next j)
+      pub chain-next : OnChain head next (at next j)
       chain-next = go (compared (at next j) 0) o
         where
-          go : {z : Bool} → Compared (at next j) 0 z → OnChain first next j → OnChain first next (at next j)
+          go : {z : Bool} → Compared (at next j) 0 z → OnChain head next j → OnChain head next (at next j)
           go (same e) p = inl e
           go (other n) (inl e) = absurd (d e)
           go (other n) (inr r) = inr (r .0, r .1, on-next (r .2) n)
@@ -111,7 +111,7 @@ unfolding falling
 falls-left marks marks' j i f r =
     omega (arith, mul-le-mul-right (mostJobs + 1) (unmarked-less mostBenches marks marks' f))
 
-module _ {first next to : List ℕ} (w : Ways first next to) (marks : List Bool) (j : ℕ) (o : OnChain first next j) (d : j ≢ 0) where
+module _ {head next to : List ℕ} (w : AdjacencyLists head next to) (marks : List Bool) (j : ℕ) (o : OnChain head next j) (d : j ≢ 0) where
   -- so a job's other bench ..
   pub falls-visit : falling marks 0 < falling marks j
   falls-visit = falls-left marks marks j 0 (λ y t. t) (left-less mostJobs j 0 d (chain-most w j o) (inl refl))
@@ -129,8 +129,8 @@ marks-set m x l = record { long = length-set m x true ∙ l .long }
 
 module _ {J : ℕ → ℕ → Type 0} where
   -- marked benches bring in nothing ..
-  brings-none : (P : ℕ → Type 0) (m : List Bool) → Marks m → ((y : ℕ) → P y → T (mark m y)) → Brings J P m m
-  brings-none P m l f =
+  closed-none : (P : ℕ → Type 0) (m : List Bool) → Marks m → ((y : ℕ) → P y → T (mark m y)) → ClosedOver J P m m
+  closed-none P m l f =
       record {
         long = l;
         grows = λ y t. t;
@@ -140,12 +140,12 @@ module _ {J : ℕ → ℕ → Type 0} where
       }
 
   -- .. nor does a single one
-  pub brings-marked : (x : ℕ) (m : List Bool) → Marks m → mark m x ≡ true → Brings J (λ y. y ≡ x) m m
-  brings-marked x m l e = brings-none (λ y. y ≡ x) m l (λ y i. true→T (mark m y) (ap (mark m) i ∙ e))
+  pub closed-marked : (x : ℕ) (m : List Bool) → Marks m → mark m x ≡ true → ClosedOver J (λ y. y ≡ x) m m
+  closed-marked x m l e = closed-none (λ y. y ≡ x) m l (λ y i. true→T (mark m y) (ap (mark m) i ∙ e))
 
   -- some benches, and then others
-  brings-both : (P Q R : ℕ → Type 0) (m m₁ m₂ : List Bool) → ((y : ℕ) → R y ↔ (P y ⊎ Q y)) → Brings J P m m₁ → Brings J Q m₁ m₂ → Brings J R m m₂
-  brings-both P Q R m m₁ m₂ f p q =
+  closed-both : (P Q R : ℕ → Type 0) (m m₁ m₂ : List Bool) → ((y : ℕ) → R y ↔ (P y ⊎ Q y)) → ClosedOver J P m m₁ → ClosedOver J Q m₁ m₂ → ClosedOver J R m m₂
+  closed-both P Q R m m₁ m₂ f p q =
       record {
         long = q .long;
         grows = λ y t. q .grows y (p .grows y t);
@@ -163,8 +163,8 @@ module _ {J : ℕ → ℕ → Type 0} where
       shut z y n t j false e = q .shut z y (false→not (mark m₁ z) e) t j
 
   -- the same benches, said otherwise
-  brings-same : (P Q : ℕ → Type 0) (m m' : List Bool) → ((y : ℕ) → Q y ↔ P y) → Brings J P m m' → Brings J Q m m'
-  brings-same P Q m m' f p =
+  closed-same : (P Q : ℕ → Type 0) (m m' : List Bool) → ((y : ℕ) → Q y ↔ P y) → ClosedOver J P m m' → ClosedOver J Q m m'
+  closed-same P Q m m' f p =
       record {
         long = p .long;
         grows = p .grows;
@@ -173,14 +173,14 @@ module _ {J : ℕ → ℕ → Type 0} where
         shut = p .shut;
       }
 
-module _ (first next to : List ℕ) where
+module _ (head next to : List ℕ) where
   -- a job on x's chain leads to y
   abbrev J : ℕ → ℕ → Type 0
-  J = Joins first next to
+  J = Adjacent head next to
 
   -- an unmarked bench: its own mark, and what its chain brings in
-  pub brings-chain : (x : ℕ) (m m' : List Bool) → x < length m → mark m x ≡ false → Brings J (FromList next to (at first x)) (set m x true) m' → Brings J (λ y. y ≡ x) m m'
-  brings-chain x m m' h e p =
+  pub closed-chain : (x : ℕ) (m m' : List Bool) → x < length m → mark m x ≡ false → ClosedOver J (FromList next to (at head x)) (set m x true) m' → ClosedOver J (λ y. y ≡ x) m m'
+  closed-chain x m m' h e p =
       record {
         long = p .long;
         grows = λ y t. p .grows y (kept y t (compared y x));
@@ -208,33 +208,33 @@ module _ (first next to : List ℕ) where
       shut z y n t j (other d) = p .shut z y (new z n d) t j
 
   -- a chain that has ended brings in nothing ..
-  pub brings-end : (j : ℕ) (m : List Bool) → Marks m → j ≡ 0 → Brings J (FromList next to j) m m
-  brings-end j m l e = brings-none (FromList next to j) m l (λ y i. absurd (on-some (i .1) e))
+  pub closed-end : (j : ℕ) (m : List Bool) → Marks m → j ≡ 0 → ClosedOver J (FromList next to j) m m
+  closed-end j m l e = closed-none (FromList next to j) m l (λ y i. absurd (on-some (i .1) e))
 
   -- .. and one with a job on it that job's other bench, and what the chain after it does
-  pub brings-job : (j : ℕ) (m m₁ m₂ : List Bool) → j ≢ 0 → Brings J (λ y. y ≡ at to j) m m₁ → Brings J (FromList next to (at next j)) m₁ m₂ → Brings J (FromList next to j) m m₂
-  brings-job j m m₁ m₂ d p q =
-      brings-both (λ y. y ≡ at to j) (FromList next to (at next j)) (FromList next to j) m m₁ m₂ (λ y. (λ r. split (r .0) y (r .2) (r .1), join y)) p q
+  pub closed-job : (j : ℕ) (m m₁ m₂ : List Bool) → j ≢ 0 → ClosedOver J (λ y. y ≡ at to j) m m₁ → ClosedOver J (FromList next to (at next j)) m₁ m₂ → ClosedOver J (FromList next to j) m m₂
+  closed-job j m m₁ m₂ d p q =
+      closed-both (λ y. y ≡ at to j) (FromList next to (at next j)) (FromList next to j) m m₁ m₂ (λ y. (λ r. split (r .0) y (r .2) (r .1), join y)) p q
     where
       split : (i y : ℕ) → at to i ≡ y → On next j i → (y ≡ at to j) ⊎ FromList next to (at next j) y
-      split i y e (head _ n) = inl (sym e)
-      split i y e (tail _ _ n o) = inr (i, o, e)
+      split i y e (onHead _ n) = inl (sym e)
+      split i y e (onTail _ _ n o) = inr (i, o, e)
 
       join : (y : ℕ) → (y ≡ at to j) ⊎ FromList next to (at next j) y → FromList next to j y
-      join y (inl e) = (j, head j d, sym e)
-      join y (inr r) = (r .0, tail j (r .0) d (r .1), r .2)
+      join y (inl e) = (j, onHead j d, sym e)
+      join y (inr r) = (r .0, onTail j (r .0) d (r .1), r .2)
 
 -- the benches with load h or more
 
 -- y is one of them, and comes before bench x
-abbrev pub Before : List ℕ → ℕ → ℕ → ℕ → Type 0
-Before loads h x y = (1 ≤ y) × (y < x) × (h ≤ at loads y)
+abbrev pub Passed : List ℕ → ℕ → ℕ → ℕ → Type 0
+Passed loads h x y = (1 ≤ y) × (y < x) × (h ≤ at loads y)
 
 -- those before bench x are in
 pub record Heavy (J : ℕ → ℕ → Type 0) (loads : List ℕ) (h benches : ℕ) (m₀ m : List Bool) (x : ℕ) : Type 0 where
   pub least : 1 ≤ x
   pub most : x ≤ benches + 1
-  pub brought : Brings J (Before loads h x) m₀ m
+  pub brought : ClosedOver J (Passed loads h x) m₀ m
 
 -- none yet ..
 pub heavy-start : {J : ℕ → ℕ → Type 0} (loads : List ℕ) (h benches : ℕ) (m : List Bool) → Marks m → Heavy J loads h benches m m 1
@@ -242,25 +242,25 @@ heavy-start loads h benches m l =
     record {
       least = omega arith;
       most = omega arith;
-      brought = brings-none (Before loads h 1) m l (λ y p. absurd (omega arith));
+      brought = closed-none (Passed loads h 1) m l (λ y p. absurd (omega arith));
     }
 
 module _ {J : ℕ → ℕ → Type 0} {loads : List ℕ} {h benches : ℕ} {m₀ m : List Bool} {x : ℕ} (v : Heavy J loads h benches m₀ m x) where
   module _ (u : x ≤ benches) where
     -- .. the next one has such a load ..
-    pub heavy-visit : (m' : List Bool) → h ≤ at loads x → Brings J (λ y. y ≡ x) m m' → Heavy J loads h benches m₀ m' (x + 1)
+    pub heavy-visit : (m' : List Bool) → h ≤ at loads x → ClosedOver J (λ y. y ≡ x) m m' → Heavy J loads h benches m₀ m' (x + 1)
     heavy-visit m' l p =
         record {
           least = omega arith;
           most = omega arith;
-          brought = brings-both (Before loads h x) (λ y. y ≡ x) (Before loads h (x + 1)) m₀ m m' (λ y. (λ b. split y b (compared y x), join y)) (v .brought) p;
+          brought = closed-both (Passed loads h x) (λ y. y ≡ x) (Passed loads h (x + 1)) m₀ m m' (λ y. (λ b. split y b (compared y x), join y)) (v .brought) p;
         }
       where
-        split : (y : ℕ) → Before loads h (x + 1) y → {z : Bool} → Compared y x z → Before loads h x y ⊎ (y ≡ x)
+        split : (y : ℕ) → Passed loads h (x + 1) y → {z : Bool} → Compared y x z → Passed loads h x y ⊎ (y ≡ x)
         split y b (same e) = inr e
         split y b (other d) = inl (b .0, omega arith, b .2)
 
-        join : (y : ℕ) → Before loads h x y ⊎ (y ≡ x) → Before loads h (x + 1) y
+        join : (y : ℕ) → Passed loads h x y ⊎ (y ≡ x) → Passed loads h (x + 1) y
         join y (inl b) = (b .0, omega arith, b .2)
         join y (inr e) = (omega (arith, v .least), omega arith, rw e l)
 
@@ -270,16 +270,16 @@ module _ {J : ℕ → ℕ → Type 0} {loads : List ℕ} {h benches : ℕ} {m₀
         record {
           least = omega arith;
           most = omega arith;
-          brought = brings-same (Before loads h x) (Before loads h (x + 1)) m₀ m (λ y. (λ b. before y b (compared y x), λ b. (b .0, omega arith, b .2))) (v .brought);
+          brought = closed-same (Passed loads h x) (Passed loads h (x + 1)) m₀ m (λ y. (λ b. before y b (compared y x), λ b. (b .0, omega arith, b .2))) (v .brought);
         }
       where
-        before : (y : ℕ) → Before loads h (x + 1) y → {z : Bool} → Compared y x z → Before loads h x y
+        before : (y : ℕ) → Passed loads h (x + 1) y → {z : Bool} → Compared y x z → Passed loads h x y
         before y b (same e) = absurd (omega (arith, ap (at loads) e))
         before y b (other d) = (b .0, omega arith, b .2)
 
   -- .. and at the end all are in
-  pub heavy-end : (s : Size) → benches ≡ s .benches → benches < x → Brings J (λ y. BenchIn s y × (h ≤ at loads y)) m₀ m
+  pub heavy-end : (s : Size) → benches ≡ s .benches → benches < x → ClosedOver J (λ y. BenchIn s y × (h ≤ at loads y)) m₀ m
   heavy-end s e u =
-      brings-same (Before loads h x) (λ y. BenchIn s y × (h ≤ at loads y)) m₀ m
+      closed-same (Passed loads h x) (λ y. BenchIn s y × (h ≤ at loads y)) m₀ m
       (λ y. (λ b. (b .0 .least, omega (arith, b .0 .most), b .1), λ b. (record { least = b .0; most = omega (arith, v .most) }, b .2)))
       (v .brought)

@@ -2,7 +2,7 @@
 use Prim.Native.Nat.{ℕ}
 use mathlib.Core.List.{List, [], _∷_, _++_, map}
 use lib.ListN.{replicate}
-use Rattle.spec_lists.specs.Lists.{rising}
+use Rattle.spec_lists.specs.Lists.{range}
 use Rattle.spec_table.specs.Table.{bytesOf, lengthFor, decode}
 use Rattle.spec_calls.specs.Answers.{Outcome, inNumbers}
 use Rattle.spec_calls.specs.Calls.{Call, blanking, arrival, closing, levelling, loadOf, heaviestLoad, tightSetOf, formCheck}
@@ -118,7 +118,7 @@ boards =
     ∷ whenCalled (blankedTable 2 3) (threeArrivals ++ (closing 2 ∷ []))
     (threeAnswers ++ (says (1 ∷ 1 ∷ []) ∷ [])) [] (2 ∷ 0 ∷ 1 ∷ [])
     -- ● Jobs 1 to 4 name 1 and 2, 1 and 3, 1 and 4, 1 and 5: loads 1, 0, 1, 1, 1.
-    ∷ whenCalled (blankedTable 5 4) (arrival 1 1 2 ∷ arrival 2 1 3 ∷ arrival 3 1 4 ∷ arrival 4 1 5 ∷ map loadOf (rising 1 5))
+    ∷ whenCalled (blankedTable 5 4) (arrival 1 1 2 ∷ arrival 2 1 3 ∷ arrival 3 1 4 ∷ arrival 4 1 5 ∷ map loadOf (range 1 5))
     (says (1 ∷ 1 ∷ 0 ∷ []) ∷ says (3 ∷ 3 ∷ 0 ∷ []) ∷ says (4 ∷ 4 ∷ 0 ∷ []) ∷ says (5 ∷ 5 ∷ 0 ∷ [])
     ∷ says (1 ∷ []) ∷ says (0 ∷ []) ∷ says (1 ∷ []) ∷ says (1 ∷ []) ∷ says (1 ∷ []) ∷ []) [] (1 ∷ 3 ∷ 4 ∷ 5 ∷ [])
     -- ● Bench 1 holds three jobs, all naming 1, 2: allowance 0 is stopped with 0 paths; 1 is level with 1.

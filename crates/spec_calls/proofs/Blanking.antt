@@ -7,13 +7,15 @@ use mathlib.Core.List.{List, [], flatMap}
 use lib.Dec.{T}
 use lib.ListN.{length, replicate, length-replicate, replicate-append-replicate}
 use borrow.Author.Tests.{ne-eqb}
-use Rattle.spec_lists.specs.Lists.{within, keep, empty}
+use Rattle.spec_lists.specs.Lists.{within, filter, empty}
 use Rattle.spec_table.specs.Board.{Board, Shares, namesFit}
 use Rattle.spec_table.specs.Table.{paired, mostBenches, mostJobs, sizesFit, firstHeld, entriesFrom, layoutOf, entryWords, flat, sound, decode, encode, blankTable, Storable}
 use Rattle.spec_calls.specs.Answers.{Outcome, blanked, refused, sizes}
 use Rattle.spec_calls.specs.Calls.{blanking}
-use Rattle.spec_lists.proofs.Basics.{true→T, each-replicate, values-replicate}
-use Rattle.spec_table.proofs.Sound.{sized}
+use Rattle.spec_lists.proofs.Tests.{true→T}
+use Rattle.spec_lists.proofs.Elements.{each-replicate}
+use Rattle.spec_lists.proofs.NumberLists.{values-replicate}
+use Rattle.spec_table.proofs.Places.{sized}
 use Rattle.spec_table.proofs.Encode.{encode-sound, decode-encode}
 
 -- a board without jobs
@@ -35,7 +37,7 @@ storable-empty benches jobs b j =
     }
 
 -- no job stands on it
-pub standing-empty : (n : ℕ) → length (keep {A = List ℕ} (λ names. not (empty names)) (replicate n [])) ≡ 0
+pub standing-empty : (n : ℕ) → length (filter {A = List ℕ} (λ names. not (empty names)) (replicate n [])) ≡ 0
 standing-empty zero = refl
 standing-empty (suc n) = standing-empty n
 

@@ -8,10 +8,10 @@ use Prim.Native.Nat.{ℕ}
 use lib.Dec.{T}
 use Rattle.spec_table.specs.Board.{Board}
 use Rattle.spec_table.specs.Table.{fits, sound, decode}
-use Rattle.spec_calls.specs.Answers.{Refusal, Answer, Condition, firstHolding, isRefused, settled}
+use Rattle.spec_calls.specs.Answers.{Refusal, Answer, Condition, firstHolding, isRefused, refusedOr}
 use Rattle.spec_calls.specs.Calls.{Call, arrival, closing, levelling, loadOf, heaviestLoad, tightSetOf, formCheck, levelCheck, formConditions, conditions, lentList, accepted, outcome, tightSetOutcome}
-use Rattle.spec_lists.proofs.Basics.{T→true}
-use Rattle.spec_table.proofs.Sound.{sound-fits}
+use Rattle.spec_lists.proofs.Tests.{T→true}
+use Rattle.spec_table.proofs.Clauses.{sound-fits}
 use Rattle.spec_calls.proofs.Refusals.{isQuestion, accepted-by}
 
 -- on a sound table refusals 1 and 2 do not apply
@@ -19,9 +19,9 @@ pub form-passes : (t : List ℕ) → T (sound t) → (cs : List Condition) → f
 form-passes t s cs = rw (T→true (fits t) (sound-fits t s), T→true (sound t) s)
 
 -- what is left of a call's outcome on a sound table
-pub sound-outcome : (c : Call) (t : List ℕ) → T (sound t) → outcome c t ≡ settled (firstHolding (conditions c (decode t))) t (lentList c) (accepted c t (decode t))
+pub sound-outcome : (c : Call) (t : List ℕ) → T (sound t) → outcome c t ≡ refusedOr (firstHolding (conditions c (decode t))) t (lentList c) (accepted c t (decode t))
 unfolding outcome
-sound-outcome c t s = ap (λ o. settled o t (lentList c) (accepted c t (decode t))) (form-passes t s (conditions c (decode t)))
+sound-outcome c t s = ap (λ o. refusedOr o t (lentList c) (accepted c t (decode t))) (form-passes t s (conditions c (decode t)))
 
 -- an accepted call's answer is the board's
 accepted-answer : (c : Call) (t u : List ℕ) (b : Board) → (accepted c t b) .answer ≡ (accepted c u b) .answer
@@ -41,9 +41,9 @@ answer-order-free c t u s r e =
     ap (λ o. o .answer) (sound-outcome c t s) ∙ ap answerOn e ∙ other (firstHolding (conditions c (decode u))) ∙ ap (λ o. o .answer) (sym (sound-outcome c u r))
   where
     answerOn : Board → Answer
-    answerOn b = (settled (firstHolding (conditions c b)) t (lentList c) (accepted c t b)) .answer
+    answerOn b = (refusedOr (firstHolding (conditions c b)) t (lentList c) (accepted c t b)) .answer
 
-    other : (o : Option Refusal) → (settled o t (lentList c) (accepted c t (decode u))) .answer ≡ (settled o u (lentList c) (accepted c u (decode u))) .answer
+    other : (o : Option Refusal) → (refusedOr o t (lentList c) (accepted c t (decode u))) .answer ≡ (refusedOr o u (lentList c) (accepted c u (decode u))) .answer
     other none = accepted-answer c t u (decode u)
     other (some k) = refl
 

@@ -14,16 +14,17 @@ use Rattle.spec_calls.specs.Answers.{Answer, Outcome, isRefused}
 use Rattle.spec_calls.specs.Calls.{Call, arrival, closing, levelling, loadOf, heaviestLoad, tightSetOf, formCheck, levelCheck, blanking, outcome, arrivalOutcome, closingOutcome, levellingOutcome}
 use Rattle.spec_sharing.specs.Demand2.{Demand2}
 use Rattle.spec_calls.specs.JobBook.{Book, entered, tableAfter, OneLoad, Runs, AsDefined, Start, fromBlank, fromLevel, Claim, Demand3}
-use Rattle.spec_lists.proofs.Basics.{true→T}
+use Rattle.spec_lists.proofs.Tests.{true→T}
 use Rattle.spec_sharing.proofs.Paths.{jobless-level}
-use Rattle.spec_table.proofs.Sound.{sized, sound-storable}
+use Rattle.spec_table.proofs.Places.{sized}
+use Rattle.spec_table.proofs.Sound.{sound-storable}
 use Rattle.spec_calls.proofs.Blanking.{emptyBoard, storable-empty, blank-sound, blank-decodes}
 use Rattle.spec_calls.proofs.Refusals.{isQuestion}
 use Rattle.spec_calls.proofs.JobBook.{refused-enters, question-enters}
 use Rattle.spec_sharing.proofs.Levels.{level-least, level-demand2}
 use Rattle.spec_sharing.proofs.KeepsLevel.{arrival-keeps-level, closing-keeps-level}
 use Rattle.spec_sharing.proofs.Levelling.{level-rests}
-use Rattle.spec_calls.proofs.Outcomes.{Written, Arrives, Closes, Relevelled, Left, by-call}
+use Rattle.spec_calls.proofs.Outcomes.{Written, AcceptedArrival, AcceptedClosing, Relevelled, Left, by-call}
 
 -- what a call leaves of a sound level table: such a table again, its jobs as the book has them, one load changed as the answer says
 record Carried (c : Call) (t : List ℕ) (o : Outcome) : Type 0 where
@@ -65,7 +66,7 @@ module _ (t : List ℕ) (s : T (sound t)) (l : T (level (decode t))) where
   v : Valid (decode t)
   v = (sound-storable t s) .valid
 
-  carried-arrival : (j x y : ℕ) → Arrives t j x y (arrive (decode t) j (x ∷ y ∷ [])) → Carried (arrival j x y) t (outcome (arrival j x y) t)
+  carried-arrival : (j x y : ℕ) → AcceptedArrival t j x y (arrive (decode t) j (x ∷ y ∷ [])) → Carried (arrival j x y) t (outcome (arrival j x y) t)
   unfolding arrivalOutcome
   carried-arrival j x y a =
       let c = arrive (decode t) j (x ∷ y ∷ []) in
@@ -74,7 +75,7 @@ module _ (t : List ℕ) (s : T (sound t)) (l : T (level (decode t))) where
       (arrival-keeps-level (decode t) v l j (x ∷ y ∷ []) (m .number) (m .free) tt (m .fit))
       (a .does .benches) (a .does .named) (λ n. (holderOf (c .board) j, c .bench, length (c .moved), refl, a .rose))
 
-  carried-closing : (j : ℕ) → Closes t j (close (decode t) j) → Carried (closing j) t (outcome (closing j) t)
+  carried-closing : (j : ℕ) → AcceptedClosing t j (close (decode t) j) → Carried (closing j) t (outcome (closing j) t)
   unfolding closingOutcome
   carried-closing j a =
       let c = close (decode t) j in

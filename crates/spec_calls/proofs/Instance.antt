@@ -6,7 +6,7 @@ use mathlib.Core.List.{List, [], _∷_, map, flatMap}
 use lib.ListN.{replicate}
 use Rattle.spec_table.specs.Board.{heaviest}
 use Rattle.spec_sharing.specs.Paths.{steps, pathsFrom, improves, improvingFrom, improving, improvingTo, flip}
-use Rattle.spec_sharing.specs.Sharing.{arrivalChoice, closingChoice, levellingChoice, arrive, close, level, widen, tightSet}
+use Rattle.spec_sharing.specs.Sharing.{arrivalChoice, closingChoice, levellingChoice, arrive, close, level, closureRound, tightSet}
 use Rattle.spec_table.specs.Table.{sizesFit, layout, fits, formed, sound, boardOf, decode, flat, layoutOf, encode, blankTable, bytesOf}
 use Rattle.spec_calls.specs.Answers.{inNumbers}
 use Rattle.spec_calls.specs.Calls.{Call, arrival, closing, levelling, loadOf, heaviestLoad, tightSetOf, formCheck, levelCheck, conditions, arrivalOutcome, closingOutcome, levellingOutcome, tightSetOutcome, accepted, outcome}
@@ -60,17 +60,17 @@ lowerCalls =
     ∷ arrival 6 1 2 ∷ arrival 7 2 3 ∷ arrival 8 1 2 ∷ arrival 9 1 3 ∷ closing 6 ∷ []
 
 -- what a run says: its answers in numbers, the book after it, and a tally that started at zero
-pub record Told : Type 0 where
+pub record RunsTold : Type 0 where
   pub answers : List (List ℕ)
   pub book : Book
   pub tally : Tally
 
-abbrev told : List ℕ → Book → List Call → Told
+abbrev told : List ℕ → Book → List Call → RunsTold
 told t k cs =
     let os = run t cs in
     record { answers = map (λ o. inNumbers (o .answer)) os; book = bookAfter k cs (refusedEach os); tally = tallyAfter zeroTally os }
 
-abbrev expected : List Told
+abbrev expected : List RunsTold
 expected =
     record {
       answers =
@@ -98,10 +98,10 @@ expected =
 
 -- the three runs say that
 pub runs-told : told (blankTable 3 4) (replicate 4 []) blankCalls ∷ told falling fallingBook fallingCalls ∷ told (blankTable 5 9) (replicate 9 []) lowerCalls ∷ [] ≡ expected
-unfolding flatMap heaviest sizesFit layout formed fits sound boardOf decode layoutOf flat encode blankTable steps pathsFrom improves improvingFrom improving improvingTo flip arrivalChoice closingChoice levellingChoice arrive close level widen tightSet conditions arrivalOutcome closingOutcome levellingOutcome tightSetOutcome accepted outcome noted
+unfolding flatMap heaviest sizesFit layout formed fits sound boardOf decode layoutOf flat encode blankTable steps pathsFrom improves improvingFrom improving improvingTo flip arrivalChoice closingChoice levellingChoice arrive close level closureRound tightSet conditions arrivalOutcome closingOutcome levellingOutcome tightSetOutcome accepted outcome noted
 runs-told = refl
 
 -- no count is full, as the tally's equality asks
 pub blank-no-nine : NoNine zeroTally (run (blankTable 3 4) blankCalls)
-unfolding flatMap heaviest sizesFit layout formed fits sound boardOf decode layoutOf flat encode blankTable steps pathsFrom improves improvingFrom improving improvingTo flip arrivalChoice closingChoice levellingChoice arrive close level widen tightSet conditions arrivalOutcome closingOutcome levellingOutcome tightSetOutcome accepted outcome noted
+unfolding flatMap heaviest sizesFit layout formed fits sound boardOf decode layoutOf flat encode blankTable steps pathsFrom improves improvingFrom improving improvingTo flip arrivalChoice closingChoice levellingChoice arrive close level closureRound tightSet conditions arrivalOutcome closingOutcome levellingOutcome tightSetOutcome accepted outcome noted
 blank-no-nine = (refl, (refl, (refl, (refl, (refl, (refl, (refl, (refl, (refl, (refl, (refl, (refl, (refl, (refl, (refl, (refl, (refl, tt)))))))))))))))))

@@ -9,7 +9,7 @@ use lib.ListN.{length}
 use Rattle.spec_lists.specs.Lists.{nth}
 use Rattle.spec_calls.specs.Calls.{Call, arrival, closing, levelling, loadOf, heaviestLoad, tightSetOf, formCheck, levelCheck}
 use Rattle.spec_calls.specs.JobBook.{Book, entered}
-use Rattle.spec_lists.proofs.Basics.{nth-change-same, nth-change-other}
+use Rattle.spec_lists.proofs.Elements.{nth-update-same, nth-update-other}
 use Rattle.spec_calls.proofs.Refusals.{isQuestion}
 
 -- what a call does to the number j of the book: it holds these benches now, and no other number changes
@@ -20,11 +20,11 @@ pub record Writes (before after : Book) (j : ℕ) (benches : List ℕ) : Type 0 
 -- "An accepted arrival writes its benches under its job number."
 pub arrival-enters : (j x y : ℕ) (k : Book) → Writes k (entered (arrival j x y) false k) j (x ∷ y ∷ [])
 arrival-enters j x y k =
-    record { here = nth-change-same k j (x ∷ y ∷ []) []; elsewhere = λ i n. nth-change-other k j i (x ∷ y ∷ []) [] n }
+    record { here = nth-update-same k j (x ∷ y ∷ []) []; elsewhere = λ i n. nth-update-other k j i (x ∷ y ∷ []) [] n }
 
 -- "An accepted closing empties its number."
 pub closing-enters : (j : ℕ) (k : Book) → Writes k (entered (closing j) false k) j []
-closing-enters j k = record { here = nth-change-same k j [] []; elsewhere = λ i n. nth-change-other k j i [] [] n }
+closing-enters j k = record { here = nth-update-same k j [] []; elsewhere = λ i n. nth-update-other k j i [] [] n }
 
 -- "A refused call [..] change[s] nothing in it" ..
 pub refused-enters : (c : Call) (k : Book) → entered c true k ≡ k

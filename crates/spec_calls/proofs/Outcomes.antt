@@ -2,20 +2,20 @@
 use Prim.Native.Nat.{ℕ, _≤_}
 use mathlib.Core.Path.{_≡_, refl, sym, ap, subst, _∙_}
 use mathlib.Core.Logic.{_⊎_, inl, inr}
-use mathlib.Core.Bool.{Bool, true, false, cond, not, _||_}
+use mathlib.Core.Bool.{Bool, true, false, cond, _||_}
 use mathlib.Core.List.{List, [], _∷_}
 use mathlib.Core.Option.{Option, none, some}
 use lib.Dec.{T, eqb}
 use lib.ListN.{length}
 use borrow.Author.Tests.{eqb-false}
 use Rattle.spec_lists.specs.Lists.{within, Each}
-use Rattle.spec_table.specs.Board.{Board, stands, namesFit}
+use Rattle.spec_table.specs.Board.{Board, stands}
 use Rattle.spec_table.specs.Table.{paired, sound, decode, encode, Storable}
 use Rattle.spec_sharing.specs.Sharing.{Change, arrive, close, Levelled, relevel, level}
-use Rattle.spec_calls.specs.Answers.{Refusal, Outcome, firstHolding, isRefused, settled, levelYes, levelNo, levelled, stopped}
-use Rattle.spec_calls.specs.Calls.{Call, arrival, closing, levelling, loadOf, heaviestLoad, tightSetOf, formCheck, levelCheck, noBench, conditions, lentList, accepted, outcome, arrivalOutcome, closingOutcome, levellingOutcome, tightSetOutcome}
+use Rattle.spec_calls.specs.Answers.{Refusal, Outcome, firstHolding, isRefused, refusedOr, levelYes, levelNo, levelled, stopped}
+use Rattle.spec_calls.specs.Calls.{MayArrive, Call, arrival, closing, levelling, loadOf, heaviestLoad, tightSetOf, formCheck, levelCheck, noBench, conditions, lentList, accepted, outcome, arrivalOutcome, closingOutcome, levellingOutcome, tightSetOutcome}
 use Rattle.spec_sharing.specs.Demand2.{OneMore}
-use Rattle.spec_lists.proofs.Basics.{not-false, neither, false→not}
+use Rattle.spec_lists.proofs.Tests.{not-false, neither, false→not}
 use Rattle.spec_table.proofs.Named.{pair-fits, resized, changed-storable}
 use Rattle.spec_calls.proofs.Refusals.{accepted-by, accepted-answers, isQuestion, question-leaves}
 use Rattle.spec_calls.proofs.ChainOrder.{sound-outcome}
@@ -36,12 +36,6 @@ written-as : {u : List ℕ} (b : Board) → Storable b → u ≡ encode b → Wr
 written-as b s e =
     subst (λ (u : List ℕ). Written u b) (sym e) (record { sound = encode-sound b s; board = decode-encode b s })
 
--- what lets an arrival of job j for benches x and y through
-pub record MayArrive (b : Board) (j x y : ℕ) : Type 0 where
-  pub number : T (within 1 (length (b .named)) j)
-  pub free : T (not (stands b j))
-  pub fit : T (namesFit (b .benches) (x ∷ y ∷ []))
-
 may-arrive : (b : Board) (j x y : ℕ) → Each (λ k. k .holds ≡ false) (conditions (arrival j x y) b) → MayArrive b j x y
 unfolding conditions
 may-arrive b j x y e =
@@ -60,7 +54,7 @@ unfolding conditions
 may-close b j e = not-false (stands b j) (e .1 .0)
 
 -- what an accepted arrival leaves of a sound table: one bench's load rose by one, the one in the answer, and the number of moved jobs is true
-pub record Arrives (t : List ℕ) (j x y : ℕ) (c : Change) : Type 0 where
+pub record AcceptedArrival (t : List ℕ) (j x y : ℕ) (c : Change) : Type 0 where
   pub may : MayArrive (decode t) j x y
   pub is : outcome (arrival j x y) t ≡ arrivalOutcome j c
   pub writes : Written ((outcome (arrival j x y) t) .table) (c .board)
@@ -68,7 +62,7 @@ pub record Arrives (t : List ℕ) (j x y : ℕ) (c : Change) : Type 0 where
   pub rose : OneMore ((decode t) .benches) ((decode t) .holders) ((c .board) .holders) (c .bench)
 
 -- an accepted arrival on any sound table
-pub arrival-accepted : (t : List ℕ) → T (sound t) → (j x y : ℕ) → isRefused ((outcome (arrival j x y) t) .answer) ≡ false → Arrives t j x y (arrive (decode t) j (x ∷ y ∷ []))
+pub arrival-accepted : (t : List ℕ) → T (sound t) → (j x y : ℕ) → isRefused ((outcome (arrival j x y) t) .answer) ≡ false → AcceptedArrival t j x y (arrive (decode t) j (x ∷ y ∷ []))
 unfolding accepted arrivalOutcome
 arrival-accepted t s j x y n =
     let a = accepted-by (arrival j x y) t n in
@@ -85,7 +79,7 @@ arrival-accepted t s j x y n =
     }
 
 -- what an accepted closing leaves: one bench's load fell by one
-pub record Closes (t : List ℕ) (j : ℕ) (c : Change) : Type 0 where
+pub record AcceptedClosing (t : List ℕ) (j : ℕ) (c : Change) : Type 0 where
   pub stood : T (stands (decode t) j)
   pub is : outcome (closing j) t ≡ closingOutcome c
   pub writes : Written ((outcome (closing j) t) .table) (c .board)
@@ -93,7 +87,7 @@ pub record Closes (t : List ℕ) (j : ℕ) (c : Change) : Type 0 where
   pub fell : OneMore ((decode t) .benches) ((c .board) .holders) ((decode t) .holders) (c .bench)
 
 -- an accepted closing on any sound table
-pub closing-accepted : (t : List ℕ) → T (sound t) → (j : ℕ) → isRefused ((outcome (closing j) t) .answer) ≡ false → Closes t j (close (decode t) j)
+pub closing-accepted : (t : List ℕ) → T (sound t) → (j : ℕ) → isRefused ((outcome (closing j) t) .answer) ≡ false → AcceptedClosing t j (close (decode t) j)
 unfolding accepted closingOutcome
 closing-accepted t s j n =
     let a = accepted-by (closing j) t n in
@@ -151,7 +145,7 @@ pub record Left (t : List ℕ) (c : Call) (o : Outcome) : Type 0 where
   pub idle : (isRefused (o .answer) ≡ true) ⊎ T (isQuestion c)
 
 -- every call on a sound table is one of four: an accepted arrival, an accepted closing, a levelling, or one that leaves the table
-module _ (t : List ℕ) (s : T (sound t)) (P : Call → Type 0) (arrives : (j x y : ℕ) → Arrives t j x y (arrive (decode t) j (x ∷ y ∷ [])) → P (arrival j x y)) (closes : (j : ℕ) → Closes t j (close (decode t) j) → P (closing j)) (levels : (allowance : ℕ) → Relevelled t allowance (relevel allowance (decode t)) → P (levelling allowance)) (leaves : (c : Call) → Left t c (outcome c t) → P c) where
+module _ (t : List ℕ) (s : T (sound t)) (P : Call → Type 0) (arrives : (j x y : ℕ) → AcceptedArrival t j x y (arrive (decode t) j (x ∷ y ∷ [])) → P (arrival j x y)) (closes : (j : ℕ) → AcceptedClosing t j (close (decode t) j) → P (closing j)) (levels : (allowance : ℕ) → Relevelled t allowance (relevel allowance (decode t)) → P (levelling allowance)) (leaves : (c : Call) → Left t c (outcome c t) → P c) where
   asked : (c : Call) → T (isQuestion c) → outcome c t ≡ accepted c t (decode t) → isChange ((accepted c t (decode t)) .answer) ≡ false → P c
   asked c q e n =
       leaves c (record { table = question-leaves c t q; quiet = ap (λ o. isChange (o .answer)) e ∙ n; idle = inr q })
@@ -174,8 +168,8 @@ module _ (t : List ℕ) (s : T (sound t)) (P : Call → Type 0) (arrives : (j x 
   pub by-call : (c : Call) → P c
   by-call c = go (firstHolding (conditions c (decode t))) refl
     where
-      is : (o : Option Refusal) → firstHolding (conditions c (decode t)) ≡ o → outcome c t ≡ settled o t (lentList c) (accepted c t (decode t))
-      is o e = sound-outcome c t s ∙ ap (λ o. settled o t (lentList c) (accepted c t (decode t))) e
+      is : (o : Option Refusal) → firstHolding (conditions c (decode t)) ≡ o → outcome c t ≡ refusedOr o t (lentList c) (accepted c t (decode t))
+      is o e = sound-outcome c t s ∙ ap (λ o. refusedOr o t (lentList c) (accepted c t (decode t))) e
 
       go : (o : Option Refusal) → firstHolding (conditions c (decode t)) ≡ o → P c
       go none e = by-accepted c (is none e)

@@ -14,9 +14,10 @@ use Rattle.spec_table.specs.Board.{load, heaviest, excess}
 use Rattle.spec_table.specs.Table.{mostBenches, words, bytesOf, fits, sound, decode}
 use Rattle.spec_sharing.specs.Paths.{BenchPath, IsPath, improves}
 use Rattle.spec_sharing.specs.Sharing.{level, tightSet, inside, density}
-use Rattle.spec_calls.specs.Answers.{Refusal, firstHolding, isRefused, refuse, settled, refused, sizes, unsound, benchNumber, height, listTooShort, loadIs, heaviestIs, tightSetIs, isSound, levelYes, levelNo}
+use Rattle.spec_calls.specs.Answers.{Refusal, firstHolding, isRefused, refuse, refusedOr, refused, sizes, unsound, benchNumber, height, listTooShort, loadIs, heaviestIs, tightSetIs, isSound, levelYes, levelNo}
 use Rattle.spec_calls.specs.Calls.{loadOf, heaviestLoad, tightSetOf, formCheck, levelCheck, conditions, answering, accepted, outcome, tightSetOutcome}
-use Rattle.spec_lists.proofs.Basics.{or-left, or-right, eqb-T, within-high, in-each, neither, true→T, T→true, never→false}
+use Rattle.spec_lists.proofs.Tests.{or-left, or-right, eqb-T, within-high, neither, true→T, T→true, never→false}
+use Rattle.spec_lists.proofs.Elements.{in-each}
 use Rattle.spec_table.proofs.Sound.{sound-storable}
 use Rattle.spec_sharing.proofs.Paths.{level-exact, unlevel-improves}
 use Rattle.spec_sharing.proofs.Levels.{level-demand2, tight-density}
@@ -106,8 +107,8 @@ module _ (t : List ℕ) (s : T (sound t)) where
       (record { benches = ap (take (length set)) (words-append set rest (set-small h)) ∙ take-at set (words rest) (length set) refl; beyond = drop-at (bytesOf set) rest (2 * length set) (length-bytesOf set); long = length-append (bytesOf set) rest ∙ omega (arith, length-bytesOf set, length-drop (2 * length set) list) })
 
   -- "On a level table, inside jobs less (h − 1) × benches is the overhang above h − 1."
-  pub tight-overhang : T (level (decode t)) → (h : ℕ) (list : List ℕ) (n i : ℕ) → (outcome (tightSetOf h list) t) .answer ≡ tightSetIs n i → i ≡ (h - 1) * n + excess ((decode t) .benches) ((decode t) .holders) (h - 1)
-  tight-overhang l h list n i e =
+  pub tight-excess : T (level (decode t)) → (h : ℕ) (list : List ℕ) (n i : ℕ) → (outcome (tightSetOf h list) t) .answer ≡ tightSetIs n i → i ≡ (h - 1) * n + excess ((decode t) .benches) ((decode t) .holders) (h - 1)
+  tight-excess l h list n i e =
       let a = tight-says h list n i e in
       rw (sym (a .benches), sym (a .insideJobs)) ((level-demand2 (decode t) ((sound-storable t s) .valid) l) .heights h (a .low) (a .high))
 
@@ -151,7 +152,7 @@ pub form-check : (t : List ℕ) → (outcome formCheck t) .answer ≡ cond (fits
 unfolding outcome conditions accepted
 form-check t = go (fits t) (sound t)
   where
-    go : (f z : Bool) → (settled (firstHolding (refuse sizes (not f) ∷ refuse unsound (not z) ∷ [])) t [] (answering t isSound)) .answer ≡ cond f (cond z isSound (refused unsound)) (refused sizes)
+    go : (f z : Bool) → (refusedOr (firstHolding (refuse sizes (not f) ∷ refuse unsound (not z) ∷ [])) t [] (answering t isSound)) .answer ≡ cond f (cond z isSound (refused unsound)) (refused sizes)
     go true true = refl
     go true false = refl
     go false true = refl

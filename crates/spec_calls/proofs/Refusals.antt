@@ -7,15 +7,15 @@ use mathlib.Core.Bool.{Bool, true, false, cond, _&&_, false≢true}
 use mathlib.Core.List.{List, [], _∷_, _++_, map}
 use mathlib.Core.Option.{Option, none, some, Option·some-injective, Option·none-ne-some, Option·some-ne-none}
 use lib.Dec.{T, ltb}
-use Rattle.spec_lists.specs.Lists.{rising, Each}
+use Rattle.spec_lists.specs.Lists.{range, Each}
 use Rattle.spec_table.specs.Table.{decode}
 use Rattle.spec_sharing.specs.Sharing.{level, relevel}
 use Rattle.spec_table.specs.Board.{Board}
-use Rattle.spec_calls.specs.Answers.{Refusal, Condition, refusalNumber, inNumbers, firstHolding, isRefused, settled, refused, levelYes, levelNo, levelled, stopped, sizes, unsound, jobNumber, benchNumber, alreadyStanding, notStanding, height, listTooShort, countFull, unreadable}
+use Rattle.spec_calls.specs.Answers.{Refusal, Condition, refusalNumber, inNumbers, firstHolding, isRefused, refusedOr, refused, levelYes, levelNo, levelled, stopped, sizes, unsound, jobNumber, benchNumber, alreadyStanding, notStanding, height, listTooShort, countFull, unreadable}
 use Rattle.spec_calls.specs.Calls.{Call, arrival, closing, levelling, loadOf, heaviestLoad, tightSetOf, formCheck, levelCheck, formConditions, conditions, lentList, accepted, outcome, arrivalOutcome, closingOutcome, levellingOutcome, tightSetOutcome}
 
 -- "returned": 1 to 10, in the table's order
-pub refusals-told : map refusalNumber (sizes ∷ unsound ∷ jobNumber ∷ benchNumber ∷ alreadyStanding ∷ notStanding ∷ height ∷ listTooShort ∷ countFull ∷ unreadable ∷ []) ≡ rising 1 10
+pub refusals-told : map refusalNumber (sizes ∷ unsound ∷ jobNumber ∷ benchNumber ∷ alreadyStanding ∷ notStanding ∷ height ∷ listTooShort ∷ countFull ∷ unreadable ∷ []) ≡ range 1 10
 refusals-told = refl
 
 -- a level check's and a levelling's answers in numbers: yes and level are 1, no and stopped 0
@@ -96,11 +96,11 @@ refused-by c t r e = go (firstHolding cs) refl e
     cs : List Condition
     cs = formConditions t ++ conditions c (decode t)
 
-    go : (o : Option Refusal) → firstHolding cs ≡ o → (settled o t (lentList c) (accepted c t (decode t))) .answer ≡ refused r → RefusedBy r c t
+    go : (o : Option Refusal) → firstHolding cs ≡ o → (refusedOr o t (lentList c) (accepted c t (decode t))) .answer ≡ refused r → RefusedBy r c t
     go none f d = absurd (false≢true (sym (accepted-answers c t (decode t)) ∙ ap isRefused d))
     go (some s) f d =
         let same : s ≡ r = cc in
-        record { condition = first-is cs r (f ∙ ap {B = Option Refusal} some same); table = ap (λ o. (settled o t (lentList c) (accepted c t (decode t))) .table) f; list = ap (λ o. (settled o t (lentList c) (accepted c t (decode t))) .list) f }
+        record { condition = first-is cs r (f ∙ ap {B = Option Refusal} some same); table = ap (λ o. (refusedOr o t (lentList c) (accepted c t (decode t))) .table) f; list = ap (λ o. (refusedOr o t (lentList c) (accepted c t (decode t))) .list) f }
 
 -- a call that is not refused does what it says: no condition holds, and the outcome is the accepted one
 pub accepted-by : (c : Call) (t : List ℕ) → isRefused ((outcome c t) .answer) ≡ false → Each (λ k. k .holds ≡ false) (formConditions t ++ conditions c (decode t)) × (outcome c t ≡ accepted c t (decode t))
@@ -110,8 +110,8 @@ accepted-by c t e = go (firstHolding cs) refl e
     cs : List Condition
     cs = formConditions t ++ conditions c (decode t)
 
-    go : (o : Option Refusal) → firstHolding cs ≡ o → isRefused ((settled o t (lentList c) (accepted c t (decode t))) .answer) ≡ false → Each (λ k. k .holds ≡ false) cs × (outcome c t ≡ accepted c t (decode t))
-    go none f d = (none-holds cs f, ap (λ o. settled o t (lentList c) (accepted c t (decode t))) f)
+    go : (o : Option Refusal) → firstHolding cs ≡ o → isRefused ((refusedOr o t (lentList c) (accepted c t (decode t))) .answer) ≡ false → Each (λ k. k .holds ≡ false) cs × (outcome c t ≡ accepted c t (decode t))
+    go none f d = (none-holds cs f, ap (λ o. refusedOr o t (lentList c) (accepted c t (decode t))) f)
     go (some s) f d = absurd (false≢true (sym d))
 
 -- the calls that ask and change nothing
@@ -140,6 +140,6 @@ question-leaves c t q = go (firstHolding (formConditions t ++ conditions c (deco
     asked formCheck p = refl
     asked levelCheck p = refl
 
-    go : (o : Option Refusal) → (settled o t (lentList c) (accepted c t (decode t))) .table ≡ t
+    go : (o : Option Refusal) → (refusedOr o t (lentList c) (accepted c t (decode t))) .table ≡ t
     go none = asked c q
     go (some s) = refl

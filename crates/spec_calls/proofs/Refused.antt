@@ -11,12 +11,12 @@ use Rattle.spec_lists.specs.Lists.{within}
 use Rattle.spec_table.specs.Board.{stands, namesFit}
 use Rattle.spec_table.specs.Table.{sound, decode}
 use Rattle.spec_calls.specs.Answers.{isRefused, refused, jobNumber, benchNumber, alreadyStanding, notStanding}
-use Rattle.spec_calls.specs.Calls.{arrival, closing, noBench, conditions, accepted, outcome, arrivalOutcome, closingOutcome}
-use Rattle.spec_lists.proofs.Basics.{T→true, false→not, not→false, or-left, or-right, eqb-T}
+use Rattle.spec_calls.specs.Calls.{MayArrive, arrival, closing, noBench, conditions, accepted, outcome, arrivalOutcome, closingOutcome}
+use Rattle.spec_lists.proofs.Tests.{T→true, false→not, not→false, or-left, or-right, eqb-T}
 use Rattle.spec_table.proofs.Named.{pair-fits}
 use Rattle.spec_sharing.proofs.Paths.{stands-within}
 use Rattle.spec_calls.proofs.ChainOrder.{sound-outcome}
-use Rattle.spec_calls.proofs.Outcomes.{MayArrive, arrival-accepted, closing-accepted}
+use Rattle.spec_calls.proofs.Outcomes.{arrival-accepted, closing-accepted}
 
 -- two benches that an arrival may name, by the tests of its refusal
 pair-passes : (benches x y : ℕ) → T (namesFit benches (x ∷ y ∷ [])) → (within 1 benches x ≡ true) × (within 1 benches y ≡ true) × (eqb x y ≡ false)

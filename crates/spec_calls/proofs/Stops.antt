@@ -5,7 +5,7 @@ use mathlib.Core.Logic.{_↔_}
 use mathlib.Core.Bool.{Bool, true, false, cond, not}
 use lib.Dec.{T, not-T}
 use Rattle.spec_table.specs.Board.{Valid}
-use Rattle.spec_lists.proofs.Basics.{true→T}
+use Rattle.spec_lists.proofs.Tests.{true→T}
 use Rattle.spec_calls.specs.Answers.{levelled, stopped}
 use Rattle.spec_calls.specs.Calls.{levellingOutcome}
 use Rattle.spec_sharing.specs.Sharing.{Levelled, level}

@@ -8,7 +8,7 @@ use mathlib.Core.Option.{none, some, Option·some-injective, Option·none-ne-som
 use lib.Dec.{T, leb}
 use Rattle.spec_calls.specs.Answers.{Refusal, Answer, countFull, refused, blanked, arrived, closed, loadIs, heaviestIs, tightSetIs, isSound, levelYes, levelNo, levelled, stopped}
 use Rattle.spec_calls.specs.Tally.{Tally, Noted, mostCount, countsFit, raised, unchanged, noted}
-use Rattle.spec_lists.proofs.Basics.{true→T, both, left, right, T-leb, leb-T}
+use Rattle.spec_lists.proofs.Tests.{true→T, both, left, right, T-leb, leb-T}
 
 -- "Three 32-bit counts"
 pub record Fits32 (t : Tally) : Type 0 where

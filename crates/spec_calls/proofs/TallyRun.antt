@@ -8,7 +8,7 @@ use mathlib.Core.List.{List, [], _∷_}
 use mathlib.Core.Option.{none}
 use lib.Dec.{T}
 use lib.ListN.{length}
-use Rattle.spec_lists.specs.Lists.{bit, within, keep, empty, change}
+use Rattle.spec_lists.specs.Lists.{bit, within, filter, empty, update}
 use Rattle.spec_table.specs.Board.{Board, stands, standing}
 use Rattle.spec_table.specs.Table.{sizesFit, lengthFor, sound, decode, blankTable}
 use Rattle.spec_sharing.specs.Sharing.{arrive, close, relevel}
@@ -16,12 +16,12 @@ use Rattle.spec_calls.specs.Answers.{Answer, Outcome}
 use Rattle.spec_calls.specs.Calls.{Call, arrival, closing, levelling, outcome, arrivalOutcome, closingOutcome, levellingOutcome}
 use Rattle.spec_calls.specs.JobBook.{tableAfter, Runs, AsDefined}
 use Rattle.spec_calls.specs.Tally.{Tally, Noted, zeroTally, noted, tallyAfter, NoNine}
-use Rattle.spec_lists.proofs.Basics.{true→T, T→true, not→false, within-low, within-high}
-use Rattle.spec_lists.proofs.Counting.{keep-change}
-use Rattle.spec_table.proofs.Sound.{sized}
+use Rattle.spec_lists.proofs.Tests.{true→T, T→true, not→false, within-low, within-high}
+use Rattle.spec_lists.proofs.Counting.{filter-update}
+use Rattle.spec_table.proofs.Places.{sized}
 use Rattle.spec_calls.proofs.Blanking.{standing-empty, blank-sound, blank-decodes}
 use Rattle.spec_sharing.proofs.Paths.{stands-within}
-use Rattle.spec_calls.proofs.Outcomes.{Written, Arrives, Closes, levelling-quiet, by-call}
+use Rattle.spec_calls.proofs.Outcomes.{Written, AcceptedArrival, AcceptedClosing, levelling-quiet, by-call}
 use Rattle.spec_calls.proofs.Tally.{isChange, raised-new, other-noted}
 
 -- arrivals are closings and the jobs standing together
@@ -29,10 +29,10 @@ abbrev pub Balanced : Tally → Board → Type 0
 Balanced y b = y .arrivals ≡ y .closings + standing b
 
 -- a job that comes or goes, as the number of standing jobs sees it
-standing-written : (b : Board) (j : ℕ) (names : List ℕ) (d : Board) → T (within 1 (length (b .named)) j) → d .named ≡ change (b .named) j names → standing d + bit (stands b j) ≡ standing b + bit (not (empty names))
+standing-written : (b : Board) (j : ℕ) (names : List ℕ) (d : Board) → T (within 1 (length (b .named)) j) → d .named ≡ update (b .named) j names → standing d + bit (stands b j) ≡ standing b + bit (not (empty names))
 standing-written b j names d w e =
-    ap (λ (named : List (List ℕ)). length (keep (λ n. not (empty n)) named) + bit (stands b j)) e
-    ∙ keep-change (λ (n : List ℕ). not (empty n)) (b .named) j names [] (within-low 1 (length (b .named)) j w) (within-high 1 (length (b .named)) j w)
+    ap (λ (named : List (List ℕ)). length (filter (λ n. not (empty n)) named) + bit (stands b j)) e
+    ∙ filter-update (λ (n : List ℕ). not (empty n)) (b .named) j names [] (within-low 1 (length (b .named)) j w) (within-high 1 (length (b .named)) j w)
 
 -- what noting a call's answer keeps: the table is sound again, and the balance holds
 pub record Keeps (t : List ℕ) (o : Outcome) : Type 0 where
@@ -48,7 +48,7 @@ keeps-as t o a d e w f =
     }
 
 module _ (t : List ℕ) (s : T (sound t)) where
-  keeps-arrival : (j x y : ℕ) → Arrives t j x y (arrive (decode t) j (x ∷ y ∷ [])) → Keeps t (outcome (arrival j x y) t)
+  keeps-arrival : (j x y : ℕ) → AcceptedArrival t j x y (arrive (decode t) j (x ∷ y ∷ [])) → Keeps t (outcome (arrival j x y) t)
   unfolding arrivalOutcome noted
   keeps-arrival j x y a =
       let c = arrive (decode t) j (x ∷ y ∷ []) in
@@ -59,7 +59,7 @@ module _ (t : List ℕ) (s : T (sound t)) where
       let q = standing-written (decode t) j (x ∷ y ∷ []) (c .board) (a .may .number) (a .does .named) in
       omega (arith, ap (λ (u : Tally). u .arrivals) r, ap (λ (u : Tally). u .closings) r, ap bit (not→false (stands (decode t) j) (a .may .free))))
 
-  keeps-closing : (j : ℕ) → Closes t j (close (decode t) j) → Keeps t (outcome (closing j) t)
+  keeps-closing : (j : ℕ) → AcceptedClosing t j (close (decode t) j) → Keeps t (outcome (closing j) t)
   unfolding closingOutcome noted
   keeps-closing j a =
       let c = close (decode t) j in
@@ -74,7 +74,7 @@ module _ (t : List ℕ) (s : T (sound t)) where
   keeps-quiet : (o : Outcome) (a : Answer) (d : Board) → o .answer ≡ a → Written (o .table) d → isChange a ≡ false → d .named ≡ (decode t) .named → Keeps t o
   keeps-quiet o a d e w q n =
       keeps-as t o a d e w
-      (λ y b m. subst (λ (u : Tally). Balanced u d) (sym (ap (λ (n : Noted). n .tally) (other-noted y a q))) (b ∙ ap (λ (named : List (List ℕ)). y .closings + length (keep (λ l. not (empty l)) named)) (sym n)))
+      (λ y b m. subst (λ (u : Tally). Balanced u d) (sym (ap (λ (n : Noted). n .tally) (other-noted y a q))) (b ∙ ap (λ (named : List (List ℕ)). y .closings + length (filter (λ l. not (empty l)) named)) (sym n)))
 
   -- every call keeps it
   pub keeps : (c : Call) → Keeps t (outcome c t)

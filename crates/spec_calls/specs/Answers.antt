@@ -86,10 +86,10 @@ firstHolding [] = none
 firstHolding (c ∷ cs) = let r = firstHolding cs in cond (c .holds) (some (c .refusal)) r
 
 -- the accepted outcome, or the refusal with every lent byte as it was: "A refused call changes no lent byte"
-abbrev pub settled : Option Refusal → List ℕ → List ℕ → Outcome → Outcome
-settled none table list accepted = accepted
-settled (some r) table list accepted = record { answer = refused r; table = table; list = list }
+abbrev pub refusedOr : Option Refusal → List ℕ → List ℕ → Outcome → Outcome
+refusedOr none table list accepted = accepted
+refusedOr (some r) table list accepted = record { answer = refused r; table = table; list = list }
 
 -- the accepted outcome where no condition holds, else the refusal
 abbrev pub unless : List Condition → List ℕ → List ℕ → Outcome → Outcome
-unless conditions table list accepted = settled (firstHolding conditions) table list accepted
+unless conditions table list accepted = refusedOr (firstHolding conditions) table list accepted

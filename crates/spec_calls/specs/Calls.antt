@@ -3,10 +3,10 @@
 use Prim.Native.Nat.{ℕ, _*_}
 use mathlib.Core.Bool.{Bool, cond, not, _||_}
 use mathlib.Core.List.{List, [], _∷_, _++_}
-use lib.Dec.{eqb, ltb}
+use lib.Dec.{T, eqb, ltb}
 use lib.ListN.{length, drop}
 use Rattle.spec_lists.specs.Lists.{within}
-use Rattle.spec_table.specs.Board.{Board, holderOf, stands, load, heaviest}
+use Rattle.spec_table.specs.Board.{Board, holderOf, stands, load, heaviest, namesFit}
 use Rattle.spec_table.specs.Table.{bytesOf, sizesFit, fits, sound, decode, encode, blankTable}
 use Rattle.spec_sharing.specs.Sharing.{Change, arrive, close, level, Levelled, relevel, tightSet, inside}
 use Rattle.spec_calls.specs.Answers.{Answer, Outcome, Condition, refuse, unless, sizes, unsound, jobNumber, benchNumber, alreadyStanding, notStanding, height, listTooShort, blanked, arrived, closed, loadIs, heaviestIs, tightSetIs, isSound, levelYes, levelNo, levelled, stopped}
@@ -33,6 +33,12 @@ noJob b j = not (within 1 (length (b .named)) j)
 -- "bench not 1 to B"
 abbrev pub noBench : Board → ℕ → Bool
 noBench b x = not (within 1 (b .benches) x)
+
+-- what 3, 4 and 5 leave through: a number of 1 to J that does not stand, and two different benches of 1 to B
+pub record MayArrive (b : Board) (j x y : ℕ) : Type 0 where
+  pub number : T (within 1 (length (b .named)) j)
+  pub free : T (not (stands b j))
+  pub fit : T (namesFit (b .benches) (x ∷ y ∷ []))
 
 -- when each call is refused, from 3 on, in the order that counts
 unfoldable pub conditions : Call → Board → List Condition

@@ -4,7 +4,7 @@ use mathlib.Core.Path.{_≡_}
 use mathlib.Core.Bool.{Bool, true, false}
 use mathlib.Core.List.{List, [], _∷_, map}
 use lib.ListN.{replicate}
-use Rattle.spec_lists.specs.Lists.{change}
+use Rattle.spec_lists.specs.Lists.{update}
 use Rattle.spec_table.specs.Board.{Board, excess, Shares}
 use Rattle.spec_table.specs.Table.{lengthFor, sizesFit, sound, decode, blankTable}
 use Rattle.spec_sharing.specs.Sharing.{level}
@@ -19,9 +19,9 @@ Book = List (List ℕ)
 -- "An accepted arrival writes its benches under its job number. An accepted closing empties its number. A refused call, a
 -- levelling and a question change nothing in it." It is fed the call's numbers and whether it was refused, nothing else
 abbrev pub entered : Call → Bool → Book → Book
-entered (arrival j x y) false k = change k j (x ∷ y ∷ [])
+entered (arrival j x y) false k = update k j (x ∷ y ∷ [])
 entered (arrival j x y) true k = k
-entered (closing j) false k = change k j []
+entered (closing j) false k = update k j []
 entered (closing j) true k = k
 entered (levelling allowance) r k = k
 entered (loadOf x) r k = k

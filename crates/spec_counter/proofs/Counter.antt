@@ -16,7 +16,8 @@ use Rattle.spec_lists.specs.Lists.{all, empty, Each}
 use Rattle.spec_table.specs.Table.{mostBenches}
 use Rattle.spec_counter.specs.Counter.{Counter, Command, setTable, takeIn, closeJob, askTightSet, askHeaviest, space, onto, pieces, digit, digits, value, number, numbers, joined, commandFor, fieldsCommand, command, letterOf, printed, prints, counterList}
 use Rattle.spec_counter.specs.Text.{text}
-use Rattle.spec_lists.proofs.Basics.{true→T, T→true, both, left, right, or-right, T-leb, Compared, same, other, compared, within-low, within-high, within-both, differ, each-map}
+use Rattle.spec_lists.proofs.Tests.{true→T, T→true, both, left, right, or-right, T-leb, Compared, same, other, compared, within-low, within-high, within-both, differ}
+use Rattle.spec_lists.proofs.Elements.{each-map}
 
 -- what has no value is none
 is-none : {A : Type 0} (o : Option A) → ((a : A) → o ≡ some a → ⊥) → o ≡ none

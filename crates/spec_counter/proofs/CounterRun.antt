@@ -11,14 +11,14 @@ use lib.ListN.{length, replicate, length-take, length-replicate}
 use Rattle.spec_table.specs.Board.{heaviest, standing}
 use Rattle.spec_table.specs.Table.{mostBenches, mostJobs, sizesFit, lengthFor, layout, fits, formed, sound, boardOf, decode, layoutOf, flat, encode, blankTable}
 use Rattle.spec_sharing.specs.Paths.{steps, pathsFrom, improves, improvingFrom, improving, improvingTo, flip}
-use Rattle.spec_sharing.specs.Sharing.{arrivalChoice, closingChoice, levellingChoice, arrive, close, level, widen, tightSet}
+use Rattle.spec_sharing.specs.Sharing.{arrivalChoice, closingChoice, levellingChoice, arrive, close, level, closureRound, tightSet}
 use Rattle.spec_calls.specs.Answers.{Outcome, isRefused, tightSetIs}
 use Rattle.spec_calls.specs.Calls.{arrival, closing, heaviestLoad, tightSetOf, conditions, arrivalOutcome, closingOutcome, levellingOutcome, tightSetOutcome, accepted, outcome, blanking}
 use Rattle.spec_calls.specs.Tally.{zeroTally, noted}
 use Rattle.spec_counter.specs.Counter.{Counter, Command, setTable, takeIn, closeJob, askTightSet, askHeaviest, number, commandFor, command, printed, lineFor, done, after, prints, counter, atFirst, room, counterList}
 use Rattle.spec_counter.specs.Text.{text}
-use Rattle.spec_lists.proofs.Basics.{true→T, within-high}
-use Rattle.spec_table.proofs.Sound.{sized}
+use Rattle.spec_lists.proofs.Tests.{true→T, within-high}
+use Rattle.spec_table.proofs.Places.{sized}
 use Rattle.spec_calls.proofs.Blanking.{standing-empty, blank-sound, blank-decodes}
 use Rattle.spec_calls.proofs.ChainOrder.{sound-outcome}
 use Rattle.spec_calls.proofs.Questions.{tight-list}
@@ -90,5 +90,5 @@ counter-balanced askHeaviest s f b n = (f, b)
 
 -- a run with every kind of line and of unreadable line
 pub counter-told : counter (text "H\nB 2 123\nA 9 1 2\nA 12 1 2\nA 99 1 2\nS 2\nB 501 4\nH\nA 9 1 2\nAB 1 1 2\nA 1 1 2 3\nD 9 x\n\nh\nA  1 1 2\nH\nD 12\nA 0 1 2\nD 65535\nD 65536\nS \n S 1\nS 0\nH\nA 7 1 2") ≡ text "R 1\nB 2 123\nA 9 1 1 0\nA 12 2 2 0\nA 99 1 1 0\nS 2 2 3 1 2\nR 1\nH 2\nR 5\nR 10\nR 10\nR 10\nR 10\nR 10\nR 10\nH 2\nD 12 1 1\nR 3\nR 3\nR 10\nR 10\nR 10\nR 7\nH 1\nR 10\n"
-unfolding flatMap heaviest sizesFit layout formed fits sound boardOf decode layoutOf flat encode blankTable steps pathsFrom improves improvingFrom improving improvingTo flip arrivalChoice closingChoice levellingChoice arrive close level widen tightSet conditions arrivalOutcome closingOutcome levellingOutcome tightSetOutcome accepted outcome blanking noted number commandFor command printed lineFor done after prints counter
+unfolding flatMap heaviest sizesFit layout formed fits sound boardOf decode layoutOf flat encode blankTable steps pathsFrom improves improvingFrom improving improvingTo flip arrivalChoice closingChoice levellingChoice arrive close level closureRound tightSet conditions arrivalOutcome closingOutcome levellingOutcome tightSetOutcome accepted outcome blanking noted number commandFor command printed lineFor done after prints counter
 counter-told = refl

@@ -9,7 +9,7 @@ use mathlib.Core.Option.{Option, none, some}
 use lib.Dec.{eqb}
 use lib.ListN.{length, length-append}
 use Rattle.spec_counter.specs.Counter.{Counter, Command, lineFeed, pieces, onto, command, lineFor, done, after, unreadableLine, prints, counter}
-use Rattle.spec_counter.specs.Stream.{lineText, lineAfter, Place, beginning, Unended, still, Goes, Run, ended, then, atEnd}
+use Rattle.spec_counter.specs.Stream.{lineText, lineAfter, Place, beginning, Unended, outputFrom, Consumes, Run, ended, then, atEnd}
 use Rattle.spec_counter.proofs.Counter.{before-piece, long-unreadable}
 use Rattle.spec_counter.proofs.CounterRun.{unreadable-line}
 
@@ -32,19 +32,19 @@ prints-line s line piece rest = go (command line)
     go (some c) = refl
 
 -- a line feed ends the line
-pub goes-line : (s : Counter) (line : List ℕ) → Unended line → Goes (record { counter = s; line = line }) (record { counter = lineAfter s line; line = [] }) (lineFeed ∷ []) (lineText s line)
-unfolding still
-goes-line s line u = record { whole = λ rest. let r = first-piece lineFeed rest in rw (before-piece lineFeed line (lineFeed ∷ rest) [] (pieces lineFeed rest) u refl, append-nil line, r .2) (prints-line s line (r .0) (r .1)) }
+pub consumes-line : (s : Counter) (line : List ℕ) → Unended line → Consumes (record { counter = s; line = line }) (record { counter = lineAfter s line; line = [] }) (lineFeed ∷ []) (lineText s line)
+unfolding outputFrom
+consumes-line s line u = record { whole = λ rest. let r = first-piece lineFeed rest in rw (before-piece lineFeed line (lineFeed ∷ rest) [] (pieces lineFeed rest) u refl, append-nil line, r .2) (prints-line s line (r .0) (r .1)) }
 
 -- another byte belongs to it
-pub goes-byte : (s : Counter) (line : List ℕ) (c : ℕ) → Goes (record { counter = s; line = line }) (record { counter = s; line = line ++ (c ∷ []) }) (c ∷ []) []
-unfolding still
-goes-byte s line c = record { whole = λ rest. ap (λ (l : List ℕ). prints s (pieces lineFeed l)) (sym (append-assoc line (c ∷ []) rest)) }
+pub consumes-byte : (s : Counter) (line : List ℕ) (c : ℕ) → Consumes (record { counter = s; line = line }) (record { counter = s; line = line ++ (c ∷ []) }) (c ∷ []) []
+unfolding outputFrom
+consumes-byte s line c = record { whole = λ rest. ap (λ (l : List ℕ). prints s (pieces lineFeed l)) (sym (append-assoc line (c ∷ []) rest)) }
 
 -- a line of more than 40 bytes stays unreadable, so a further byte changes nothing
-pub goes-past : (s : Counter) (line : List ℕ) (c : ℕ) → Unended line → 40 < length line → c ≢ lineFeed → Goes (record { counter = s; line = line }) (record { counter = s; line = line }) (c ∷ []) []
-unfolding still prints
-goes-past s line c u long n = record { whole = λ rest. go rest (first-piece lineFeed rest) }
+pub consumes-past : (s : Counter) (line : List ℕ) (c : ℕ) → Unended line → 40 < length line → c ≢ lineFeed → Consumes (record { counter = s; line = line }) (record { counter = s; line = line }) (c ∷ []) []
+unfolding outputFrom prints
+consumes-past s line c u long n = record { whole = λ rest. go rest (first-piece lineFeed rest) }
   where
     Rest : List ℕ → Type 0
     Rest rest = (g : List ℕ) × (gs : List (List ℕ)) × (pieces lineFeed rest ≡ g ∷ gs)
@@ -67,29 +67,29 @@ goes-past s line c u long n = record { whole = λ rest. go rest (first-piece lin
         ap (prints s) b ∙ same (c ∷ r .0) (r .0) (r .1) ∙ ap (prints s) (sym a)
 
 -- the input ends
-pub still-end : (p : Place) → Unended (p .line) → still p [] ≡ atEnd (p .line)
-unfolding still prints
-still-end p u = ap (prints (p .counter)) (before-piece lineFeed (p .line) [] [] [] u refl ∙ ap (λ (l : List ℕ). l ∷ []) (append-nil (p .line)))
+pub output-end : (p : Place) → Unended (p .line) → outputFrom p [] ≡ atEnd (p .line)
+unfolding outputFrom prints
+output-end p u = ap (prints (p .counter)) (before-piece lineFeed (p .line) [] [] [] u refl ∙ ap (λ (l : List ℕ). l ∷ []) (append-nil (p .line)))
 
 -- bytes read one after the other
-pub goes-then : {a b c : Place} {h t k u : List ℕ} → Goes a b h t → Goes b c k u → Goes a c (h ++ k) (t ++ u)
-goes-then {a} {b} {c} {h} {t} {k} {u} g f = record { whole = λ rest. ap (still a) (append-assoc h k rest) ∙ g .whole (k ++ rest) ∙ ap (λ (l : List ℕ). t ++ l) (f .whole rest) ∙ sym (append-assoc t u (still c rest)) }
+pub consumes-then : {a b c : Place} {h t k u : List ℕ} → Consumes a b h t → Consumes b c k u → Consumes a c (h ++ k) (t ++ u)
+consumes-then {a} {b} {c} {h} {t} {k} {u} g f = record { whole = λ rest. ap (outputFrom a) (append-assoc h k rest) ∙ g .whole (k ++ rest) ∙ ap (λ (l : List ℕ). t ++ l) (f .whole rest) ∙ sym (append-assoc t u (outputFrom c rest)) }
 
 -- nothing read, nothing printed
-pub goes-none : (a : Place) → Goes a a [] []
+pub goes-none : (a : Place) → Consumes a a [] []
 goes-none a = record { whole = λ rest. refl }
 
 -- lists put together
 abbrev pub joint : List (List ℕ) → List ℕ
 joint ls = flatMap (λ l. l) ls
 
-run-goes : {a b : Place} {heards texts : List (List ℕ)} → Run b a heards texts → Goes a b (joint heards) (joint texts)
+run-consumes : {a b : Place} {inputs texts : List (List ℕ)} → Run b a inputs texts → Consumes a b (joint inputs) (joint texts)
 unfolding flatMap
-run-goes {a} {b} ended = goes-none b
-run-goes (then g r) = goes-then g (run-goes r)
+run-consumes {a} {b} ended = goes-none b
+run-consumes (then g r) = consumes-then g (run-consumes r)
 
 -- however the input is cut into pieces, what is printed for them and at the end is what the whole input prints
-pub however-cut : (b : Place) (heards texts : List (List ℕ)) → Run b beginning heards texts → Unended (b .line) → joint texts ++ atEnd (b .line) ≡ counter (joint heards)
-unfolding still counter
-however-cut b heards texts r u =
-    ap (λ (l : List ℕ). joint texts ++ l) (sym (still-end b u)) ∙ sym ((run-goes r) .whole []) ∙ ap (λ (l : List ℕ). counter l) (append-nil (joint heards))
+pub however-cut : (b : Place) (inputs texts : List (List ℕ)) → Run b beginning inputs texts → Unended (b .line) → joint texts ++ atEnd (b .line) ≡ counter (joint inputs)
+unfolding outputFrom counter
+however-cut b inputs texts r u =
+    ap (λ (l : List ℕ). joint texts ++ l) (sym (output-end b u)) ∙ sym ((run-consumes r) .whole []) ∙ ap (λ (l : List ℕ). counter l) (append-nil (joint inputs))

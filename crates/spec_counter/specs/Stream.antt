@@ -30,17 +30,17 @@ abbrev pub Unended : List ℕ → Type 0
 Unended line = Each (λ c. c ≢ lineFeed) line
 
 -- what is still printed from a place on, where `rest` is all that is still to be read
-unfoldable pub still : Place → List ℕ → List ℕ
-still p rest = prints (p .counter) (pieces lineFeed (p .line ++ rest))
+unfoldable pub outputFrom : Place → List ℕ → List ℕ
+outputFrom p rest = prints (p .counter) (pieces lineFeed (p .line ++ rest))
 
 -- from a to b these bytes are read and this text is printed, whatever comes after them
-pub record Goes (a b : Place) (heard text : List ℕ) : Type 0 where
-  pub whole : (rest : List ℕ) → still a (heard ++ rest) ≡ text ++ still b rest
+pub record Consumes (a b : Place) (input text : List ℕ) : Type 0 where
+  pub whole : (rest : List ℕ) → outputFrom a (input ++ rest) ≡ text ++ outputFrom b rest
 
 -- pieces of the input read one after the other from a to b, and what is printed for each
 pub data Run (b : Place) : Place → List (List ℕ) → List (List ℕ) → Type 0 where
   ended : Run b b [] []
-  then : {a c : Place} {heard text : List ℕ} {heards texts : List (List ℕ)} → Goes a c heard text → Run b c heards texts → Run b a (heard ∷ heards) (text ∷ texts)
+  then : {a c : Place} {input text : List ℕ} {inputs texts : List (List ℕ)} → Consumes a c input text → Run b c inputs texts → Run b a (input ∷ inputs) (text ∷ texts)
 
 -- what is printed where the input ends: a line that has begun is one without a line feed
 abbrev pub atEnd : List ℕ → List ℕ

@@ -10,8 +10,10 @@ use mathlib.Core.List.{List, [], _∷_, _++_}
 use lib.Dec.{T, eqb}
 use lib.ListN.{length, getD, set}
 use borrow.Author.Tests.{eq-eqb, ne-eqb}
-use Rattle.spec_lists.specs.Lists.{bit, within, count, member, different, total, greatest, keep, Each, In, nth, change}
-use Rattle.spec_lists.proofs.Basics.{Compared, same, other, compared, within-low, within-high, in-each, member-in, in-member, different-head, different-tail}
+use Rattle.spec_lists.specs.Lists.{bit, within, count, member, distinct, total, greatest, filter, Each, In, nth, update}
+use Rattle.spec_lists.proofs.Tests.{Compared, same, other, compared, within-low, within-high}
+use Rattle.spec_lists.proofs.Elements.{in-each}
+use Rattle.spec_lists.proofs.NumberLists.{member-in, in-member, distinct-head, distinct-tail}
 
 -- bits
 
@@ -47,12 +49,12 @@ pub count-append : (x : ℕ) (k l : List ℕ) → count x (k ++ l) ≡ count x k
 count-append x [] l = omega arith
 count-append x (y ∷ k) l = omega (arith, count-append x k l)
 
-pub different-count : (l : List ℕ) → T (different l) → (x : ℕ) → count x l ≤ 1
-different-count [] t x = omega arith
-different-count (y ∷ l) t x = go (different-count l (different-tail y l t) x) (compared y x)
+pub distinct-count : (l : List ℕ) → T (distinct l) → (x : ℕ) → count x l ≤ 1
+distinct-count [] t x = omega arith
+distinct-count (y ∷ l) t x = go (distinct-count l (distinct-tail y l t) x) (compared y x)
   where
     go : count x l ≤ 1 → {b : Bool} → Compared y x b → bit (eqb y x) + count x l ≤ 1
-    go ih (same e) = omega (arith, bit-le (eqb y x), count-none x l (λ i. different-head y l t (rw e i)))
+    go ih (same e) = omega (arith, bit-le (eqb y x), count-none x l (λ i. distinct-head y l t (rw e i)))
     go ih (other d) = omega (arith, bit-other y x d)
 
 -- totals
@@ -160,13 +162,13 @@ pub few : (n : ℕ) (l : List ℕ) → ((x : ℕ) → count x l ≤ 1) → Each 
 few n l once e = omega (arith, total-count n l e, total-most n (λ x. count x l) once)
 
 -- different numbers of 1 to n are as many as pass the test that tells them
-pub total-tested : (n : ℕ) (l : List ℕ) (test : ℕ → Bool) → T (different l) → ((x : ℕ) → In x l → T (within 1 n x)) → ((x : ℕ) → In x l ↔ T (test x)) → length l ≡ total n (λ x. bit (test x))
+pub total-tested : (n : ℕ) (l : List ℕ) (test : ℕ → Bool) → T (distinct l) → ((x : ℕ) → In x l → T (within 1 n x)) → ((x : ℕ) → In x l ↔ T (test x)) → length l ≡ total n (λ x. bit (test x))
 total-tested n l test t w f =
     sym (total-count n l (in-each (λ x. T (within 1 n x)) l w)) ∙
     total-same n (λ x. count x l) (λ x. bit (test x)) (λ x i u. once x (test x) (f x))
   where
     once : (x : ℕ) (z : Bool) → In x l ↔ T z → count x l ≡ bit z
-    once x true g = omega (arith, different-count l t x, count-some x l (g .1 tt))
+    once x true g = omega (arith, distinct-count l t x, count-some x l (g .1 tt))
     once x false g = count-none x l (g .0)
 
 -- what stands in a list is counted once or more
@@ -188,34 +190,34 @@ size-le n set =
     omega (arith, total-le n (λ x. bit (member x set)) (λ x. count x set) (λ x l u. member-count x set), total-count-le n set)
 
 -- .. and just as many if it has only such numbers, none twice
-pub size-once : (n : ℕ) (set : List ℕ) → T (different set) → ((x : ℕ) → In x set → T (within 1 n x)) → size n set ≡ length set
+pub size-once : (n : ℕ) (set : List ℕ) → T (distinct set) → ((x : ℕ) → In x set → T (within 1 n x)) → size n set ≡ length set
 size-once n set t w = sym (total-tested n set (λ x. member x set) t w (λ x. (in-member x set, member-in x set)))
 
 -- writing at a place: the new number is counted there, and the old one no more
-pub count-change : (l : List ℕ) (j a y : ℕ) → 1 ≤ j → j ≤ length l → count y (change l j a) + bit (eqb (nth l j 0) y) ≡ count y l + bit (eqb a y)
-count-change l zero a y h u = omega arith
-count-change [] (suc i) a y h u = omega arith
-count-change (x ∷ l) (suc zero) a y h u = omega arith
-count-change (x ∷ l) (suc (suc i)) a y h u = omega (arith, count-change l (suc i) a y (omega arith) (omega arith))
+pub count-update : (l : List ℕ) (j a y : ℕ) → 1 ≤ j → j ≤ length l → count y (update l j a) + bit (eqb (nth l j 0) y) ≡ count y l + bit (eqb a y)
+count-update l zero a y h u = omega arith
+count-update [] (suc i) a y h u = omega arith
+count-update (x ∷ l) (suc zero) a y h u = omega arith
+count-update (x ∷ l) (suc (suc i)) a y h u = omega (arith, count-update l (suc i) a y (omega arith) (omega arith))
 
 module _ {A : Type 0} (p : A → Bool) where
   -- the first element is kept or not
-  pub keep-counts : (x : A) (l : List A) → length (keep p (x ∷ l)) ≡ bit (p x) + length (keep p l)
-  keep-counts x l = go (p x)
+  pub filter-counts : (x : A) (l : List A) → length (filter p (x ∷ l)) ≡ bit (p x) + length (filter p l)
+  filter-counts x l = go (p x)
     where
-      go : (z : Bool) → length (cond z (x ∷ keep p l) (keep p l)) ≡ bit z + length (keep p l)
+      go : (z : Bool) → length (cond z (x ∷ filter p l) (filter p l)) ≡ bit z + length (filter p l)
       go true = omega arith
       go false = omega arith
 
-  keep-set : (l : List A) (i : ℕ) (a d : A) → i < length l → length (keep p (set l i a)) + bit (p (getD l i d)) ≡ length (keep p l) + bit (p a)
-  keep-set [] i a d u = absurd (omega arith)
-  keep-set (x ∷ l) zero a d u = omega (arith, keep-counts x l, keep-counts a l)
-  keep-set (x ∷ l) (suc i) a d u = omega (arith, keep-counts x l, keep-counts x (set l i a), keep-set l i a d (omega arith))
+  filter-set : (l : List A) (i : ℕ) (a d : A) → i < length l → length (filter p (set l i a)) + bit (p (getD l i d)) ≡ length (filter p l) + bit (p a)
+  filter-set [] i a d u = absurd (omega arith)
+  filter-set (x ∷ l) zero a d u = omega (arith, filter-counts x l, filter-counts a l)
+  filter-set (x ∷ l) (suc i) a d u = omega (arith, filter-counts x l, filter-counts x (set l i a), filter-set l i a d (omega arith))
 
   -- writing at a place: what passes a test is counted so too
-  pub keep-change : (l : List A) (j : ℕ) (a d : A) → 1 ≤ j → j ≤ length l → length (keep p (change l j a)) + bit (p (nth l j d)) ≡ length (keep p l) + bit (p a)
-  keep-change l zero a d h u = absurd (omega arith)
-  keep-change l (suc i) a d h u = keep-set l i a d u
+  pub filter-update : (l : List A) (j : ℕ) (a d : A) → 1 ≤ j → j ≤ length l → length (filter p (update l j a)) + bit (p (nth l j d)) ≡ length (filter p l) + bit (p a)
+  filter-update l zero a d h u = absurd (omega arith)
+  filter-update l (suc i) a d h u = filter-set l i a d u
 
 -- the greatest value
 

@@ -1,3 +1,5 @@
 -- Tests and elements of lists; counts and totals.
-pub mod Basics
+pub mod Tests
+pub mod Elements
+pub mod NumberLists
 pub mod Counting

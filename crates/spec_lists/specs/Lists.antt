@@ -28,14 +28,14 @@ member x [] = false
 member x (y ∷ l) = eqb y x || member x l
 
 -- no number stands in the list twice
-abbrev pub different : List ℕ → Bool
-different [] = true
-different (x ∷ l) = not (member x l) && different l
+abbrev pub distinct : List ℕ → Bool
+distinct [] = true
+distinct (x ∷ l) = not (member x l) && distinct l
 
 -- n numbers, each one more than the last, from i on
-abbrev pub rising : ℕ → ℕ → List ℕ
-rising i zero = []
-rising i (suc n) = i ∷ rising (suc i) n
+abbrev pub range : ℕ → ℕ → List ℕ
+range i zero = []
+range i (suc n) = i ∷ range (suc i) n
 
 -- f added up over 1 to n
 abbrev pub total : ℕ → (ℕ → ℕ) → ℕ
@@ -48,16 +48,16 @@ greatest zero f = 0
 greatest (suc n) f = max (greatest n f) (f (suc n))
 
 -- k is l or comes before it in dictionary order
-abbrev pub dictionary : List ℕ → List ℕ → Bool
-dictionary [] l = true
-dictionary (x ∷ k) [] = false
-dictionary (x ∷ k) (y ∷ l) = ltb x y || (eqb x y && dictionary k l)
+abbrev pub lexLe : List ℕ → List ℕ → Bool
+lexLe [] l = true
+lexLe (x ∷ k) [] = false
+lexLe (x ∷ k) (y ∷ l) = ltb x y || (eqb x y && lexLe k l)
 
 module _ {A : Type 0} where
   -- the elements that pass the test, in their order
-  abbrev pub keep : (A → Bool) → List A → List A
-  keep p [] = []
-  keep p (x ∷ l) = let r = keep p l in cond (p x) (x ∷ r) r
+  abbrev pub filter : (A → Bool) → List A → List A
+  filter p [] = []
+  filter p (x ∷ l) = let r = filter p l in cond (p x) (x ∷ r) r
 
   -- every element passes the test
   abbrev pub all : (A → Bool) → List A → Bool
@@ -85,21 +85,21 @@ module _ {A : Type 0} where
   nth l (suc i) d = getD l i d
 
   -- the list with a at place j, counted from 1
-  abbrev pub change : List A → ℕ → A → List A
-  change l zero a = l
-  change l (suc i) a = set l i a
+  abbrev pub update : List A → ℕ → A → List A
+  update l zero a = l
+  update l (suc i) a = set l i a
 
   -- the elements with their places, counted from i
-  abbrev pub numbered : ℕ → List A → List (ℕ × A)
-  numbered i [] = []
-  numbered i (x ∷ l) = (i, x) ∷ numbered (suc i) l
+  abbrev pub enumerate : ℕ → List A → List (ℕ × A)
+  enumerate i [] = []
+  enumerate i (x ∷ l) = (i, x) ∷ enumerate (suc i) l
 
   -- of a and the best of the others the one whose key comes first, a if the keys are equal
   abbrev pub better : (A → List ℕ) → A → Option A → Option A
   better key a none = some a
-  better key a (some c) = some (cond (dictionary (key a) (key c)) a c)
+  better key a (some c) = some (cond (lexLe (key a) (key c)) a c)
 
   -- the element whose key comes first in dictionary order
-  abbrev pub least : (A → List ℕ) → List A → Option A
-  least key [] = none
-  least key (a ∷ l) = better key a (least key l)
+  abbrev pub argmin : (A → List ℕ) → List A → Option A
+  argmin key [] = none
+  argmin key (a ∷ l) = better key a (argmin key l)

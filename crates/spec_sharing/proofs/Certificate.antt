@@ -8,11 +8,13 @@ use mathlib.Core.Bool.{Bool, true, false}
 use mathlib.Core.List.{List, [], _∷_}
 use lib.Dec.{T}
 use lib.ListN.{length, getD}
-use Rattle.spec_lists.specs.Lists.{bit, within, member, different, total, greatest, all, Each, In}
+use Rattle.spec_lists.specs.Lists.{bit, within, member, distinct, total, greatest, all, Each, In}
 use Rattle.spec_table.specs.Board.{Board, Valid, load, excess, Shares, namesFit}
 use Rattle.spec_sharing.specs.Paths.{Step, stepBy, steps}
 use Rattle.spec_sharing.specs.Sharing.{inside, density}
-use Rattle.spec_lists.proofs.Basics.{true→T, Compared, same, other, compared, T-eqb, within-low, within-high, within-both, all-in, in-each, member-in, Member, is-in, not-in, membered}
+use Rattle.spec_lists.proofs.Tests.{true→T, Compared, same, other, compared, T-eqb, within-low, within-high, within-both}
+use Rattle.spec_lists.proofs.Elements.{all-in, in-each}
+use Rattle.spec_lists.proofs.NumberLists.{member-in, Member, is-in, not-in, membered}
 use Rattle.spec_table.proofs.Named.{length-shares, fit-bench}
 use Rattle.spec_lists.proofs.Counting.{bit-same, bit-other, total-add, total-times, total-same, total-le, total-but-one, size, size-le, size-once, greatest-above}
 use Rattle.spec_sharing.proofs.Paths.{is-step}
@@ -20,11 +22,11 @@ use Rattle.spec_sharing.proofs.Sets.{density-least, inside-skips, insid
 use Rattle.spec_table.proofs.Loads.{excess-none}
 
 -- the load of a bench of the set, 0 for other benches
-abbrev loadIn : List ℕ → List ℕ → ℕ → ℕ
+abbrev pub loadIn : List ℕ → List ℕ → ℕ → ℕ
 loadIn set holders x = bit (member x set) * load holders x
 
 -- the loads of the set's benches of 1 to n, added up: the jobs held in the set
-abbrev heldIn : ℕ → List ℕ → List ℕ → ℕ
+abbrev pub heldIn : ℕ → List ℕ → List ℕ → ℕ
 heldIn n set holders = total n (loadIn set holders)
 
 heldIn-none : (n : ℕ) (set : List ℕ) → heldIn n set [] ≡ 0
@@ -110,7 +112,7 @@ density-bounds benches named fit holders s set l =
 -- a set of benches that proves a board's overhang above h: it has every bench above h and none below it, and no step leads out of it
 pub record Proves (b : Board) (set : List ℕ) (h : ℕ) : Type 0 where
   pub bench : (x : ℕ) → In x set → T (within 1 (b .benches) x)
-  pub once : T (different set)
+  pub once : T (distinct set)
   pub above : (x : ℕ) → T (within 1 (b .benches) x) → h < load (b .holders) x → In x set
   pub full : (x : ℕ) → In x set → h ≤ load (b .holders) x
   pub closed : (x : ℕ) (s : Step) → In x set → In s (steps b x) → In (s .to) set
@@ -148,20 +150,25 @@ held-exact b set h p =
           | no k ↦ omega arith
         ]
 
--- no job held in a proving set names a bench outside it
-closed-row : (b : Board) → Valid b → (set : List ℕ) (h : ℕ) → Proves b set h → (i y : ℕ) → In (getD (b .holders) i 0) set → In y (getD (b .named) i []) → In y set
-closed-row b v set h p i y j k = go (compared y (getD (b .holders) i 0))
+-- no job held in a set that no step leaves names a bench outside it
+closed-row : (b : Board) → Valid b → (set : List ℕ) → ((x : ℕ) (s : Step) → In x set → In s (steps b x) → In (s .to) set) → (i y : ℕ) → In (getD (b .holders) i 0) set → In y (getD (b .named) i []) → In y set
+closed-row b v set closed i y j k = go (compared y (getD (b .holders) i 0))
   where
     go : {z : Bool} → Compared y (getD (b .holders) i 0) z → In y set
     go (same e) = rw e j
     go (other d) =
         let s = stepBy (suc i) y in
-        p .closed (getD (b .holders) i 0) s j (is-step b (getD (b .holders) i 0) s refl k d (sym (length-shares (b .named) (b .holders) (v .shares))))
+        closed (getD (b .holders) i 0) s j (is-step b (getD (b .holders) i 0) s refl k d (sym (length-shares (b .named) (b .holders) (v .shares))))
+
+-- so the jobs inside such a set of benches are its benches' loads
+pub closed-inside : (b : Board) → Valid b → (set : List ℕ) → ((x : ℕ) → In x set → T (within 1 (b .benches) x)) → ((x : ℕ) (s : Step) → In x set → In s (steps b x) → In (s .to) set) → inside set (b .named) ≡ heldIn (b .benches) set (b .holders)
+closed-inside b v set bench closed =
+    inside-is-held (b .benches) set bench (b .named) (b .holders) (v .shares) (closed-row b v set closed)
 
 -- for such a set the certificate is an equation
 pub attained : (b : Board) → Valid b → (set : List ℕ) (h : ℕ) → Proves b set h → inside set (b .named) ≡ h * length set + excess (b .benches) (b .holders) h
 attained b v set h p =
-    omega (arith, inside-is-held (b .benches) set (p .bench) (b .named) (b .holders) (v .shares) (closed-row b v set h p), held-exact b set h p, ap (λ (k : ℕ). h * k) (size-once (b .benches) set (p .once) (p .bench)))
+    omega (arith, closed-inside b v set (p .bench) (p .closed), held-exact b set h p, ap (λ (k : ℕ). h * k) (size-once (b .benches) set (p .once) (p .bench)))
 
 -- so no sharing of the same jobs has less overhang above h
 pub proved-least : (b : Board) → Valid b → (set : List ℕ) (h : ℕ) → Proves b set h → (holders : List ℕ) → Shares (b .named) holders → excess (b .benches) (b .holders) h ≤ excess (b .benches) holders h

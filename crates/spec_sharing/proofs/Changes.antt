@@ -9,17 +9,19 @@ use mathlib.Core.Option.{Option, none, some}
 use lib.Dec.{T, eqb}
 use borrow.Author.Tests.{lt-ltb, le-ltb}
 use lib.ListN.{length}
-use Rattle.spec_lists.specs.Lists.{within, different, keep, In, empty, nth, change}
+use Rattle.spec_lists.specs.Lists.{within, distinct, filter, In, empty, nth, update}
 use Rattle.spec_table.specs.Board.{load, Board, Valid, namesOf, holderOf, stands, put, namesFit}
 use Rattle.spec_sharing.specs.Paths.{BenchPath, last, jobs, IsPath, flip}
-use Rattle.spec_sharing.specs.Sharing.{Change, getter, arrivalChoice, closingChoice, afterArrival, afterClosing, arrive, close}
+use Rattle.spec_sharing.specs.Sharing.{Change, lightestNamed, arrivalChoice, closingChoice, afterArrival, afterClosing, arrive, close}
 use Rattle.spec_sharing.specs.Demand2.{OneMore, handed}
-use Rattle.spec_lists.proofs.Basics.{both, left, right, differ, within-low, within-high, within-both, not-empty, is-empty, nth-change-same, nth-change-other, Member, is-in, not-in, membered, keep-different, others-in}
+use Rattle.spec_lists.proofs.Tests.{both, left, right, differ, within-low, within-high, within-both}
+use Rattle.spec_lists.proofs.Elements.{not-empty, is-empty, nth-update-same, nth-update-other}
+use Rattle.spec_lists.proofs.NumberLists.{Member, is-in, not-in, membered, filter-distinct, others-in}
 use Rattle.spec_table.proofs.Named.{length-shares, fit-bench}
 use Rattle.spec_lists.proofs.Counting.{total-tested}
 use Rattle.spec_sharing.proofs.Paths.{stands-within, named-may, holder-bench, holder-none, improvingFrom-only, improvingTo-only}
 use Rattle.spec_sharing.proofs.Choice.{arrival-choice, closing-choice}
-use Rattle.spec_sharing.proofs.Sets.{getter-in}
+use Rattle.spec_sharing.proofs.Sets.{lightestNamed-in}
 use Rattle.spec_sharing.proofs.Walks.{path-reach, reach-bench}
 use Rattle.spec_sharing.proofs.Flip.{put-valid, path-stands, path-jobs, flip-loads, flip-valid, flip-moves, flip-keeps}
 use Rattle.spec_sharing.proofs.OneLoad.{one-more, more-load, given-one, taken-one}
@@ -30,7 +32,7 @@ unfolding arrive
 moved-others b j names i = go (arrivalChoice c x)
   where
     x : ℕ
-    x = getter (b .holders) names
+    x = lightestNamed (b .holders) names
 
     c : Board
     c = put b j names x
@@ -43,15 +45,15 @@ moved-others b j names i = go (arrivalChoice c x)
 pub record Changed (b : Board) (j : ℕ) (names : List ℕ) (c : Change) : Type 0 where
   pub valid : Valid (c .board)
   pub benches : (c .board) .benches ≡ b .benches
-  pub named : (c .board) .named ≡ change (b .named) j names
+  pub named : (c .board) .named ≡ update (b .named) j names
   -- the moved jobs are the others whose holder changed, each once ..
   pub moved : (i : ℕ) → In i (c .moved) ↔ ((i ≢ j) × (holderOf (c .board) i ≢ holderOf b i))
-  pub once : T (different (c .moved))
+  pub once : T (distinct (c .moved))
   -- .. and so many
   pub number : length (c .moved) ≡ handed j b (c .board)
 
 -- the number follows from the rest: a job whose holder changed stands
-does : (b : Board) → Valid b → (j : ℕ) (names : List ℕ) (c : Change) → Valid (c .board) → (c .board) .benches ≡ b .benches → (c .board) .named ≡ change (b .named) j names → ((i : ℕ) → In i (c .moved) ↔ ((i ≢ j) × (holderOf (c .board) i ≢ holderOf b i))) → T (different (c .moved)) → Changed b j names c
+does : (b : Board) → Valid b → (j : ℕ) (names : List ℕ) (c : Change) → Valid (c .board) → (c .board) .benches ≡ b .benches → (c .board) .named ≡ update (b .named) j names → ((i : ℕ) → In i (c .moved) ↔ ((i ≢ j) × (holderOf (c .board) i ≢ holderOf b i))) → T (distinct (c .moved)) → Changed b j names c
 does b v j names c vc eb en m o =
     let number = total-tested (length (b .named)) (c .moved) (λ i. not (eqb i j) && not (eqb (holderOf after i) (holderOf b i))) o (λ i k. stands-within b i (stood i ((m i) .0 k))) test in
     record { valid = vc; benches = eb; named = en; moved = m; once = o; number = number }
@@ -61,7 +63,7 @@ does b v j names c vc eb en m o =
 
     stood : (i : ℕ) → (i ≢ j) × (holderOf after i ≢ holderOf b i) → T (stands b i)
     stood i d =
-        let e : namesOf after i ≡ namesOf b i = ap (λ (l : List (List ℕ)). nth l i []) en ∙ nth-change-other (b .named) j i names [] (d .0) in
+        let e : namesOf after i ≡ namesOf b i = ap (λ (l : List (List ℕ)). nth l i []) en ∙ nth-update-other (b .named) j i names [] (d .0) in
         not-empty (namesOf b i) (λ z. d .1 (holder-none after vc i (e ∙ z) ∙ sym (holder-none b v i z)))
 
     test : (i : ℕ) → In i (c .moved) ↔ T (not (eqb i j) && not (eqb (holderOf after i) (holderOf b i)))
@@ -77,10 +79,10 @@ module _ (b : Board) (v : Valid b) (j : ℕ) (names : List ℕ) (x : ℕ) (w : V
   -- no path is turned: no other job moves
   does-put : (y : ℕ) → Changed b j names (record { board = put b j names x; bench = y; moved = [] })
   does-put y =
-      does b v j names (record { board = put b j names x; bench = y; moved = [] }) w refl refl (λ i. (λ k. absurd k, λ d. d .1 (nth-change-other (b .holders) j i x 0 (d .0)))) tt
+      does b v j names (record { board = put b j names x; bench = y; moved = [] }) w refl refl (λ i. (λ k. absurd k, λ d. d .1 (nth-update-other (b .holders) j i x 0 (d .0)))) tt
 
   -- a path is turned: its jobs move, but for j
-  does-flip : (p : BenchPath) → IsPath (put b j names x) p → (y : ℕ) (m : List ℕ) → ((i : ℕ) → In i m ↔ ((i ≢ j) × In i (jobs p))) → T (different m) → Changed b j names (record { board = flip (put b j names x) p; bench = y; moved = m })
+  does-flip : (p : BenchPath) → IsPath (put b j names x) p → (y : ℕ) (m : List ℕ) → ((i : ℕ) → In i m ↔ ((i ≢ j) × In i (jobs p))) → T (distinct m) → Changed b j names (record { board = flip (put b j names x) p; bench = y; moved = m })
   unfolding flip
   does-flip p h y m g o = does b v j names (record { board = flip c p; bench = y; moved = m }) (flip-valid c w p h) refl refl (λ i. (there i, back i)) o
     where
@@ -88,7 +90,7 @@ module _ (b : Board) (v : Valid b) (j : ℕ) (names : List ℕ) (x : ℕ) (w : V
       c = put b j names x
 
       kept : (i : ℕ) → i ≢ j → holderOf c i ≡ holderOf b i
-      kept i d = nth-change-other (b .holders) j i x 0 d
+      kept i d = nth-update-other (b .holders) j i x 0 d
 
       there : (i : ℕ) → In i m → (i ≢ j) × (holderOf (flip c p) i ≢ holderOf b i)
       there i k = let d = (g i) .0 k in (d .0, λ e. flip-moves c w p h i (d .1) (e ∙ sym (kept i (d .0))))
@@ -102,13 +104,13 @@ module _ (b : Board) (v : Valid b) (j : ℕ) (names : List ℕ) (x : ℕ) (w : V
 
 -- turning a path hands one load more on from its first bench to its last
 module _ (c : Board) (v : Valid c) (p : BenchPath) (h : IsPath c p) where
-  more-turned : (less : List ℕ) → OneMore (c .benches) less (c .holders) (p .start) → OneMore (c .benches) less ((flip c p) .holders) (last p)
-  more-turned less o =
+  more-flipped : (less : List ℕ) → OneMore (c .benches) less (c .holders) (p .start) → OneMore (c .benches) less ((flip c p) .holders) (last p)
+  more-flipped less o =
       let w = within-both 1 (c .benches) (p .start) (o .positive) (o .bench) in
       one-more (c .benches) less ((flip c p) .holders) (last p) (reach-bench c v (p .start) (last p) w (path-reach c p h)) (λ y l u. omega (arith, flip-loads c v p h y, more-load (c .benches) less (c .holders) (p .start) o y l u))
 
-  less-turned : (more : List ℕ) → T (within 1 (c .benches) (p .start)) → OneMore (c .benches) (c .holders) more (last p) → OneMore (c .benches) ((flip c p) .holders) more (p .start)
-  less-turned more w o =
+  less-flipped : (more : List ℕ) → T (within 1 (c .benches) (p .start)) → OneMore (c .benches) (c .holders) more (last p) → OneMore (c .benches) ((flip c p) .holders) more (p .start)
+  less-flipped more w o =
       one-more (c .benches) ((flip c p) .holders) more (p .start) w (λ y l u. omega (arith, flip-loads c v p h y, more-load (c .benches) (c .holders) more (last p) o y l u))
 
 -- giving a job that does not stand to bench x adds one to its load ..
@@ -130,13 +132,13 @@ unfolding arrive
 arrival-does b v j names w n e f = go (arrivalChoice c x) refl
   where
     x : ℕ
-    x = getter (b .holders) names
+    x = lightestNamed (b .holders) names
 
     c : Board
     c = put b j names x
 
     i : In x names
-    i = getter-in (b .holders) names e
+    i = lightestNamed-in (b .holders) names e
 
     vc : Valid c
     vc = put-valid b v j names x f (named-may names x i)
@@ -149,13 +151,13 @@ arrival-does b v j names w n e f = go (arrivalChoice c x) refl
     go (some p) q =
         let only = improvingFrom-only c x p (((arrival-choice c x p) .0 q) .listed-is) in
         let rest : ℕ → Bool = λ k. not (eqb k j) in
-        (does-flip b v j names x vc p (only .0) (last p) (keep rest (jobs p)) (others-in j (jobs p)) (keep-different rest (jobs p) (path-jobs c vc p (only .0))), more-turned c vc p (only .0) (b .holders) (subst (OneMore (b .benches) (b .holders) (c .holders)) (sym (only .1)) one))
+        (does-flip b v j names x vc p (only .0) (last p) (filter rest (jobs p)) (others-in j (jobs p)) (filter-distinct rest (jobs p) (path-jobs c vc p (only .0))), more-flipped c vc p (only .0) (b .holders) (subst (OneMore (b .benches) (b .holders) (c .holders)) (sym (only .1)) one))
 
 -- a job that was taken away names nothing
 pub taken-names : (b : Board) (j : ℕ) → T (stands b j) → namesOf (put b j [] 0) j ≡ []
 taken-names b j s =
     let w = stands-within b j s in
-    nth-change-same (b .named) j [] [] (within-low 1 (length (b .named)) j w) (within-high 1 (length (b .named)) j w)
+    nth-update-same (b .named) j [] [] (within-low 1 (length (b .named)) j w) (within-high 1 (length (b .named)) j w)
 
 -- a closing on any valid board: one load falls by one
 pub closing-does : (b : Board) → Valid b → (j : ℕ) → T (stands b j) → Changed b j [] (close b j) × OneMore (b .benches) (((close b j) .board) .holders) (b .holders) ((close b j) .bench)
@@ -181,7 +183,7 @@ closing-does b v j s = go (closingChoice c x) refl
     go none q = (does-put b v j [] 0 vc x, put-falls b v j s)
     go (some p) q =
         let only = improvingTo-only c x p (((closing-choice c x p) .0 q) .listed-is) in
-        (does-flip b v j [] 0 vc p (only .0) (p .start) (jobs p) (λ k. (λ m. (gone p (only .0) k m, m), λ d. d .1)) (path-jobs c vc p (only .0)), less-turned c vc p (only .0) (b .holders) (only .1) (subst (OneMore (b .benches) (c .holders) (b .holders)) (sym (only .2)) (put-falls b v j s)))
+        (does-flip b v j [] 0 vc p (only .0) (p .start) (jobs p) (λ k. (λ m. (gone p (only .0) k m, m), λ d. d .1)) (path-jobs c vc p (only .0)), less-flipped c vc p (only .0) (b .holders) (only .1) (subst (OneMore (b .benches) (c .holders) (b .holders)) (sym (only .2)) (put-falls b v j s)))
 
 -- "The lighter named bench gets the job ..
 pub arrive-lighter : (b : Board) (j x y : ℕ) → load (b .holders) y < load (b .holders) x → let c = put b j (x ∷ y ∷ []) y in arrive b j (x ∷ y ∷ []) ≡ afterArrival c j y (arrivalChoice c y)

@@ -7,13 +7,14 @@ use mathlib.Core.Logic.{inl, inr, _≢_}
 use mathlib.Core.List.{List, [], _∷_}
 use lib.Dec.{T, leb}
 use lib.ListN.{length}
-use Rattle.spec_lists.specs.Lists.{within, different, dictionary, Each, In}
+use Rattle.spec_lists.specs.Lists.{within, distinct, lexLe, Each, In}
 use Rattle.spec_table.specs.Board.{Board, Valid, namesOf, holderOf}
 use Rattle.spec_sharing.specs.Paths.{Step, steps, endOf, Walk}
 use Rattle.spec_table.specs.Table.{paired, Storable}
-use Rattle.spec_lists.proofs.Basics.{T-eqb, T-leb, leb-T, each-in, in-each, each-nth}
+use Rattle.spec_lists.proofs.Tests.{T-eqb, T-leb, leb-T}
+use Rattle.spec_lists.proofs.Elements.{each-in, in-each, each-nth}
 use Rattle.spec_sharing.proofs.Paths.{shares-nth, held-named, step-is, benchesOf, jobsOf}
-use Rattle.spec_sharing.proofs.Choice.{dictionary-lower, dictionary-same}
+use Rattle.spec_sharing.proofs.Choice.{lexLe-lower, lexLe-same}
 use Rattle.spec_sharing.proofs.Walks.{fewest-once}
 
 module _ (benches : ℕ) (out : ℕ → List Step) where
@@ -28,8 +29,8 @@ module _ (benches : ℕ) (out : ℕ → List Step) where
     pub short : (y : ℕ) (r : List Step) → T (within 1 benches y) → Walk out v r → endOf v r ≡ y → (1 ≤ f y) × (f y ≤ suc (length r))
 
   -- every step leads to a bench of 1 to B
-  abbrev pub Stays : Type 0
-  Stays = (x : ℕ) (s : Step) → In s (out x) → T (within 1 benches (s .to))
+  abbrev pub StepsWithin : Type 0
+  StepsWithin = (x : ℕ) (s : Step) → In s (out x) → T (within 1 benches (s .to))
 
   -- a step to a bench that is one nearer
   abbrev pub Nearer : (ℕ → ℕ) → ℕ → Step → Type 0
@@ -55,7 +56,7 @@ module _ (benches : ℕ) (out : ℕ → List Step) where
   abbrev pub OneOther : Type 0
   OneOther = (x : ℕ) (s q : Step) → In s (out x) → In q (out x) → s .job ≡ q .job → s .to ≡ q .to
 
-  module _ (stays : Stays) (t : ℕ) (d : ℕ → ℕ) (to : To t d) where
+  module _ (stays : StepsWithin) (t : ℕ) (d : ℕ → ℕ) (to : To t d) where
     -- a step leads nearer by one at most
     one-nearer : (x : ℕ) (s : Step) → T (within 1 benches x) → In s (out x) → 1 ≤ d (s .to) → d x ≤ suc (d (s .to))
     one-nearer x s w i l = go (d (s .to)) refl l
@@ -73,7 +74,7 @@ module _ (benches : ℕ) (out : ℕ → List Step) where
         omega (arith, h .0, h .1, one-nearer x s w (v .0) (h .0))
 
     -- a shortest walk comes to no bench twice
-    pub shortest-once : (x : ℕ) (r : List Step) → T (within 1 benches x) → Walk out x r → endOf x r ≡ t → d x ≡ suc (length r) → T (different (x ∷ benchesOf r))
+    pub shortest-once : (x : ℕ) (r : List Step) → T (within 1 benches x) → Walk out x r → endOf x r ≡ t → d x ≡ suc (length r) → T (distinct (x ∷ benchesOf r))
     shortest-once x r w v e l = fewest-once out x r v (λ q u f. omega (arith, (to .short x q w u (f ∙ e)) .1))
 
     -- from every bench that is not t itself a step leads nearer
@@ -100,7 +101,7 @@ module _ (benches : ℕ) (out : ℕ → List Step) where
         ((g .0 .0, h .0), h .1)
 
     -- the smallest jobs make the first list among the shortest walks from the benches `At`, which are equally far
-    pub smallest-first : (At : ℕ → Type 0) (r q : List Step) (y : ℕ) → ((z : ℕ) → At z → T (within 1 benches z) × (d z ≡ suc (length r))) → Smallest d At r → At y → Walk out y q → endOf y q ≡ t → length q ≡ length r → T (dictionary (jobsOf r) (jobsOf q))
+    pub smallest-first : (At : ℕ → Type 0) (r q : List Step) (y : ℕ) → ((z : ℕ) → At z → T (within 1 benches z) × (d z ≡ suc (length r))) → Smallest d At r → At y → Walk out y q → endOf y q ≡ t → length q ≡ length r → T (lexLe (jobsOf r) (jobsOf q))
     smallest-first At [] q y far g a w e l = tt
     smallest-first At (s ∷ r) [] y far g a w e l = absurd (omega arith)
     smallest-first At (s ∷ r) (p ∷ q) y far g a w e l =
@@ -112,11 +113,11 @@ module _ (benches : ℕ) (out : ℕ → List Step) where
         next : (z : ℕ) → Next d At (s .job) z → T (within 1 benches z) × (d z ≡ suc (length r))
         next z (y, q, a, n, f, k) = (subst (λ (z : ℕ). T (within 1 benches z)) k (stays y q (n .0)), omega (arith, ap d k, n .2, far y a .1))
 
-        go : Dec (s .job < p .job) → (p .job ≡ s .job → T (dictionary (jobsOf r) (jobsOf q))) → T (dictionary (jobsOf (s ∷ r)) (jobsOf (p ∷ q)))
-        go (yes h) ih = dictionary-lower (s .job) (p .job) (jobsOf r) (jobsOf q) h
+        go : Dec (s .job < p .job) → (p .job ≡ s .job → T (lexLe (jobsOf r) (jobsOf q))) → T (lexLe (jobsOf (s ∷ r)) (jobsOf (p ∷ q)))
+        go (yes h) ih = lexLe-lower (s .job) (p .job) (jobsOf r) (jobsOf q) h
         go (no h) ih =
             let f : p .job ≡ s .job = omega (arith, g .0 y p a near) in
-            dictionary-same (s .job) (p .job) (jobsOf r) (jobsOf q) (sym f) (ih f)
+            lexLe-same (s .job) (p .job) (jobsOf r) (jobsOf q) (sym f) (ih f)
 
     -- the greedy route's jobs are the smallest from any benches that are its own only
     own-smallest : OneOther → (At : ℕ → Type 0) (x : ℕ) (r : List Step) → ((y : ℕ) → At y → y ≡ x) → Greedy d x r → Smallest d At r
@@ -132,7 +133,7 @@ module _ (benches : ℕ) (out : ℕ → List Step) where
     greedy-smallest one x r g = own-smallest one (λ y. y ≡ x) x r (λ y e. e) g
 
     -- so its list is the first among the shortest
-    pub greedy-first : OneOther → (x : ℕ) (r q : List Step) → T (within 1 benches x) → d x ≡ suc (length r) → Greedy d x r → Walk out x q → endOf x q ≡ t → length q ≡ length r → T (dictionary (jobsOf r) (jobsOf q))
+    pub greedy-first : OneOther → (x : ℕ) (r q : List Step) → T (within 1 benches x) → d x ≡ suc (length r) → Greedy d x r → Walk out x q → endOf x q ≡ t → length q ≡ length r → T (lexLe (jobsOf r) (jobsOf q))
     greedy-first one x r q w e g v f l = smallest-first (λ y. y ≡ x) r q x far (greedy-smallest one x r g) refl v f l
       where
         far : (z : ℕ) → z ≡ x → T (within 1 benches z) × (d z ≡ suc (length r))

@@ -8,16 +8,18 @@ use mathlib.Core.Bool.{not}
 use mathlib.Core.List.{List, [], _∷_}
 use lib.Dec.{T, eqb}
 use lib.ListN.{length}
-use Rattle.spec_lists.specs.Lists.{bit, within, member, different, In, nth, change}
+use Rattle.spec_lists.specs.Lists.{bit, within, member, distinct, In, nth, update}
 use Rattle.spec_table.specs.Board.{Board, Valid, namesOf, holderOf, stands, put, load, mayHold, Shares, namesFit}
 use Rattle.spec_sharing.specs.Paths.{Step, steps, BenchPath, endOf, last, jobs, Walk, IsPath, handOver, flip}
-use Rattle.spec_lists.proofs.Basics.{true→T, both, within-low, within-high, nth-change-same, nth-change-other, length-change, change-same, each-change, map-in, not-member, different-head, different-tail}
+use Rattle.spec_lists.proofs.Tests.{true→T, both, within-low, within-high}
+use Rattle.spec_lists.proofs.Elements.{nth-update-same, nth-update-other, length-update, update-same, each-update, map-in}
+use Rattle.spec_lists.proofs.NumberLists.{not-member, distinct-head, distinct-tail}
 use Rattle.spec_table.proofs.Named.{length-shares}
-use Rattle.spec_lists.proofs.Counting.{count-change}
+use Rattle.spec_lists.proofs.Counting.{count-update}
 use Rattle.spec_sharing.proofs.Paths.{stands-within, named-stands, named-may, step-is, benchesOf, jobsOf}
 
 -- writing a job's names and its bench anew leaves a sharing ..
-pub shares-written : (named : List (List ℕ)) (holders : List ℕ) (j : ℕ) (names : List ℕ) (a : ℕ) → Shares named holders → T (mayHold names a) → Shares (change named j names) (change holders j a)
+pub shares-written : (named : List (List ℕ)) (holders : List ℕ) (j : ℕ) (names : List ℕ) (a : ℕ) → Shares named holders → T (mayHold names a) → Shares (update named j names) (update holders j a)
 shares-written named holders zero names a s t = s
 shares-written [] [] (suc i) names a s t = tt
 shares-written [] (h ∷ holders) (suc i) names a s t = absurd s
@@ -28,31 +30,31 @@ shares-written (n ∷ named) (h ∷ holders) (suc (suc i)) names a s t = (s .0, 
 -- .. a valid board ..
 pub put-valid : (b : Board) → Valid b → (j : ℕ) (names : List ℕ) (a : ℕ) → T (namesFit (b .benches) names) → T (mayHold names a) → Valid (put b j names a)
 put-valid b v j names a f t =
-    record { names = each-change (λ l. T (namesFit (b .benches) l)) (b .named) j names f (v .names); shares = shares-written (b .named) (b .holders) j names a (v .shares) t }
+    record { names = each-update (λ l. T (namesFit (b .benches) l)) (b .named) j names f (v .names); shares = shares-written (b .named) (b .holders) j names a (v .shares) t }
 
 -- .. and giving the job to a bench that it names leaves a sharing
-pub shares-given : (named : List (List ℕ)) (holders : List ℕ) (j a : ℕ) → Shares named holders → T (mayHold (nth named j []) a) → Shares named (change holders j a)
-shares-given named holders j a s t = let w = shares-written named holders j (nth named j []) a s t in rw (change-same named j []) at w
+pub shares-given : (named : List (List ℕ)) (holders : List ℕ) (j a : ℕ) → Shares named holders → T (mayHold (nth named j []) a) → Shares named (update holders j a)
+shares-given named holders j a s t = let w = shares-written named holders j (nth named j []) a s t in rw (update-same named j []) at w
 
 -- a job that is not on the route stays where it is ..
 handOver-keeps : (holders : List ℕ) (r : List Step) (i : ℕ) → (In i (jobsOf r) → ⊥) → nth (handOver holders r) i 0 ≡ nth holders i 0
 handOver-keeps holders [] i k = refl
 handOver-keeps holders (s ∷ r) i k =
-    handOver-keeps (change holders (s .job) (s .to)) r i (λ m. k (inr m)) ∙ nth-change-other holders (s .job) i (s .to) 0 (λ e. k (inl e))
+    handOver-keeps (update holders (s .job) (s .to)) r i (λ m. k (inr m)) ∙ nth-update-other holders (s .job) i (s .to) 0 (λ e. k (inl e))
 
 -- .. and one that is on it once goes where its step leads
-handOver-gives : (holders : List ℕ) (r : List Step) (s : Step) → In s r → T (different (jobsOf r)) → 1 ≤ s .job → s .job ≤ length holders → nth (handOver holders r) (s .job) 0 ≡ s .to
+handOver-gives : (holders : List ℕ) (r : List Step) (s : Step) → In s r → T (distinct (jobsOf r)) → 1 ≤ s .job → s .job ≤ length holders → nth (handOver holders r) (s .job) 0 ≡ s .to
 handOver-gives holders [] s i d l u = absurd i
 handOver-gives holders (t ∷ r) s (inl e) d l u =
-    rw e (handOver-keeps (change holders (t .job) (t .to)) r (t .job) (different-head (t .job) (jobsOf r) d) ∙ nth-change-same holders (t .job) (t .to) 0 (rw e at l) (rw e at u))
+    rw e (handOver-keeps (update holders (t .job) (t .to)) r (t .job) (distinct-head (t .job) (jobsOf r) d) ∙ nth-update-same holders (t .job) (t .to) 0 (rw e at l) (rw e at u))
 handOver-gives holders (t ∷ r) s (inr i) d l u =
-    handOver-gives (change holders (t .job) (t .to)) r s i (different-tail (t .job) (jobsOf r) d) l (omega (arith, length-change holders (t .job) (t .to)))
+    handOver-gives (update holders (t .job) (t .to)) r s i (distinct-tail (t .job) (jobsOf r) d) l (omega (arith, length-update holders (t .job) (t .to)))
 
 -- a sharing stays one if each step of the route leads to a bench that its job names
 handOver-shares : (named : List (List ℕ)) (holders : List ℕ) (r : List Step) → Shares named holders → ((s : Step) → In s r → T (mayHold (nth named (s .job) []) (s .to))) → Shares named (handOver holders r)
 handOver-shares named holders [] k f = k
 handOver-shares named holders (s ∷ r) k f =
-    handOver-shares named (change holders (s .job) (s .to)) r (shares-given named holders (s .job) (s .to) k (f s (inl refl))) (λ t i. f t (inr i))
+    handOver-shares named (update holders (s .job) (s .to)) r (shares-given named holders (s .job) (s .to) k (f s (inl refl))) (λ t i. f t (inr i))
 
 -- a step of a walk is a step from some bench
 walk-step : (out : ℕ → List Step) (x : ℕ) (r : List Step) → Walk out x r → (s : Step) → In s r → (y : ℕ) × In s (out y)
@@ -67,12 +69,12 @@ walk-leaves b x (s ∷ r) w j f (inl e) = f (inl (ap (holderOf b) e ∙ (step-is
 walk-leaves b x (s ∷ r) w j f (inr i) = walk-leaves b (s .to) r (w .1) j (λ k. f (inr k)) i
 
 -- .. so a walk that comes to no bench twice has no job twice
-walk-jobs : (b : Board) (x : ℕ) (r : List Step) → Walk (steps b) x r → T (different (x ∷ benchesOf r)) → T (different (jobsOf r))
+walk-jobs : (b : Board) (x : ℕ) (r : List Step) → Walk (steps b) x r → T (distinct (x ∷ benchesOf r)) → T (distinct (jobsOf r))
 walk-jobs b x [] w d = tt
 walk-jobs b x (s ∷ r) w d =
     let e = (step-is b x s (w .0)) .0 in
-    let f = walk-leaves b (s .to) r (w .1) (s .job) (rw e (different-head x (benchesOf (s ∷ r)) d)) in
-    both (not (member (s .job) (jobsOf r))) (different (jobsOf r)) (not-member (s .job) (jobsOf r) f) (walk-jobs b (s .to) r (w .1) (different-tail x (benchesOf (s ∷ r)) d))
+    let f = walk-leaves b (s .to) r (w .1) (s .job) (rw e (distinct-head x (benchesOf (s ∷ r)) d)) in
+    both (not (member (s .job) (jobsOf r))) (distinct (jobsOf r)) (not-member (s .job) (jobsOf r) f) (walk-jobs b (s .to) r (w .1) (distinct-tail x (benchesOf (s ∷ r)) d))
 
 module _ (b : Board) (v : Valid b) where
   step-within : (x : ℕ) (s : Step) → In s (steps b x) → T (within 1 (length (b .holders)) (s .job))
@@ -80,16 +82,16 @@ module _ (b : Board) (v : Valid b) where
       rw (length-shares (b .named) (b .holders) (v .shares)) (stands-within b (s .job) (named-stands b (s .job) (s .to) ((step-is b x s i) .1)))
 
   -- loads along a walk: the holders of its jobs are the board's, the others may be changed already
-  walk-loads : (holders : List ℕ) → length holders ≡ length (b .holders) → (x : ℕ) (r : List Step) → Walk (steps b) x r → T (different (jobsOf r)) → ((i : ℕ) → In i (jobsOf r) → nth holders i 0 ≡ holderOf b i) → (y : ℕ) → load (handOver holders r) y + bit (eqb x y) ≡ load holders y + bit (eqb (endOf x r) y)
+  walk-loads : (holders : List ℕ) → length holders ≡ length (b .holders) → (x : ℕ) (r : List Step) → Walk (steps b) x r → T (distinct (jobsOf r)) → ((i : ℕ) → In i (jobsOf r) → nth holders i 0 ≡ holderOf b i) → (y : ℕ) → load (handOver holders r) y + bit (eqb x y) ≡ load holders y + bit (eqb (endOf x r) y)
   walk-loads holders l x [] w d same y = refl
   walk-loads holders l x (s ∷ r) w d same y =
       let j = s .job in
-      let next = change holders j (s .to) in
-      let long : length next ≡ length (b .holders) = length-change holders j (s .to) ∙ l in
-      let unchanged : (i : ℕ) → In i (jobsOf r) → nth next i 0 ≡ holderOf b i = λ i k. nth-change-other holders j i (s .to) 0 (λ e. different-head j (jobsOf r) d (rw (sym e) k)) ∙ same i (inr k) in
-      let ih = walk-loads next long (s .to) r (w .1) (different-tail j (jobsOf r) d) unchanged y in
+      let next = update holders j (s .to) in
+      let long : length next ≡ length (b .holders) = length-update holders j (s .to) ∙ l in
+      let unchanged : (i : ℕ) → In i (jobsOf r) → nth next i 0 ≡ holderOf b i = λ i k. nth-update-other holders j i (s .to) 0 (λ e. distinct-head j (jobsOf r) d (rw (sym e) k)) ∙ same i (inr k) in
+      let ih = walk-loads next long (s .to) r (w .1) (distinct-tail j (jobsOf r) d) unchanged y in
       let t = step-within x s (w .0) in
-      let one = count-change holders j (s .to) y (within-low 1 (length (b .holders)) j t) (omega (arith, within-high 1 (length (b .holders)) j t)) in
+      let one = count-update holders j (s .to) y (within-low 1 (length (b .holders)) j t) (omega (arith, within-high 1 (length (b .holders)) j t)) in
       omega (arith, ih, one, ap (λ (z : ℕ). bit (eqb z y)) (same j (inl refl) ∙ (step-is b x s (w .0)) .0))
 
 module _ (b : Board) (v : Valid b) (p : BenchPath) (h : IsPath b p) where
@@ -105,8 +107,8 @@ module _ (b : Board) (v : Valid b) (p : BenchPath) (h : IsPath b p) where
       rw (m .2) (named-stands b (s .job) (s .to) ((step-is b (w .0) s (w .1)) .1))
 
   -- .. and none is on it twice
-  pub path-jobs : T (different (jobs p))
-  path-jobs = walk-jobs b (p .start) (p .route) (h .walk) (true→T (different (p .start ∷ benchesOf (p .route))) (h .once))
+  pub path-jobs : T (distinct (jobs p))
+  path-jobs = walk-jobs b (p .start) (p .route) (h .walk) (true→T (distinct (p .start ∷ benchesOf (p .route))) (h .once))
 
   -- loads: one less at the path's first bench, one more at its last, none else
   pub flip-loads : (y : ℕ) → load ((flip b p) .holders) y + bit (eqb (p .start) y) ≡ load (b .holders) y + bit (eqb (last p) y)

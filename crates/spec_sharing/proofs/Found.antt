@@ -8,13 +8,14 @@ use mathlib.Core.List.{List, _∷_}
 use mathlib.Core.Option.{none, some}
 use lib.Dec.{T}
 use lib.ListN.{length}
-use Rattle.spec_lists.specs.Lists.{within, different, dictionary, In}
+use Rattle.spec_lists.specs.Lists.{within, distinct, lexLe, In}
 use Rattle.spec_table.specs.Board.{Board, Valid, load}
 use Rattle.spec_sharing.specs.Paths.{Step, steps, BenchPath, pathBy, endOf, last, jobs, Walk, IsPath, improves, improvingFrom, improvingTo, improving}
 use Rattle.spec_sharing.specs.Sharing.{arrivalKey, closingKey, arrivalChoice, closingChoice, levellingChoice, level}
-use Rattle.spec_lists.proofs.Basics.{T→true, in-empty}
+use Rattle.spec_lists.proofs.Tests.{T→true}
+use Rattle.spec_lists.proofs.Elements.{in-empty}
 use Rattle.spec_sharing.proofs.Paths.{benchesOf, jobsOf, improvingFrom-only, improvingFrom-every, improves-loads, loads-improve, improves-start, improving-only, improving-every, improvingTo-only, improvingTo-every, level-exact}
-use Rattle.spec_sharing.proofs.Choice.{least-empty, ArrivalFirst, ClosingFirst, LevellingFirst, First, arrival-choice, closing-choice, levelling-choice}
+use Rattle.spec_sharing.proofs.Choice.{argmin-empty, ArrivalFirst, ClosingFirst, LevellingFirst, First, arrival-choice, closing-choice, levelling-choice}
 use Rattle.spec_sharing.proofs.Walks.{Reach, reach-more, reach-all, fewest-once, path-reach, reach-bench, level-reach}
 use Rattle.spec_sharing.proofs.Distances.{To, Away}
 
@@ -23,7 +24,7 @@ pub record FirstList (b : Board) (x y d : ℕ) (r : List Step) : Type 0 where
   pub walk : Walk (steps b) x r
   pub ends : endOf x r ≡ y
   pub long : d ≡ suc (length r)
-  pub first : (q : List Step) → Walk (steps b) x q → endOf x q ≡ y → length q ≡ length r → T (dictionary (jobsOf r) (jobsOf q))
+  pub first : (q : List Step) → Walk (steps b) x q → endOf x q ≡ y → length q ≡ length r → T (lexLe (jobsOf r) (jobsOf q))
 
 -- an order of ends by distance is one of paths by length: m and n are the distances, r and k the lengths
 by-length : {A E D : Type 0} (m n r k y z : ℕ) → m ≡ suc r → n ≤ suc k → (r ≡ k → y ≡ z → D) → A ⊎ (E × ((m < n) ⊎ ((m ≡ n) × (y ≤ z)))) → A ⊎ (E × ((r < k) ⊎ ((r ≡ k) × ((y < z) ⊎ ((y ≡ z) × D)))))
@@ -71,10 +72,10 @@ module _ (b : Board) where
   first-path : (x y d : ℕ) (r : List Step) → FirstList b x y d r → ((q : List Step) → Walk (steps b) x q → endOf x q ≡ y → d ≤ suc (length q)) → IsPath b (pathBy x r)
   first-path x y d r l f =
       let o = fewest-once (steps b) x r (l .walk) (λ q w e. omega (arith, l .long, f q w (e ∙ l .ends))) in
-      record { walk = l .walk; once = T→true (different (x ∷ benchesOf r)) o }
+      record { walk = l .walk; once = T→true (distinct (x ∷ benchesOf r)) o }
 
   -- and its list comes first to that of a path between the same benches with as many steps
-  first-jobs : (x y d : ℕ) (r : List Step) → FirstList b x y d r → (q : BenchPath) → IsPath b q → q .start ≡ x → last q ≡ y → length r ≡ length (q .route) → T (dictionary (jobsOf r) (jobs q))
+  first-jobs : (x y d : ℕ) (r : List Step) → FirstList b x y d r → (q : BenchPath) → IsPath b q → q .start ≡ x → last q ≡ y → length r ≡ length (q .route) → T (lexLe (jobsOf r) (jobs q))
   first-jobs x y d r l q h s e n = let w = walk-from x q h s in l .first (q .route) (w .0) (w .1 ∙ e) (sym n)
 
 module _ (b : Board) (v : Valid b) where
@@ -109,7 +110,7 @@ module _ (b : Board) (v : Valid b) where
   -- .. and nothing where there is none
   pub arrival-not-found : (x : ℕ) (f : ℕ → ℕ) → Away (b .benches) (steps b) x f → ((z : ℕ) → Lower b x f z → ⊥) → arrivalChoice b x ≡ none
   unfolding arrivalChoice
-  arrival-not-found x f a n = least-empty (arrivalKey b) (improvingFrom b x) (in-empty (improvingFrom b x) (λ q i. n (last q) (lower-end x f a q i .0)))
+  arrival-not-found x f a n = argmin-empty (arrivalKey b) (improvingFrom b x) (in-empty (improvingFrom b x) (λ q i. n (last q) (lower-end x f a q i .0)))
 
   -- an improving path to x starts at a bench where one may start, and is no shorter than its distance
   higher-start : (x : ℕ) (d : ℕ → ℕ) → To (b .benches) (steps b) x d → (q : BenchPath) → In q (improvingTo b x) → Higher b x d (q .start) × (d (q .start) ≤ suc (length (q .route)))
@@ -141,7 +142,7 @@ module _ (b : Board) (v : Valid b) where
   -- .. and nothing where there is none
   pub closing-not-found : (x : ℕ) (d : ℕ → ℕ) → To (b .benches) (steps b) x d → ((z : ℕ) → Higher b x d z → ⊥) → closingChoice b x ≡ none
   unfolding closingChoice
-  closing-not-found x d t n = least-empty (closingKey b) (improvingTo b x) (in-empty (improvingTo b x) (λ q i. n (q .start) (higher-start x d t q i .0)))
+  closing-not-found x d t n = argmin-empty (closingKey b) (improvingTo b x) (in-empty (improvingTo b x) (λ q i. n (q .start) (higher-start x d t q i .0)))
 
   -- a board is level exactly if no bench starts an improving path
   pub level-starts : T (level b) ↔ ((x : ℕ) → T (within 1 (b .benches) x) → StartsOne b x → ⊥)

@@ -8,35 +8,36 @@ use mathlib.Core.Bool.{Bool, not, _||_}
 use mathlib.Core.List.{List, []}
 use lib.Dec.{T, eqb, ltb, ltb→lt, lt→ltb}
 use lib.ListN.{length}
-use Rattle.spec_lists.specs.Lists.{bit, within, In, empty, nth, change}
+use Rattle.spec_lists.specs.Lists.{bit, within, In, empty, nth, update}
 use Rattle.spec_table.specs.Board.{Board, Valid, namesOf, holderOf, stands, put, load, excess, mayHold, Shares, namesFit, heldBy}
 use Rattle.spec_sharing.specs.Paths.{Step, steps}
-use Rattle.spec_sharing.specs.Sharing.{arrivalChoice, closingChoice, getter, arrive, close, level}
+use Rattle.spec_sharing.specs.Sharing.{arrivalChoice, closingChoice, lightestNamed, arrive, close, level}
 use Rattle.spec_sharing.specs.Demand2.{OneMore}
-use Rattle.spec_lists.proofs.Basics.{either, or-left, or-right, Compared, same, other, compared, T-eqb, eqb-T, within-low, within-high, within-both, is-empty, nth-change-same, length-change}
+use Rattle.spec_lists.proofs.Tests.{either, or-left, or-right, Compared, same, other, compared, T-eqb, eqb-T, within-low, within-high, within-both}
+use Rattle.spec_lists.proofs.Elements.{is-empty, nth-update-same, length-update}
 use Rattle.spec_table.proofs.Named.{length-shares, fit-bench}
 use Rattle.spec_lists.proofs.Counting.{bit-other}
 use Rattle.spec_sharing.proofs.Paths.{stands-within, named-may, shares-nth, holder-bench, step-is}
-use Rattle.spec_sharing.proofs.Sets.{getter-in}
+use Rattle.spec_sharing.proofs.Sets.{lightestNamed-in}
 use Rattle.spec_sharing.proofs.Walks.{Reach, reach-here, reach-more, reach-all, reach-bench, level-reach}
 use Rattle.spec_sharing.proofs.Flip.{put-valid}
 use Rattle.spec_sharing.proofs.OneLoad.{more-load, excess-rises, excess-stays, excess-grows}
 use Rattle.spec_sharing.proofs.Levels.{level-least}
 use Rattle.spec_sharing.proofs.Changes.{put-rises, put-falls, arrival-does, taken-names, closing-does}
-use Rattle.spec_sharing.proofs.OneJob.{same-step, shares-back, held-valid, arrival-low, closing-high, brought-least, does-level}
+use Rattle.spec_sharing.proofs.OneJob.{same-step, shares-back, held-valid, arrival-low, closing-high, closure-least, does-level}
 
 -- an arrival: the load of bench `risen` rises
 
 module _ (b : Board) (v : Valid b) (l : T (level b)) (j : ℕ) (names : List ℕ) (w : T (within 1 (length (b .named)) j)) (n : T (not (stands b j))) (e : T (not (empty names))) (f : T (namesFit (b .benches) names)) where
   abbrev getting : ℕ
-  getting = getter (b .holders) names
+  getting = lightestNamed (b .holders) names
 
   -- the board in which that bench has just got the job
   abbrev got : Board
   got = put b j names getting
 
   got-valid : Valid got
-  got-valid = put-valid b v j names getting f (named-may names getting (getter-in (b .holders) names e))
+  got-valid = put-valid b v j names getting f (named-may names getting (lightestNamed-in (b .holders) names e))
 
   new-low : 1 ≤ j
   new-low = within-low 1 (length (b .named)) j w
@@ -45,7 +46,7 @@ module _ (b : Board) (v : Valid b) (l : T (level b)) (j : ℕ) (names : List ℕ
   new-high = within-high 1 (length (b .named)) j w
 
   got-stands : T (stands got j)
-  got-stands = subst (λ (k : List ℕ). T (not (empty k))) (sym (nth-change-same (b .named) j names [] new-low new-high)) e
+  got-stands = subst (λ (k : List ℕ). T (not (empty k))) (sym (nth-update-same (b .named) j names [] new-low new-high)) e
 
   none-named : namesOf b j ≡ []
   none-named = is-empty (namesOf b j) n
@@ -54,10 +55,10 @@ module _ (b : Board) (v : Valid b) (l : T (level b)) (j : ℕ) (names : List ℕ
   new-held = omega (arith, new-high, length-shares (b .named) (b .holders) (v .shares))
 
   got-holder : holderOf got j ≡ getting
-  got-holder = nth-change-same (b .holders) j getting 0 new-low new-held
+  got-holder = nth-update-same (b .holders) j getting 0 new-low new-held
 
   getting-bench : T (within 1 (b .benches) getting)
-  getting-bench = fit-bench (b .benches) names getting f (getter-in (b .holders) names e)
+  getting-bench = fit-bench (b .benches) names getting f (lightestNamed-in (b .holders) names e)
 
   one-got : OneMore (b .benches) (b .holders) (got .holders) getting
   one-got = put-rises b v j names getting w n getting-bench
@@ -86,17 +87,17 @@ module _ (b : Board) (v : Valid b) (l : T (level b)) (j : ℕ) (names : List ℕ
   arrival-above h hs s =
       let o = put-falls (heldBy got hs) (held-valid got got-valid hs s) j got-stands in
       let k : T (mayHold (namesOf b j) 0) = rw none-named tt in
-      omega (arith, level-least b v l h (change hs j 0) (shares-back b v j names 0 hs k s), (excess-grows (b .benches) (change hs j 0) hs (nth hs j 0) o h) .0)
+      omega (arith, level-least b v l h (update hs j 0) (shares-back b v j names 0 hs k s), (excess-grows (b .benches) (update hs j 0) hs (nth hs j 0) o h) .0)
 
   -- what the benches above h and the getting one reach: the getting one reaches it, or one above h did in the old board
-  abbrev Reached : ℕ → ℕ → Type 0
-  Reached h y = Reach (steps got) getting y ⊎ ((u : ℕ) × (h < load (b .holders) u) × Reach (steps b) u y)
+  abbrev ReachedEither : ℕ → ℕ → Type 0
+  ReachedEither h y = Reach (steps got) getting y ⊎ ((u : ℕ) × (h < load (b .holders) u) × Reach (steps b) u y)
 
-  reached-more : (h z : ℕ) (s : Step) → Reached h z → In s (steps got z) → Reached h (s .to)
+  reached-more : (h z : ℕ) (s : Step) → ReachedEither h z → In s (steps got z) → ReachedEither h (s .to)
   reached-more h z s (inl q) i = inl (reach-more (steps got) getting z s q i)
   reached-more h z s (inr q) i = go (ℕ-discrete (s .job) j)
     where
-      go : Dec (s .job ≡ j) → Reached h (s .to)
+      go : Dec (s .job ≡ j) → ReachedEither h (s .to)
       go (yes d) =
           let here : z ≡ getting = sym ((step-is got z s i) .0) ∙ ap (holderOf got) d ∙ got-holder in
           inl (reach-more (steps got) getting getting s (reach-here (steps got) getting) (subst (λ (y : ℕ). In s (steps got y)) here i))
@@ -105,18 +106,18 @@ module _ (b : Board) (v : Valid b) (l : T (level b)) (j : ℕ) (names : List ℕ
   -- up to the old load of `risen` they reach no bench below h
   arrival-below : (h : ℕ) → h ≤ load (b .holders) risen → (hs : List ℕ) → Shares (got .named) hs → excess (b .benches) (got .holders) h ≤ excess (b .benches) hs h
   arrival-below h i =
-      brought-least got got-valid (λ y. ltb h (load (b .holders) y) || eqb y getting) h (λ y t k. above y t k (compared getting y))
-      (λ z y t u p q. full y u (reach-all (steps got) (Reached h) (reached-more h) z y (start z (either (ltb h (load (b .holders) z)) (eqb z getting) p)) q))
+      closure-least got got-valid (λ y. ltb h (load (b .holders) y) || eqb y getting) h (λ y t k. above y t k (compared getting y))
+      (λ z y t u p q. full y u (reach-all (steps got) (ReachedEither h) (reached-more h) z y (start z (either (ltb h (load (b .holders) z)) (eqb z getting) p)) q))
     where
       above : (y : ℕ) → T (within 1 (b .benches) y) → h < load (got .holders) y → {z : Bool} → Compared getting y z → T (ltb h (load (b .holders) y) || eqb y getting)
       above y t k (same d) = or-right (ltb h (load (b .holders) y)) (eqb y getting) (eqb-T y getting (sym d))
       above y t k (other d) = or-left (ltb h (load (b .holders) y)) (eqb y getting) (lt→ltb h (load (b .holders) y) (omega (arith, got-load y t, bit-other getting y d)))
 
-      start : (z : ℕ) → T (ltb h (load (b .holders) z)) ⊎ T (eqb z getting) → Reached h z
+      start : (z : ℕ) → T (ltb h (load (b .holders) z)) ⊎ T (eqb z getting) → ReachedEither h z
       start z (inl p) = inr (z, ltb→lt h (load (b .holders) z) p, reach-here (steps b) z)
       start z (inr p) = inl (subst (Reach (steps got) getting) (sym (T-eqb z getting p)) (reach-here (steps got) getting))
 
-      full : (y : ℕ) → T (within 1 (b .benches) y) → Reached h y → h ≤ load (got .holders) y
+      full : (y : ℕ) → T (within 1 (b .benches) y) → ReachedEither h y → h ≤ load (got .holders) y
       full y t (inl q) = omega (arith, got-load y t, risen-low y q)
       full y t (inr q) = omega (arith, got-load y t, q .1, (level-reach b v) .0 l (q .0) y (q .2))
 
@@ -174,10 +175,10 @@ module _ (b : Board) (v : Valid b) (l : T (level b)) (j : ℕ) (s : T (stands b 
   -- with the job given back to its bench a sharing of the new jobs is one of the old
   closing-below : (h : ℕ) (hs : List ℕ) → Shares (lost .named) hs → excess (b .benches) (b .holders) h ≤ suc (excess (b .benches) hs h)
   closing-below h hs t =
-      let w : T (within 1 (length (lost .named)) j) = rw (length-change (b .named) j []) (stands-within b j s) in
+      let w : T (within 1 (length (lost .named)) j) = rw (length-update (b .named) j []) (stands-within b j s) in
       let n : T (not (stands lost j)) = rw lost-names tt in
       let o = put-rises (heldBy lost hs) (held-valid lost lost-valid hs t) j [] losing w n (holder-bench b v j s) in
-      omega (arith, level-least b v l h (change hs j losing) (shares-back b v j [] losing hs (shares-nth b v j) t), (excess-grows (b .benches) hs (change hs j losing) losing o h) .1)
+      omega (arith, level-least b v l h (update hs j losing) (shares-back b v j [] losing hs (shares-nth b v j) t), (excess-grows (b .benches) hs (update hs j losing) losing o h) .1)
 
   -- what is reached without the job was reached with it
   reach-before : (z y : ℕ) → Reach (steps lost) z y → Reach (steps b) z y
@@ -191,7 +192,7 @@ module _ (b : Board) (v : Valid b) (l : T (level b)) (j : ℕ) (s : T (stands b 
   -- from the old load of `fallen` on, the benches above h reach no bench below h
   closing-above : (h : ℕ) → load (b .holders) fallen ≤ h → (hs : List ℕ) → Shares (lost .named) hs → excess (b .benches) (lost .holders) h ≤ excess (b .benches) hs h
   closing-above h i =
-      brought-least lost lost-valid (λ y. ltb h (load (b .holders) y)) h (λ y t k. lt→ltb h (load (b .holders) y) (omega (arith, lost-load y t)))
+      closure-least lost lost-valid (λ y. ltb h (load (b .holders) y)) h (λ y t k. lt→ltb h (load (b .holders) y) (omega (arith, lost-load y t)))
       (λ z y t u p q. full z y t u (ltb→lt h (load (b .holders) z) p) q)
     where
       full : (z y : ℕ) → T (within 1 (b .benches) z) → T (within 1 (b .benches) y) → h < load (b .holders) z → Reach (steps lost) z y → h ≤ load (lost .holders) y

@@ -14,8 +14,8 @@ use Rattle.spec_table.specs.Board.{Board, Valid, load}
 use Rattle.spec_table.specs.Table.{Storable}
 use Rattle.spec_sharing.specs.Paths.{BenchPath, last, IsPath, improves, flip}
 use Rattle.spec_sharing.specs.Sharing.{levellingChoice, level, Levelled, relevel}
-use Rattle.spec_sharing.specs.Demand2.{Turns, rest, turn, LevellingReport}
-use Rattle.spec_lists.proofs.Basics.{Compared, same, other, compared, eqb-refl, within-low, within-high}
+use Rattle.spec_sharing.specs.Demand2.{Flips, noFlip, flipThen, LevellingReport}
+use Rattle.spec_lists.proofs.Tests.{Compared, same, other, compared, eqb-refl, within-low, within-high}
 use Rattle.spec_table.proofs.Named.{length-shares}
 use Rattle.spec_lists.proofs.Counting.{bit-same, bit-other, total-but-one, total-count-le}
 use Rattle.spec_sharing.proofs.Paths.{improves-loads, improves-start, level-exact}
@@ -32,53 +32,53 @@ pub record Relevels (allowance : ℕ) (b : Board) (r : Levelled) : Type 0 where
   pub done : r .paths < allowance → T (level (r .board))
 
 -- levelling from the path that the rule names on
-abbrev turned : ℕ → Board → Option BenchPath → Levelled
-turned n b o =
+abbrev flipped : ℕ → Board → Option BenchPath → Levelled
+flipped n b o =
     elim o [
       | none ↦ record { paths = 0; board = b }
       | some p ↦ let r = relevel n (flip b p) in record { paths = suc (r .paths); board = r .board }
     ]
 
 -- no path turned
-unturned : (allowance : ℕ) (b : Board) → LevellingReport b b allowance 0
-unturned allowance b = record { benches = refl; jobs = refl; turned = rest b; allowed = omega arith }
+unflipped : (allowance : ℕ) (b : Board) → LevellingReport b b allowance 0
+unflipped allowance b = record { benches = refl; jobs = refl; flipped = noFlip b; allowed = omega arith }
 
 -- levelling does all of that
 pub levelling-does : (allowance : ℕ) (b : Board) → Valid b → Relevels allowance b (relevel allowance b)
 unfolding flip
-levelling-does zero b v = record { valid = v; report = unturned zero b; done = λ h. absurd (omega arith) }
+levelling-does zero b v = record { valid = v; report = unflipped zero b; done = λ h. absurd (omega arith) }
 levelling-does (suc n) b v = go (levellingChoice b) refl (λ p w. levelling-does n (flip b p) w)
   where
-    go : (o : Option BenchPath) → levellingChoice b ≡ o → ((p : BenchPath) → Valid (flip b p) → Relevels n (flip b p) (relevel n (flip b p))) → Relevels (suc n) b (turned n b o)
-    go none e ih = record { valid = v; report = unturned (suc n) b; done = λ h. choice-level b e }
+    go : (o : Option BenchPath) → levellingChoice b ≡ o → ((p : BenchPath) → Valid (flip b p) → Relevels n (flip b p) (relevel n (flip b p))) → Relevels (suc n) b (flipped n b o)
+    go none e ih = record { valid = v; report = unflipped (suc n) b; done = λ h. choice-level b e }
     go (some p) e ih =
         let r = relevel n (flip b p) in
         let i = ih p (flip-valid b v p ((choice-improves b p e) .0)) in
         let j = i .report in
         record {
           valid = i .valid;
-          report = record { benches = j .benches; jobs = j .jobs; turned = turn (r .paths) b (r .board) p e (j .turned); allowed = omega (arith, j .allowed) };
+          report = record { benches = j .benches; jobs = j .jobs; flipped = flipThen (r .paths) b (r .board) p e (j .flipped); allowed = omega (arith, j .allowed) };
           done = λ h. i .done (omega arith);
         }
 
 -- a loop turns one path after the others ..
-pub turns-more : (n : ℕ) (b c : Board) (p : BenchPath) → Turns n b c → levellingChoice c ≡ some p → Turns (suc n) b (flip c p)
-turns-more n b c p (rest _) e = turn 0 b (flip b p) p e (rest (flip b p))
-turns-more n b c p (turn m _ _ q f s) e = turn (suc m) b (flip c p) q f (turns-more m (flip b q) c p s e)
+pub flips-more : (n : ℕ) (b c : Board) (p : BenchPath) → Flips n b c → levellingChoice c ≡ some p → Flips (suc n) b (flip c p)
+flips-more n b c p (noFlip _) e = flipThen 0 b (flip b p) p e (noFlip (flip b p))
+flips-more n b c p (flipThen m _ _ q f s) e = flipThen (suc m) b (flip c p) q f (flips-more m (flip b q) c p s e)
 
 -- .. and if it ends where the allowance or the improving paths do, it has done what levelling is
-pub turns-relevel : (n allowance : ℕ) (b c : Board) → Turns n b c → n ≤ allowance → (n < allowance → levellingChoice c ≡ none) → relevel allowance b ≡ record { paths = n; board = c }
-turns-relevel n zero b c (rest _) l d = refl
-turns-relevel n (suc a) b c (rest _) l d = ap (turned a b) (d (omega arith))
-turns-relevel n zero b c (turn m _ _ p e s) l d = absurd (omega arith)
-turns-relevel n (suc a) b c (turn m _ _ p e s) l d =
-    let h = turns-relevel m a (flip b p) c s (omega arith) (λ k. d (omega arith)) in
-    ap (turned a b) e ∙ ap (λ (r : Levelled). record { paths = suc (r .paths); board = r .board }) h
+pub flips-relevel : (n allowance : ℕ) (b c : Board) → Flips n b c → n ≤ allowance → (n < allowance → levellingChoice c ≡ none) → relevel allowance b ≡ record { paths = n; board = c }
+flips-relevel n zero b c (noFlip _) l d = refl
+flips-relevel n (suc a) b c (noFlip _) l d = ap (flipped a b) (d (omega arith))
+flips-relevel n zero b c (flipThen m _ _ p e s) l d = absurd (omega arith)
+flips-relevel n (suc a) b c (flipThen m _ _ p e s) l d =
+    let h = flips-relevel m a (flip b p) c s (omega arith) (λ k. d (omega arith)) in
+    ap (flipped a b) e ∙ ap (λ (r : Levelled). record { paths = suc (r .paths); board = r .board }) h
 
 -- on a level board nothing moves
 pub level-rests : (allowance : ℕ) (b : Board) → T (level b) → relevel allowance b ≡ record { paths = 0; board = b }
 level-rests zero b l = refl
-level-rests (suc n) b l = ap (turned n b) (level-choice b l)
+level-rests (suc n) b l = ap (flipped n b) (level-choice b l)
 
 -- the waits of a bench with n jobs, each waiting for those before it: n × (n - 1) / 2
 abbrev pub waits : ℕ → ℕ
@@ -125,30 +125,30 @@ module _ (n : ℕ) (old new : ℕ → ℕ) (x z : ℕ) (loads : (y : ℕ) → ne
       )
 
 -- turning an improving path lowers it ..
-pub turn-lowers : (b : Board) → Valid b → (p : BenchPath) → IsPath b p → T (improves b p) → waiting (flip b p) < waiting b
+pub flip-lowers-waits : (b : Board) → Valid b → (p : BenchPath) → IsPath b p → T (improves b p) → waiting (flip b p) < waiting b
 unfolding flip
-turn-lowers b v p h t =
+flip-lowers-waits b v p h t =
     let old = load (b .holders) in
     let s = improves-start b v p h t in
     let l = reach-bench b v (p .start) (last p) s (path-reach b p h) in
     waits-fall (b .benches) old (load ((flip b p) .holders)) (p .start) (last p) (flip-loads b v p h) (improves-loads b p t) s l
 
 -- .. by one or more for each path turned
-pub turns-lower : (n : ℕ) (b c : Board) → Valid b → Turns n b c → n + waiting c ≤ waiting b
-turns-lower n b c v (rest _) = omega arith
-turns-lower n b c v (turn m _ _ p e s) =
+pub flips-lower : (n : ℕ) (b c : Board) → Valid b → Flips n b c → n + waiting c ≤ waiting b
+flips-lower n b c v (noFlip _) = omega arith
+flips-lower n b c v (flipThen m _ _ p e s) =
     let h = choice-improves b p e in
-    omega (arith, turn-lowers b v p (h .0) (h .1), turns-lower m (flip b p) c (flip-valid b v p (h .0)) s)
+    omega (arith, flip-lowers-waits b v p (h .0) (h .1), flips-lower m (flip b p) c (flip-valid b v p (h .0)) s)
 
 -- .. so an allowance of that many always ends in "level" ..
 pub levelling-ends : (allowance : ℕ) (b : Board) → Valid b → waiting b ≤ allowance → T (level ((relevel allowance b) .board))
 levelling-ends allowance b v l =
     let r = relevel allowance b in
     let d = levelling-does allowance b v in
-    let w = turns-lower (r .paths) b (r .board) v (d .report .turned) in
+    let w = flips-lower (r .paths) b (r .board) v (d .report .flipped) in
     elim (decLt (r .paths) allowance) [
       | yes h ↦ d .done h
-      | no h ↦ (level-exact (r .board) (d .valid)) .1 (λ p q t. omega (arith, turn-lowers (r .board) (d .valid) p q t))
+      | no h ↦ (level-exact (r .board) (d .valid)) .1 (λ p q t. omega (arith, flip-lowers-waits (r .board) (d .valid) p q t))
     ]
 
 -- jobs on one bench wait at least as long as on two

@@ -7,12 +7,13 @@ use mathlib.Core.Bool.{Bool, not}
 use mathlib.Core.List.{List, [], _∷_}
 use lib.Dec.{T, leb, eqb}
 use lib.ListN.{length}
-use Rattle.spec_lists.specs.Lists.{bit, within, greatest, keep, Each, empty}
+use Rattle.spec_lists.specs.Lists.{bit, within, greatest, filter, Each, empty}
 use Rattle.spec_table.specs.Board.{Board, Valid, standing, load, heaviest, excess, Shares, heldBy, namesFit}
 use Rattle.spec_sharing.specs.Paths.{BenchPath, last, IsPath, improves, flip}
 use Rattle.spec_sharing.specs.Sharing.{level, tightSet, inside, density}
-use Rattle.spec_sharing.specs.Demand2.{LeastOverhang, Demand2}
-use Rattle.spec_lists.proofs.Basics.{Compared, same, other, compared, T-leb, leb-T, within-low, within-high, within-both, member-in}
+use Rattle.spec_sharing.specs.Demand2.{LeastExcess, Demand2}
+use Rattle.spec_lists.proofs.Tests.{Compared, same, other, compared, T-leb, leb-T, within-low, within-high, within-both}
+use Rattle.spec_lists.proofs.NumberLists.{member-in}
 use Rattle.spec_table.proofs.Named.{fit-bench}
 use Rattle.spec_lists.proofs.Counting.{bit-same, bit-other, total-but-one, greatest-above, greatest-most, greatest-reached}
 use Rattle.spec_sharing.proofs.Paths.{improves-loads, improves-start, level-exact}
@@ -20,18 +21,18 @@ use Rattle.spec_table.proofs.Loads.{load-heaviest, excess-none, excess-load}
 use Rattle.spec_sharing.proofs.Sets.{density-between}
 use Rattle.spec_sharing.proofs.Walks.{level-reach}
 use Rattle.spec_sharing.proofs.Certificate.{Proves, attained, proved-least, certificate}
-use Rattle.spec_sharing.proofs.TightSet.{brought-proves}
+use Rattle.spec_sharing.proofs.TightSet.{closure-proves}
 use Rattle.spec_sharing.proofs.Flip.{flip-loads, flip-valid}
 
 -- on a level board the tight set of height h + 1 proves the overhang above h
 pub tight-proves : (b : Board) → Valid b → T (level b) → (h : ℕ) → Proves b (tightSet b (suc h)) h
 unfolding tightSet
 tight-proves b v l h =
-    brought-proves b (λ x. leb (suc h) (load (b .holders) x)) v h (λ x t. leb-T (suc h) (load (b .holders) x))
+    closure-proves b (λ x. leb (suc h) (load (b .holders) x)) v h (λ x t. leb-T (suc h) (load (b .holders) x))
     (λ x y t u k w. omega (arith, T-leb (suc h) (load (b .holders) x) k, (level-reach b v) .0 l x y w))
 
 -- level means least above every height ..
-pub level-least : (b : Board) → Valid b → T (level b) → LeastOverhang b
+pub level-least : (b : Board) → Valid b → T (level b) → LeastExcess b
 level-least b v l h = proved-least b v (tightSet b (suc h)) h (tight-proves b v l h)
 
 -- (turning an improving path lowers the overhang just below its first bench's load)
@@ -72,7 +73,7 @@ flip-lowers b v p h t =
         go (other c) o = omega (arith, flip-loads b v p h y, bit-other (last p) y c)
 
 -- .. and least above every height means level
-pub least-level : (b : Board) → Valid b → LeastOverhang b → T (level b)
+pub least-level : (b : Board) → Valid b → LeastExcess b → T (level b)
 unfolding flip
 least-level b v m = (level-exact b v) .1 none
   where
@@ -84,7 +85,7 @@ least-level b v m = (level-exact b v) .1 none
 -- the heaviest load
 
 -- where jobs stand, some bench of 1 to B holds one ..
-standing-held : (n : ℕ) (named : List (List ℕ)) (holders : List ℕ) → Each (λ names. T (namesFit n names)) named → Shares named holders → 1 ≤ length (keep (λ names. not (empty names)) named) → (x : ℕ) × T (within 1 n x) × (1 ≤ load holders x)
+standing-held : (n : ℕ) (named : List (List ℕ)) (holders : List ℕ) → Each (λ names. T (namesFit n names)) named → Shares named holders → 1 ≤ length (filter (λ names. not (empty names)) named) → (x : ℕ) × T (within 1 n x) × (1 ≤ load holders x)
 standing-held n [] holders f s l = absurd (omega arith)
 standing-held n (names ∷ named) [] f s l = absurd s
 standing-held n ([] ∷ named) (h ∷ holders) f s l = let r = standing-held n named holders (f .1) (s .1) l in (r .0, r .1, omega (arith, r .2))
@@ -104,7 +105,7 @@ heaviest-excess b k e =
     omega (arith, e, r .3, excess-load (b .benches) (b .holders) k (r .0) (r .1) (r .2))
 
 -- the heaviest load is no greater than that of any sharing, if the overhang is least
-least-heaviest : (b : Board) → LeastOverhang b → (holders : List ℕ) → Shares (b .named) holders → heaviest b ≤ heaviest (heldBy b holders)
+least-heaviest : (b : Board) → LeastExcess b → (holders : List ℕ) → Shares (b .named) holders → heaviest b ≤ heaviest (heldBy b holders)
 unfolding heaviest
 least-heaviest b m holders s =
     let g = greatest (b .benches) (load holders) in
@@ -113,8 +114,8 @@ least-heaviest b m holders s =
 
 module _ (b : Board) (v : Valid b) (l : T (level b)) where
   -- the certificate is an equation for a tight set ..
-  tight-overhang : (k : ℕ) → inside (tightSet b (suc k)) (b .named) ≡ k * length (tightSet b (suc k)) + excess (b .benches) (b .holders) k
-  tight-overhang k = attained b v (tightSet b (suc k)) k (tight-proves b v l k)
+  tight-excess : (k : ℕ) → inside (tightSet b (suc k)) (b .named) ≡ k * length (tightSet b (suc k)) + excess (b .benches) (b .holders) k
+  tight-excess k = attained b v (tightSet b (suc k)) k (tight-proves b v l k)
 
   -- .. and the one at the heaviest load has just that density
   pub tight-density : 1 ≤ heaviest b → let set = tightSet b (heaviest b) in density (inside set (b .named)) (length set) ≡ heaviest b
@@ -125,7 +126,7 @@ module _ (b : Board) (v : Valid b) (l : T (level b)) where
           let set = tightSet b (suc k) in
           let none = excess-none (b .benches) (b .holders) (suc k) (λ x i u. omega (arith, e, load-heaviest b x (within-both 1 (b .benches) x i u))) in
           let most = certificate (b .benches) (b .named) (v .names) (b .holders) (v .shares) set (suc k) in
-          density-between (inside set (b .named)) (length set) k (omega (arith, tight-overhang k, heaviest-excess b k e)) (omega (arith, none, most))
+          density-between (inside set (b .named)) (length set) k (omega (arith, tight-excess k, heaviest-excess b k e)) (omega (arith, none, most))
 
 -- "on a level board the heaviest load is the least over all orientations, its tight set proves it"
 pub level-demand2 : (b : Board) → Valid b → T (level b) → Demand2 b
@@ -134,5 +135,5 @@ level-demand2 b v l =
       orientation = v .shares;
       noLower = least-heaviest b (level-least b v l);
       tight = λ i. tight-density b v l (standing-load b v i);
-      heights = λ h i u. let e : suc (h - 1) ≡ h = omega arith in rw e at (tight-overhang b v l (h - 1));
+      heights = λ h i u. let e : suc (h - 1) ≡ h = omega arith in rw e at (tight-excess b v l (h - 1));
     }

@@ -6,11 +6,11 @@ use mathlib.Core.Bool.{Bool}
 use mathlib.Core.List.{List}
 use lib.Dec.{T, eqb}
 use lib.ListN.{length}
-use Rattle.spec_lists.specs.Lists.{bit, within, nth, change}
+use Rattle.spec_lists.specs.Lists.{bit, within, nth, update}
 use Rattle.spec_table.specs.Board.{load, excess}
 use Rattle.spec_sharing.specs.Demand2.{OneMore}
-use Rattle.spec_lists.proofs.Basics.{Compared, same, other, compared, within-low, within-high}
-use Rattle.spec_lists.proofs.Counting.{bit-same, bit-other, total-but-one, count-change}
+use Rattle.spec_lists.proofs.Tests.{Compared, same, other, compared, within-low, within-high}
+use Rattle.spec_lists.proofs.Counting.{bit-same, bit-other, total-but-one, count-update}
 
 -- "one more at x" from a sum ..
 pub one-more : (benches : ℕ) (less more : List ℕ) (x : ℕ) → T (within 1 benches x) → ((y : ℕ) → 1 ≤ y → y ≤ benches → load more y ≡ load less y + bit (eqb x y)) → OneMore benches less more x
@@ -33,14 +33,14 @@ more-load benches less more x o y l u = go (compared x y)
     go (other d) = omega (arith, o .elsewhere y l u (λ e. d (sym e)))
 
 -- giving bench a job that nobody holds
-pub given-one : (benches : ℕ) (holders : List ℕ) (j a : ℕ) → 1 ≤ j → j ≤ length holders → nth holders j 0 ≡ 0 → T (within 1 benches a) → OneMore benches holders (change holders j a) a
+pub given-one : (benches : ℕ) (holders : List ℕ) (j a : ℕ) → 1 ≤ j → j ≤ length holders → nth holders j 0 ≡ 0 → T (within 1 benches a) → OneMore benches holders (update holders j a) a
 given-one benches holders j a l u e t =
-    one-more benches holders (change holders j a) a t (λ y p q. omega (arith, count-change holders j a y l u, bit-other (nth holders j 0) y (λ d. omega arith)))
+    one-more benches holders (update holders j a) a t (λ y p q. omega (arith, count-update holders j a y l u, bit-other (nth holders j 0) y (λ d. omega arith)))
 
 -- taking a job away from the bench that holds it
-pub taken-one : (benches : ℕ) (holders : List ℕ) (j : ℕ) → 1 ≤ j → j ≤ length holders → T (within 1 benches (nth holders j 0)) → OneMore benches (change holders j 0) holders (nth holders j 0)
+pub taken-one : (benches : ℕ) (holders : List ℕ) (j : ℕ) → 1 ≤ j → j ≤ length holders → T (within 1 benches (nth holders j 0)) → OneMore benches (update holders j 0) holders (nth holders j 0)
 taken-one benches holders j l u t =
-    one-more benches (change holders j 0) holders (nth holders j 0) t (λ y p q. omega (arith, count-change holders j 0 y l u, bit-other 0 y (λ d. omega arith)))
+    one-more benches (update holders j 0) holders (nth holders j 0) t (λ y p q. omega (arith, count-update holders j 0 y l u, bit-other 0 y (λ d. omega arith)))
 
 module _ (benches : ℕ) (less more : List ℕ) (x : ℕ) (o : OneMore benches less more x) where
   -- the overhang changes by what the raised load is above the height

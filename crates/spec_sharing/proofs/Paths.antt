@@ -8,13 +8,15 @@ use mathlib.Core.List.{List, [], _∷_, _++_, map}
 use lib.Dec.{T, eqb, not-T}
 use lib.ListN.{length, getD, length-map}
 use borrow.Author.Tests.{eq-eqb}
-use Rattle.spec_lists.specs.Lists.{within, member, different, rising, keep, Each, In, empty}
+use Rattle.spec_lists.specs.Lists.{within, member, distinct, range, filter, Each, In, empty}
 use Rattle.spec_table.specs.Board.{Board, Valid, namesOf, holderOf, stands, load, mayHold, Shares, namesFit}
 use Rattle.spec_sharing.specs.Paths.{Step, stepBy, stepsFrom, steps, BenchPath, pathBy, endOf, last, Walk, IsPath, routes, pathsFrom, improves, improvingFrom, improving, improvingTo}
 use Rattle.spec_sharing.specs.Sharing.{level}
-use Rattle.spec_lists.proofs.Basics.{true→T, T→true, both, Compared, same, other, compared, T-eqb, eqb-T, T-leb, leb-T, within-both, in-left, in-right, in-either, in-keep, keep-in, empty-in, in-empty, some-in, nth-within, each-nth, in-map, map-in, in-flatMap, flatMap-in, member-in, in-member, bench-listed, listed-bench, not-member, member-not, different-head, different-tail, others-in}
+use Rattle.spec_lists.proofs.Tests.{true→T, T→true, both, Compared, same, other, compared, T-eqb, eqb-T, T-leb, leb-T, within-both}
+use Rattle.spec_lists.proofs.Elements.{in-left, in-right, in-either, in-filter, filter-in, empty-in, in-empty, some-in, nth-within, each-nth, in-map, map-in, in-flatMap, flatMap-in}
+use Rattle.spec_lists.proofs.NumberLists.{member-in, in-member, bench-listed, listed-bench, not-member, member-not, distinct-head, distinct-tail, others-in}
 use Rattle.spec_table.proofs.Named.{fit-bench}
-use Rattle.spec_lists.proofs.Counting.{few, different-count}
+use Rattle.spec_lists.proofs.Counting.{few, distinct-count}
 
 -- the benches that a job names, and the one that holds it
 
@@ -68,32 +70,32 @@ holder-none b v j e = let t = shares-nth b v j in T-eqb (holderOf b j) 0 (rw e a
 -- steps
 
 -- what a step by a job from j on is; i is how far behind j the job stands
-abbrev Leaves : ℕ → ℕ → List (List ℕ) → List ℕ → Step → Type 0
-Leaves j x named holders s =
+abbrev StepFrom : ℕ → ℕ → List (List ℕ) → List ℕ → Step → Type 0
+StepFrom j x named holders s =
     (i : ℕ) × (s .job ≡ j + i) × (getD holders i 0 ≡ x) × In (s .to) (getD named i []) × (s .to ≢ x)
 
-stepsFrom-is : (j x : ℕ) (named : List (List ℕ)) (holders : List ℕ) (s : Step) → In s (stepsFrom j x named holders) → Leaves j x named holders s
+stepsFrom-is : (j x : ℕ) (named : List (List ℕ)) (holders : List ℕ) (s : Step) → In s (stepsFrom j x named holders) → StepFrom j x named holders s
 stepsFrom-is j x [] holders s i = absurd i
 stepsFrom-is j x (names ∷ named) [] s i = absurd i
 stepsFrom-is j x (names ∷ named) (h ∷ holders) s i = go (compared h x) (λ k. later (stepsFrom-is (suc j) x named holders s k)) i
   where
     others : List ℕ
-    others = keep (λ y. not (eqb y x)) names
+    others = filter (λ y. not (eqb y x)) names
 
     rest : List Step
     rest = stepsFrom (suc j) x named holders
 
-    later : Leaves (suc j) x named holders s → Leaves j x (names ∷ named) (h ∷ holders) s
+    later : StepFrom (suc j) x named holders s → StepFrom j x (names ∷ named) (h ∷ holders) s
     later r = (suc (r .0), omega (arith, r .1), r .2, r .3, r .4)
 
-    first : h ≡ x → In s (map (stepBy j) others) → Leaves j x (names ∷ named) (h ∷ holders) s
+    first : h ≡ x → In s (map (stepBy j) others) → StepFrom j x (names ∷ named) (h ∷ holders) s
     first e k =
         let m = map-in (stepBy j) s others k in
         let f = (others-in x names (m .0)) .0 (m .1) in
         let to : s .to ≡ m .0 = ap (λ (t : Step). t .to) (m .2) in
         (0, omega (arith, ap (λ (t : Step). t .job) (m .2)), e, rw to (f .1), λ d. f .0 (sym to ∙ d))
 
-    go : {z : Bool} → Compared h x z → (In s rest → Leaves j x (names ∷ named) (h ∷ holders) s) → In s (cond z (map (stepBy j) others ++ rest) rest) → Leaves j x (names ∷ named) (h ∷ holders) s
+    go : {z : Bool} → Compared h x z → (In s rest → StepFrom j x (names ∷ named) (h ∷ holders) s) → In s (cond z (map (stepBy j) others ++ rest) rest) → StepFrom j x (names ∷ named) (h ∷ holders) s
     go (same e) ih k = elim (in-either s (map (stepBy j) others) rest k) [ inl m ↦ first e m | inr m ↦ ih m ]
     go (other d) ih k = ih k
 
@@ -102,14 +104,14 @@ pub step-is : (b : Board) (x : ℕ) (s : Step) → In s (steps b x) → (holderO
 unfolding steps
 step-is b x s i = go (stepsFrom-is 1 x (b .named) (b .holders) s i)
   where
-    go : Leaves 1 x (b .named) (b .holders) s → (holderOf b (s .job) ≡ x) × In (s .to) (namesOf b (s .job)) × (s .to ≢ x)
+    go : StepFrom 1 x (b .named) (b .holders) s → (holderOf b (s .job) ≡ x) × In (s .to) (namesOf b (s .job)) × (s .to ≢ x)
     go r = let e : s .job ≡ suc (r .0) = omega (arith, r .1) in rw e (r .2, r .3, r .4)
 
 stepsFrom-has : (j x i : ℕ) (named : List (List ℕ)) (holders : List ℕ) (s : Step) → length named ≡ length holders → s .job ≡ j + i → getD holders i 0 ≡ x → In (s .to) (getD named i []) → s .to ≢ x → In s (stepsFrom j x named holders)
 stepsFrom-has j x i [] holders s l e h n d = absurd n
 stepsFrom-has j x i (names ∷ named) [] s l e h n d = omega arith
 stepsFrom-has j x zero (names ∷ named) (h₀ ∷ holders) s l e h n d =
-    let others = keep (λ y. not (eqb y x)) names in
+    let others = filter (λ y. not (eqb y x)) names in
     let kept = (others-in x names (s .to)) .1 (d, n) in
     let job : j ≡ s .job = omega arith in
     let first = subst (λ (i : ℕ). In (stepBy i (s .to)) (map (stepBy j) others)) job (in-map (stepBy j) (s .to) others kept) in
@@ -117,7 +119,7 @@ stepsFrom-has j x zero (names ∷ named) (h₀ ∷ holders) s l e h n d =
 stepsFrom-has j x (suc i) (names ∷ named) (h₀ ∷ holders) s l e h n d = later (eqb h₀ x) (stepsFrom-has (suc j) x i named holders s (omega arith) (omega arith) h n d)
   where
     others : List Step
-    others = map (stepBy j) (keep (λ y. not (eqb y x)) names)
+    others = map (stepBy j) (filter (λ y. not (eqb y x)) names)
 
     rest : List Step
     rest = stepsFrom (suc j) x named holders
@@ -151,22 +153,22 @@ jobsOf r = map (λ s. s .job) r
 
 -- different benches, and none already seen
 record Fresh (seen : List ℕ) (l : List ℕ) : Type 0 where
-  once : T (different l)
+  once : T (distinct l)
   apart : (y : ℕ) → In y l → In y seen → ⊥
 
 fresh-more : (seen : List ℕ) (x : ℕ) (l : List ℕ) → (In x seen → ⊥) → Fresh (x ∷ seen) l → Fresh seen (x ∷ l)
 fresh-more seen x l f p =
-    record { once = both (not (member x l)) (different l) (not-member x l (λ i. p .apart x i (inl refl))) (p .once); apart = apart }
+    record { once = both (not (member x l)) (distinct l) (not-member x l (λ i. p .apart x i (inl refl))) (p .once); apart = apart }
   where
     apart : (y : ℕ) → In y (x ∷ l) → In y seen → ⊥
     apart y (inl e) j = f (rw e at j)
     apart y (inr i) j = p .apart y i (inr j)
 
 fresh-less : (seen : List ℕ) (x : ℕ) (l : List ℕ) → Fresh seen (x ∷ l) → Fresh (x ∷ seen) l
-fresh-less seen x l p = record { once = different-tail x l (p .once); apart = apart }
+fresh-less seen x l p = record { once = distinct-tail x l (p .once); apart = apart }
   where
     apart : (y : ℕ) → In y l → In y (x ∷ seen) → ⊥
-    apart y i (inl e) = different-head x l (p .once) (rw e at i)
+    apart y i (inl e) = distinct-head x l (p .once) (rw e at i)
     apart y i (inr j) = p .apart y (inr i) j
 
 -- the parts of `routes`: the test of a step, and the routes behind it
@@ -182,10 +184,10 @@ module _ (out : ℕ → List Step) where
   routes-only zero seen x r (inr i) = absurd i
   routes-only (suc k) seen x r (inl e) = rw e (tt, record { once = tt; apart = λ y i j. i })
   routes-only (suc k) seen x r (inr i) =
-      let f = flatMap-in (λ s. map (λ t. s ∷ t) (behind out k seen s)) r (keep (unseen seen) (out x)) i in
+      let f = flatMap-in (λ s. map (λ t. s ∷ t) (behind out k seen s)) r (filter (unseen seen) (out x)) i in
       let s = f .0 in
       let m = map-in (λ t. s ∷ t) r (behind out k seen s) (f .2) in
-      let g = keep-in (unseen seen) s (out x) (f .1) in
+      let g = filter-in (unseen seen) s (out x) (f .1) in
       let h = routes-only k (s .to ∷ seen) (s .to) (m .0) (m .1) in
       rw (m .2) ((g .0, h .0), fresh-more seen (s .to) (benchesOf (m .0)) (member-not (s .to) seen (g .1)) (h .1))
 
@@ -194,9 +196,9 @@ module _ (out : ℕ → List Step) where
   routes-every zero seen x (s ∷ r) l w p = inr (omega arith)
   routes-every (suc k) seen x [] l w p = inl refl
   routes-every (suc k) seen x (s ∷ r) l w p =
-      let i = in-keep (unseen seen) s (out x) (w .0) (not-member (s .to) seen (p .apart (s .to) (inl refl))) in
+      let i = in-filter (unseen seen) s (out x) (w .0) (not-member (s .to) seen (p .apart (s .to) (inl refl))) in
       let j = routes-every k (s .to ∷ seen) (s .to) r (omega arith) (w .1) (fresh-less seen (s .to) (benchesOf r) p) in
-      inr (in-flatMap (λ s. map (λ t. s ∷ t) (behind out k seen s)) (s ∷ r) s (keep (unseen seen) (out x)) i (in-map (λ t. s ∷ t) r (behind out k seen s) j))
+      inr (in-flatMap (λ s. map (λ t. s ∷ t) (behind out k seen s)) (s ∷ r) s (filter (unseen seen) (out x)) i (in-map (λ t. s ∷ t) r (behind out k seen s) j))
 
 -- the list of the paths from x has only paths from x ..
 pub listed-is-path : (b : Board) (x : ℕ) (p : BenchPath) → In p (pathsFrom b x) → IsPath b p × (p .start ≡ x)
@@ -205,7 +207,7 @@ listed-is-path b x p i =
     let m = map-in (pathBy x) p (routes (steps b) (b .benches) (x ∷ []) x) i in
     let h = routes-only (steps b) (b .benches) (x ∷ []) x (m .0) (m .1) in
     let f = fresh-more [] x (benchesOf (m .0)) (λ i. i) (h .1) in
-    rw (m .2) (record { walk = h .0; once = T→true (different (x ∷ benchesOf (m .0))) (f .once) }, refl)
+    rw (m .2) (record { walk = h .0; once = T→true (distinct (x ∷ benchesOf (m .0))) (f .once) }, refl)
 
 pub walk-benches : (b : Board) → Valid b → (x : ℕ) (r : List Step) → Walk (steps b) x r → Each (λ y. T (within 1 (b .benches) y)) (benchesOf r)
 walk-benches b v x [] w = tt
@@ -217,23 +219,23 @@ unfolding pathsFrom
 path-is-listed b v p h =
     let x = p .start in
     let r = p .route in
-    let t = true→T (different (x ∷ benchesOf r)) (h .once) in
+    let t = true→T (distinct (x ∷ benchesOf r)) (h .once) in
     let f = fresh-less [] x (benchesOf r) (record { once = t; apart = λ y i j. j }) in
-    let l = few (b .benches) (benchesOf r) (different-count (benchesOf r) (f .once)) (walk-benches b v x r (h .walk)) in
+    let l = few (b .benches) (benchesOf r) (distinct-count (benchesOf r) (f .once)) (walk-benches b v x r (h .walk)) in
     in-map (pathBy x) r (routes (steps b) (b .benches) (x ∷ []) x) (routes-every (steps b) (b .benches) (x ∷ []) x r (omega (arith, length-map r (λ (s : Step). s .to))) (h .walk) f)
 
 -- the list of the improving paths from x has only improving paths from x ..
 pub improvingFrom-only : (b : Board) (x : ℕ) (p : BenchPath) → In p (improvingFrom b x) → IsPath b p × (p .start ≡ x) × T (improves b p)
 unfolding improvingFrom
 improvingFrom-only b x p i =
-    let k = keep-in (improves b) p (pathsFrom b x) i in
+    let k = filter-in (improves b) p (pathsFrom b x) i in
     let h = listed-is-path b x p (k .0) in
     (h .0, h .1, k .1)
 
 -- .. and every one
 pub improvingFrom-every : (b : Board) → Valid b → (p : BenchPath) → IsPath b p → T (improves b p) → In p (improvingFrom b (p .start))
 unfolding improvingFrom
-improvingFrom-every b v p h t = in-keep (improves b) p (pathsFrom b (p .start)) (path-is-listed b v p h) t
+improvingFrom-every b v p h t = in-filter (improves b) p (pathsFrom b (p .start)) (path-is-listed b v p h) t
 
 -- improving paths
 
@@ -260,7 +262,7 @@ improves-start b v p h t = go (p .route) (h .walk) (improves-loads b p t)
 pub improving-only : (b : Board) (p : BenchPath) → In p (improving b) → IsPath b p × T (within 1 (b .benches) (p .start)) × T (improves b p)
 unfolding improving
 improving-only b p i =
-    let f = flatMap-in (improvingFrom b) p (rising 1 (b .benches)) i in
+    let f = flatMap-in (improvingFrom b) p (range 1 (b .benches)) i in
     let h = improvingFrom-only b (f .0) p (f .2) in
     (h .0, rw (h .1) (listed-bench (b .benches) (f .0) (f .1)), h .2)
 
@@ -269,20 +271,20 @@ pub improving-every : (b : Board) → Valid b → (p : BenchPath) → IsPath b p
 unfolding improving
 improving-every b v p h t =
     let i = bench-listed (b .benches) (p .start) (improves-start b v p h t) in
-    in-flatMap (improvingFrom b) p (p .start) (rising 1 (b .benches)) i (improvingFrom-every b v p h t)
+    in-flatMap (improvingFrom b) p (p .start) (range 1 (b .benches)) i (improvingFrom-every b v p h t)
 
 -- the list of the improving paths that end at x has only such paths ..
 pub improvingTo-only : (b : Board) (x : ℕ) (p : BenchPath) → In p (improvingTo b x) → IsPath b p × T (within 1 (b .benches) (p .start)) × (last p ≡ x) × T (improves b p)
 unfolding improvingTo
 improvingTo-only b x p i =
-    let k = keep-in (λ p. eqb (last p) x) p (improving b) i in
+    let k = filter-in (λ p. eqb (last p) x) p (improving b) i in
     let h = improving-only b p (k .0) in
     (h .0, h .1, T-eqb (last p) x (k .1), h .2)
 
 -- .. and every one
 pub improvingTo-every : (b : Board) → Valid b → (p : BenchPath) → IsPath b p → T (improves b p) → In p (improvingTo b (last p))
 unfolding improvingTo
-improvingTo-every b v p h t = in-keep (λ q. eqb (last q) (last p)) p (improving b) (improving-every b v p h t) (eqb-T (last p) (last p) refl)
+improvingTo-every b v p h t = in-filter (λ q. eqb (last q) (last p)) p (improving b) (improving-every b v p h t) (eqb-T (last p) (last p) refl)
 
 -- a board is level exactly if no path improves
 pub level-exact : (b : Board) → Valid b → T (level b) ↔ ((p : BenchPath) → IsPath b p → T (improves b p) → ⊥)

@@ -12,10 +12,10 @@ use Rattle.spec_lists.specs.Lists.{within, In}
 use Rattle.spec_table.specs.Board.{Board, Valid, holderOf}
 use Rattle.spec_sharing.specs.Paths.{Step, stepBy, steps, pathBy, endOf, Walk}
 use Rattle.spec_sharing.specs.Sharing.{arrivalChoice, closingChoice}
-use Rattle.spec_lists.proofs.Counting.{different-count, few}
+use Rattle.spec_lists.proofs.Counting.{distinct-count, few}
 use Rattle.spec_sharing.proofs.Paths.{named-stands, holder-bench, step-is, step-bench, benchesOf, walk-benches}
 use Rattle.spec_sharing.proofs.Walks.{walk-join, end-join, fewest-once}
-use Rattle.spec_sharing.proofs.Distances.{To, Away, Stays, Nearer, Next, Smallest, Greedy, OneOther, greedy-walk, smallest-first, greedy-smallest}
+use Rattle.spec_sharing.proofs.Distances.{To, Away, StepsWithin, Nearer, Next, Smallest, Greedy, OneOther, greedy-walk, smallest-first, greedy-smallest}
 use Rattle.spec_sharing.proofs.Found.{FirstList, ArrivalEnd, ClosingStart, arrival-found, closing-found}
 
 module _ (benches : ℕ) (out : ℕ → List Step) where
@@ -34,7 +34,7 @@ module _ (benches : ℕ) (out : ℕ → List Step) where
     pub from : (x n : ℕ) → T (within 1 benches x) → d x ≡ suc (suc n) → (s : Step) × In s (out x) × (d (s .to) ≡ suc n)
     pub on : (x : ℕ) (s : Step) → T (within 1 benches x) → In s (out x) → 1 ≤ d (s .to) → d (s .to) < m → (1 ≤ d x) × (d x ≤ suc (d (s .to)))
 
-module _ (benches : ℕ) (out : ℕ → List Step) (stays : Stays benches out) where
+module _ (benches : ℕ) (out : ℕ → List Step) (stays : StepsWithin benches out) where
   module _ (m v : ℕ) (f : ℕ → ℕ) (a : NumberedAway benches out m v f) where
     -- a bench with a number is reached with one step less
     away-walk : (n y : ℕ) → T (within 1 benches y) → f y ≡ suc n → (r : List Step) × Walk out v r × (endOf v r ≡ y) × (length r ≡ n)
@@ -135,7 +135,7 @@ module _ (benches : ℕ) (out : ℕ → List Step) (stays : Stays benches out) w
           back e q (i, j, k) = let c = to-right (q .to) (stays x q i) j (omega arith) in (i, omega arith, omega arith)
 
 module _ (b : Board) (v : Valid b) where
-  stays-here : Stays (b .benches) (steps b)
+  stays-here : StepsWithin (b .benches) (steps b)
   stays-here = step-bench b v
 
   -- smallest jobs make a first list ..
@@ -196,7 +196,7 @@ module _ (b : Board) (v : Valid b) where
   pub fewest-most : (x : ℕ) (r : List Step) → T (within 1 (b .benches) x) → Walk (steps b) x r → ((q : List Step) → Walk (steps b) x q → endOf x q ≡ endOf x r → length r ≤ length q) → length r < b .benches
   fewest-most x r w k f =
       let o = fewest-once (steps b) x r k f in
-      omega (arith, few (b .benches) (x ∷ benchesOf r) (different-count (x ∷ benchesOf r) o) (w, walk-benches b v x r k), length-map r (λ (s : Step). s .to))
+      omega (arith, few (b .benches) (x ∷ benchesOf r) (distinct-count (x ∷ benchesOf r) o) (w, walk-benches b v x r k), length-map r (λ (s : Step). s .to))
 
   -- .. so no number in an array of distances is more than the benches are ..
   pub to-most : (t : ℕ) (d : ℕ → ℕ) → To (b .benches) (steps b) t d → (x : ℕ) → T (within 1 (b .benches) x) → d x ≤ b .benches

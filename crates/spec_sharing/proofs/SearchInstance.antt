@@ -12,9 +12,9 @@ use Rattle.spec_lists.specs.Lists.{within, In}
 use Rattle.spec_table.specs.Board.{Board, Valid, load}
 use Rattle.spec_sharing.specs.Paths.{Step, stepBy, steps, pathBy}
 use Rattle.spec_sharing.specs.Sharing.{arrivalChoice}
-use Rattle.spec_lists.proofs.Basics.{within-high}
+use Rattle.spec_lists.proofs.Tests.{within-high}
 use Rattle.spec_sharing.proofs.Paths.{step-bench}
-use Rattle.spec_sharing.proofs.Distances.{Stays, Greedy, pairs-one-other}
+use Rattle.spec_sharing.proofs.Distances.{StepsWithin, Greedy, pairs-one-other}
 use Rattle.spec_sharing.proofs.Found.{ArrivalEnd}
 use Rattle.spec_sharing.proofs.Far.{distance, distance-to, distance-away}
 use Rattle.spec_sharing.proofs.Search.{NumberedAway, NumberedTo, away-number, away-right, to-number, to-right, greedy-right, arrival-greedy}
@@ -79,16 +79,16 @@ numbered-to-3 =
       on = λ x s t i l u. each-step (λ x s. (1 ≤ distancesTo3 x) × (distancesTo3 x ≤ suc (distancesTo3 (s .to)))) (omega arith, omega arith) (omega arith, omega arith) (omega arith, omega arith) x s t i;
     }
 
-printed-stays : Stays 3 (steps printedRun)
-printed-stays = step-bench printedRun printed-valid
+printed-within : StepsWithin 3 (steps printedRun)
+printed-within = step-bench printedRun printed-valid
 
 -- no number is above 3, so they are the distances
 from-1-right : (y : ℕ) → T (within 1 3 y) → awayFrom1 y ≡ distance printedRun 1 y
 from-1-right y t =
     let all = distance-away printedRun printed-valid 1 tt in
     let n = numbers y t in
-    let h = away-number 3 (steps printedRun) printed-stays 3 1 awayFrom1 numbered-from-1 (distance printedRun 1) all y t (n .0) in
-    away-right 3 (steps printedRun) printed-stays 3 1 awayFrom1 numbered-from-1 (distance printedRun 1) all y t (h .0) (omega (arith, h .1, n .1))
+    let h = away-number 3 (steps printedRun) printed-within 3 1 awayFrom1 numbered-from-1 (distance printedRun 1) all y t (n .0) in
+    away-right 3 (steps printedRun) printed-within 3 1 awayFrom1 numbered-from-1 (distance printedRun 1) all y t (h .0) (omega (arith, h .1, n .1))
   where
     numbers : (y : ℕ) → T (within 1 3 y) → (1 ≤ awayFrom1 y) × (awayFrom1 y ≤ 3)
     numbers = each-bench (λ y. (1 ≤ awayFrom1 y) × (awayFrom1 y ≤ 3)) (omega arith, omega arith) (omega arith, omega arith) (omega arith, omega arith)
@@ -97,8 +97,8 @@ to-3-right : (x : ℕ) → T (within 1 3 x) → distancesTo3 x ≡ distance prin
 to-3-right x t =
     let all = distance-to printedRun printed-valid 3 in
     let n = numbers x t in
-    let h = to-number 3 (steps printedRun) printed-stays 3 3 distancesTo3 numbered-to-3 (λ x. distance printedRun x 3) all x t (n .0) in
-    to-right 3 (steps printedRun) printed-stays 3 3 distancesTo3 numbered-to-3 (λ x. distance printedRun x 3) all x t (h .0) (omega (arith, h .1, n .1))
+    let h = to-number 3 (steps printedRun) printed-within 3 3 distancesTo3 numbered-to-3 (λ x. distance printedRun x 3) all x t (n .0) in
+    to-right 3 (steps printedRun) printed-within 3 3 distancesTo3 numbered-to-3 (λ x. distance printedRun x 3) all x t (h .0) (omega (arith, h .1, n .1))
   where
     numbers : (x : ℕ) → T (within 1 3 x) → (1 ≤ distancesTo3 x) × (distancesTo3 x ≤ 3)
     numbers = each-bench (λ x. (1 ≤ distancesTo3 x) × (distancesTo3 x ≤ 3)) (omega arith, omega arith) (omega arith, omega arith) (omega arith, omega arith)
@@ -133,5 +133,5 @@ printed-found =
     let from1 = distance-away printedRun printed-valid 1 tt in
     let to3 = distance-to printedRun printed-valid 3 in
     let one = pairs-one-other printedRun printed-valid (tt, (tt, (tt, (tt, tt)))) in
-    let greedy = greedy-right 3 (steps printedRun) printed-stays 3 3 distancesTo3 numbered-to-3 (λ x. distance printedRun x 3) to3 1 greedyRoute tt (omega arith) (omega arith) route-greedy in
+    let greedy = greedy-right 3 (steps printedRun) printed-within 3 3 distancesTo3 numbered-to-3 (λ x. distance printedRun x 3) to3 1 greedyRoute tt (omega arith) (omega arith) route-greedy in
     arrival-greedy printedRun printed-valid one 1 3 (distance printedRun 1) (λ x. distance printedRun x 3) greedyRoute tt from1 ends-at-3 to3 (sym (to-3-right 1 tt)) greedy

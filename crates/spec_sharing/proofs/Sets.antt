@@ -11,8 +11,10 @@ use lib.Dec.{T, ltb}
 use borrow.Author.Tests.{ltb-true, ltb-false}
 use Rattle.spec_lists.specs.Lists.{bit, member, all, Each, In, empty}
 use Rattle.spec_table.specs.Board.{load}
-use Rattle.spec_sharing.specs.Sharing.{lightest, getter, inside, density}
-use Rattle.spec_lists.proofs.Basics.{T→true, right, in-right, all-in, in-all, each-in, member-in, in-member}
+use Rattle.spec_sharing.specs.Sharing.{lightest, lightestNamed, inside, density}
+use Rattle.spec_lists.proofs.Tests.{T→true, right}
+use Rattle.spec_lists.proofs.Elements.{in-right, all-in, in-all, each-in}
+use Rattle.spec_lists.proofs.NumberLists.{member-in, in-member}
 
 -- a density rounded up is enough for the inside jobs
 pub density-enough : (i n : ℕ) → 1 ≤ n → i ≤ density i n * n
@@ -99,6 +101,6 @@ lightest-in holders x others =
     subst (In m) (sym (r .2)) (in-right m (r .0) (m ∷ r .1) (inl refl))
 
 -- so the bench that gets a job is one that the job names
-pub getter-in : (holders names : List ℕ) → T (not (empty names)) → In (getter holders names) names
-getter-in holders [] e = absurd e
-getter-in holders (x ∷ others) e = lightest-in holders x others
+pub lightestNamed-in : (holders names : List ℕ) → T (not (empty names)) → In (lightestNamed holders names) names
+lightestNamed-in holders [] e = absurd e
+lightestNamed-in holders (x ∷ others) e = lightest-in holders x others

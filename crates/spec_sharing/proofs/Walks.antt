@@ -8,11 +8,12 @@ use mathlib.Core.Bool.{Bool, not}
 use mathlib.Core.List.{List, [], _∷_, _++_}
 use lib.Dec.{T}
 use lib.ListN.{length}
-use Rattle.spec_lists.specs.Lists.{within, member, different, In}
+use Rattle.spec_lists.specs.Lists.{within, member, distinct, In}
 use Rattle.spec_table.specs.Board.{Board, Valid, load}
 use Rattle.spec_sharing.specs.Paths.{Step, steps, BenchPath, pathBy, endOf, last, Walk, IsPath}
 use Rattle.spec_sharing.specs.Sharing.{level}
-use Rattle.spec_lists.proofs.Basics.{T→true, both, not-member, Member, is-in, not-in, membered, different-tail}
+use Rattle.spec_lists.proofs.Tests.{T→true, both}
+use Rattle.spec_lists.proofs.NumberLists.{not-member, Member, is-in, not-in, membered, distinct-tail}
 use Rattle.spec_sharing.proofs.Paths.{step-bench, benchesOf, improves-loads, loads-improve, level-exact}
 
 module _ (out : ℕ → List Step) where
@@ -57,24 +58,24 @@ module _ (out : ℕ → List Step) where
       go z (s ∷ r) q v = go (s .to) r (next z s q (v .0)) (v .1)
 
   -- a walk that comes to x goes on from there to its end: with fewer steps, and to no bench twice if the whole did not
-  walk-cut : (x y : ℕ) (r : List Step) → Walk out y r → In x (benchesOf r) → (q : List Step) × Walk out x q × (endOf x q ≡ endOf y r) × (length q < length r) × (T (different (benchesOf r)) → T (different (x ∷ benchesOf q)))
+  walk-cut : (x y : ℕ) (r : List Step) → Walk out y r → In x (benchesOf r) → (q : List Step) × Walk out x q × (endOf x q ≡ endOf y r) × (length q < length r) × (T (distinct (benchesOf r)) → T (distinct (x ∷ benchesOf q)))
   walk-cut x y [] w i = absurd i
   walk-cut x y (s ∷ r) w (inl e) = rw e (r, w .1, refl, omega arith, λ t. t)
   walk-cut x y (s ∷ r) w (inr i) =
       let h = walk-cut x (s .to) r (w .1) i in
-      (h .0, h .1, h .2, omega (arith, h .3), λ t. h .4 (different-tail (s .to) (benchesOf r) t))
+      (h .0, h .1, h .2, omega (arith, h .3), λ t. h .4 (distinct-tail (s .to) (benchesOf r) t))
 
   -- so a walk with the fewest steps to its end comes to no bench twice
-  pub fewest-once : (x : ℕ) (r : List Step) → Walk out x r → ((q : List Step) → Walk out x q → endOf x q ≡ endOf x r → length r ≤ length q) → T (different (x ∷ benchesOf r))
+  pub fewest-once : (x : ℕ) (r : List Step) → Walk out x r → ((q : List Step) → Walk out x q → endOf x q ≡ endOf x r → length r ≤ length q) → T (distinct (x ∷ benchesOf r))
   fewest-once x [] w f = tt
   fewest-once x (s ∷ r) w f =
-      both (not (member x (benchesOf (s ∷ r)))) (different (benchesOf (s ∷ r)))
+      both (not (member x (benchesOf (s ∷ r)))) (distinct (benchesOf (s ∷ r)))
       (not-member x (benchesOf (s ∷ r)) (λ i. let h = walk-cut x x (s ∷ r) w i in omega (arith, h .3, f (h .0) (h .1) (h .2))))
       (fewest-once (s .to) r (w .1) (λ q u e. omega (arith, f (s ∷ q) (w .0, u) e)))
 
   -- a walk from x to z of at most k steps, no bench twice
   abbrev Short : ℕ → ℕ → ℕ → Type 0
-  Short x z k = (q : List Step) × Walk out x q × T (different (x ∷ benchesOf q)) × (endOf x q ≡ z) × (length q ≤ k)
+  Short x z k = (q : List Step) × Walk out x q × T (distinct (x ∷ benchesOf q)) × (endOf x q ≡ z) × (length q ≤ k)
 
   -- a step in front of such a walk, which is cut if it comes back
   short-first : (x : ℕ) (s : Step) (z k : ℕ) → In s (out x) → Short (s .to) z k → Short x z (suc k)
@@ -84,10 +85,10 @@ module _ (out : ℕ → List Step) where
       go (is-in j) = let c = walk-cut x x (s ∷ q) (i, w) j in (c .0, c .1, c .4 t, c .2 ∙ e, omega (arith, c .3))
       go (not-in f) =
           let seen = benchesOf (s ∷ q) in
-          (s ∷ q, (i, w), both (not (member x seen)) (different seen) (not-member x seen f) t, e, omega arith)
+          (s ∷ q, (i, w), both (not (member x seen)) (distinct seen) (not-member x seen f) t, e, omega arith)
 
   -- a walk shortens to one that comes to no bench twice
-  pub walk-shortens : (x : ℕ) (r : List Step) → Walk out x r → (q : List Step) × Walk out x q × T (different (x ∷ benchesOf q)) × (endOf x q ≡ endOf x r) × (length q ≤ length r)
+  pub walk-shortens : (x : ℕ) (r : List Step) → Walk out x r → (q : List Step) × Walk out x q × T (distinct (x ∷ benchesOf q)) × (endOf x q ≡ endOf x r) × (length q ≤ length r)
   walk-shortens x [] w = ([], tt, tt, refl, omega arith)
   walk-shortens x (s ∷ r) w = short-first x s (endOf (s .to) r) (length r) (w .0) (walk-shortens (s .to) r (w .1))
 
@@ -95,7 +96,7 @@ module _ (out : ℕ → List Step) where
 pub reach-path : (b : Board) (x y : ℕ) → Reach (steps b) x y → (p : BenchPath) × IsPath b p × (p .start ≡ x) × (last p ≡ y)
 reach-path b x y w =
     let c = walk-shortens (steps b) x (w .0) (w .1) in
-    (pathBy x (c .0), record { walk = c .1; once = T→true (different (x ∷ benchesOf (c .0))) (c .2) }, refl, c .3 ∙ w .2)
+    (pathBy x (c .0), record { walk = c .1; once = T→true (distinct (x ∷ benchesOf (c .0))) (c .2) }, refl, c .3 ∙ w .2)
 
 -- .. and back
 pub path-reach : (b : Board) (p : BenchPath) → IsPath b p → Reach (steps b) (p .start) (last p)

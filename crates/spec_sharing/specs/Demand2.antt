@@ -7,14 +7,14 @@ use mathlib.Core.List.{List, []}
 use mathlib.Core.Option.{some}
 use lib.Dec.{eqb}
 use lib.ListN.{length}
-use Rattle.spec_lists.specs.Lists.{bit, total, change}
+use Rattle.spec_lists.specs.Lists.{bit, total, update}
 use Rattle.spec_table.specs.Board.{Board, holderOf, standing, load, heaviest, excess, Shares, heldBy}
 use Rattle.spec_sharing.specs.Paths.{BenchPath, flip}
 use Rattle.spec_sharing.specs.Sharing.{levellingChoice, tightSet, inside, density}
 
 -- above every height the overhang is at most that of every other sharing of the same jobs
-abbrev pub LeastOverhang : Board → Type 0
-LeastOverhang b =
+abbrev pub LeastExcess : Board → Type 0
+LeastExcess b =
     (h : ℕ) (holders : List ℕ) → Shares (b .named) holders → excess (b .benches) (b .holders) h ≤ excess (b .benches) holders h
 
 -- what demand 2 claims of a level board
@@ -44,7 +44,7 @@ handed j before after =
 -- number of other jobs that changed holder"
 pub record ArrivalReport (before after : Board) (j : ℕ) (names : List ℕ) (holder rose moved : ℕ) : Type 0 where
   pub benches : after .benches ≡ before .benches
-  pub jobs : after .named ≡ change (before .named) j names
+  pub jobs : after .named ≡ update (before .named) j names
   pub inTheEnd : holderOf after j ≡ holder
   pub oneRose : OneMore (before .benches) (before .holders) (after .holders) rose
   pub others : handed j before after ≡ moved
@@ -52,18 +52,18 @@ pub record ArrivalReport (before after : Board) (j : ℕ) (names : List ℕ) (ho
 -- a closing of job j reports "the bench whose load fell, and the jobs that changed holder"
 pub record ClosingReport (before after : Board) (j fell moved : ℕ) : Type 0 where
   pub benches : after .benches ≡ before .benches
-  pub jobs : after .named ≡ change (before .named) j []
+  pub jobs : after .named ≡ update (before .named) j []
   pub oneFell : OneMore (before .benches) (after .holders) (before .holders) fell
   pub others : handed j before after ≡ moved
 
 -- n paths are turned between two boards, each the one that the rule names
-pub data Turns : ℕ → Board → Board → Type 0 where
-  rest : (b : Board) → Turns 0 b b
-  turn : (n : ℕ) (b c : Board) (p : BenchPath) → levellingChoice b ≡ some p → Turns n (flip b p) c → Turns (suc n) b c
+pub data Flips : ℕ → Board → Board → Type 0 where
+  noFlip : (b : Board) → Flips 0 b b
+  flipThen : (n : ℕ) (b c : Board) (p : BenchPath) → levellingChoice b ≡ some p → Flips n (flip b p) c → Flips (suc n) b c
 
 -- a levelling reports "the paths turned", within the allowance; no job and no named bench changes
 pub record LevellingReport (before after : Board) (allowance paths : ℕ) : Type 0 where
   pub benches : after .benches ≡ before .benches
   pub jobs : after .named ≡ before .named
-  pub turned : Turns paths before after
+  pub flipped : Flips paths before after
   pub allowed : paths ≤ allowance

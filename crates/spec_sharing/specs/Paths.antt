@@ -4,7 +4,7 @@ use mathlib.Core.Path.{_≡_}
 use mathlib.Core.Bool.{Bool, true, cond, not}
 use mathlib.Core.List.{List, [], _∷_, _++_, map, flatMap}
 use lib.Dec.{eqb, leb}
-use Rattle.spec_lists.specs.Lists.{member, different, rising, keep, In, change}
+use Rattle.spec_lists.specs.Lists.{member, distinct, range, filter, In, update}
 use Rattle.spec_table.specs.Board.{Board, load}
 
 -- by this job, to this bench
@@ -21,7 +21,7 @@ abbrev pub stepsFrom : ℕ → ℕ → List (List ℕ) → List ℕ → List Ste
 stepsFrom j x [] holders = []
 stepsFrom j x (names ∷ named) [] = []
 stepsFrom j x (names ∷ named) (h ∷ holders) =
-    let others = map (stepBy j) (keep (λ y. not (eqb y x)) names) in
+    let others = map (stepBy j) (filter (λ y. not (eqb y x)) names) in
     let later = stepsFrom (suc j) x named holders in
     cond (eqb h x) (others ++ later) later
 
@@ -59,13 +59,13 @@ Walk out x (s ∷ r) = In s (out x) × Walk out (s .to) r
 -- "A path goes from bench to bench, no bench twice"
 pub record IsPath (b : Board) (p : BenchPath) : Type 0 where
   pub walk : Walk (steps b) (p .start) (p .route)
-  pub once : different (p .start ∷ map (λ s. s .to) (p .route)) ≡ true
+  pub once : distinct (p .start ∷ map (λ s. s .to) (p .route)) ≡ true
 
 -- the routes from x that come to no bench already seen: none, or a step and a route from there. The fuel is the number of benches
 abbrev pub routes : (ℕ → List Step) → ℕ → List ℕ → ℕ → List (List Step)
 routes out zero seen x = [] ∷ []
 routes out (suc k) seen x =
-    [] ∷ flatMap (λ s. map (λ r. s ∷ r) (routes out k (s .to ∷ seen) (s .to))) (keep (λ s. not (member (s .to) seen)) (out x))
+    [] ∷ flatMap (λ s. map (λ r. s ∷ r) (routes out k (s .to ∷ seen) (s .to))) (filter (λ s. not (member (s .to) seen)) (out x))
 
 -- all paths from bench x
 unfoldable pub pathsFrom : Board → ℕ → List BenchPath
@@ -77,20 +77,20 @@ improves b p = leb (load (b .holders) (last p) + 2) (load (b .holders) (p .start
 
 -- the improving paths from bench x
 unfoldable pub improvingFrom : Board → ℕ → List BenchPath
-improvingFrom b x = keep (improves b) (pathsFrom b x)
+improvingFrom b x = filter (improves b) (pathsFrom b x)
 
 -- all improving paths
 unfoldable pub improving : Board → List BenchPath
-improving b = flatMap (improvingFrom b) (rising 1 (b .benches))
+improving b = flatMap (improvingFrom b) (range 1 (b .benches))
 
 -- the improving paths that end at bench x
 unfoldable pub improvingTo : Board → ℕ → List BenchPath
-improvingTo b x = keep (λ p. eqb (last p) x) (improving b)
+improvingTo b x = filter (λ p. eqb (last p) x) (improving b)
 
 -- the holders after each job of a route went to the bench its step leads to
 abbrev pub handOver : List ℕ → List Step → List ℕ
 handOver holders [] = holders
-handOver holders (s ∷ r) = handOver (change holders (s .job) (s .to)) r
+handOver holders (s ∷ r) = handOver (update holders (s .job) (s .to)) r
 
 -- "Turning a path hands each of its jobs to the other bench"; 000: to flip it
 unfoldable pub flip : Board → BenchPath → Board

@@ -5,7 +5,7 @@ use mathlib.Core.List.{List, [], _∷_, map, flatMap}
 use mathlib.Core.Option.{Option, none, some}
 use lib.Dec.{eqb, leb, ltb}
 use lib.ListN.{length}
-use Rattle.spec_lists.specs.Lists.{bit, member, rising, keep, all, empty, least}
+use Rattle.spec_lists.specs.Lists.{bit, member, range, filter, all, empty, argmin}
 use Rattle.spec_table.specs.Board.{Board, holderOf, put, load, heaviest}
 use Rattle.spec_sharing.specs.Paths.{BenchPath, steps, last, jobs, improvingFrom, improvingTo, improving, flip}
 
@@ -27,15 +27,15 @@ levellingKey b p = below b (p .start) ∷ p .start ∷ arrivalKey b p
 
 -- "of the improving paths from that bench, one is turned"
 unfoldable pub arrivalChoice : Board → ℕ → Option BenchPath
-arrivalChoice b x = least (arrivalKey b) (improvingFrom b x)
+arrivalChoice b x = argmin (arrivalKey b) (improvingFrom b x)
 
 -- "Of the improving paths that end at the bench that held it, one is turned"
 unfoldable pub closingChoice : Board → ℕ → Option BenchPath
-closingChoice b x = least (closingKey b) (improvingTo b x)
+closingChoice b x = argmin (closingKey b) (improvingTo b x)
 
 -- the path that levelling turns next
 unfoldable pub levellingChoice : Board → Option BenchPath
-levellingChoice b = least (levellingKey b) (improving b)
+levellingChoice b = argmin (levellingKey b) (improving b)
 
 -- an arrival's or closing's result: the board, the bench whose load changed, and the other jobs that changed holder, in path order
 pub record Change : Type 0 where
@@ -50,20 +50,20 @@ lightest holders x (y ∷ others) =
     lightest holders (cond (ltb (load holders y) (load holders x)) y x) others
 
 -- "The lighter named bench gets the job; if they are equal, the first-named."
-abbrev pub getter : List ℕ → List ℕ → ℕ
-getter holders [] = 0
-getter holders (x ∷ others) = lightest holders x others
+abbrev pub lightestNamed : List ℕ → List ℕ → ℕ
+lightestNamed holders [] = 0
+lightestNamed holders (x ∷ others) = lightest holders x others
 
 -- the board in which bench x has just got job j, after the path was turned: the load rises at the path's last bench
 abbrev pub afterArrival : Board → ℕ → ℕ → Option BenchPath → Change
 afterArrival b j x none = record { board = b; bench = x; moved = [] }
 afterArrival b j x (some p) =
-    record { board = flip b p; bench = last p; moved = keep (λ i. not (eqb i j)) (jobs p) }
+    record { board = flip b p; bench = last p; moved = filter (λ i. not (eqb i j)) (jobs p) }
 
 -- arrival of job j
 unfoldable pub arrive : Board → ℕ → List ℕ → Change
 arrive b j names =
-    let x = getter (b .holders) names in
+    let x = lightestNamed (b .holders) names in
     let c = put b j names x in
     afterArrival c j x (arrivalChoice c x)
 
@@ -99,22 +99,22 @@ relevel (suc allowance) b =
     ]
 
 -- "A bench in the set brings in its chain, and each job on that chain brings in its other bench": one round of it
-unfoldable pub widen : Board → List ℕ → List ℕ
-widen b set =
-    let brought = map (λ s. s .to) (flatMap (steps b) set) in
-    keep (λ x. member x set || member x brought) (rising 1 (b .benches))
+unfoldable pub closureRound : Board → List ℕ → List ℕ
+closureRound b set =
+    let neighbours = map (λ s. s .to) (flatMap (steps b) set) in
+    filter (λ x. member x set || member x neighbours) (range 1 (b .benches))
 
 -- rounds until no bench comes in: "Nothing else is in it". The fuel is the number of benches
-abbrev pub widest : Board → ℕ → List ℕ → List ℕ
-widest b zero set = set
-widest b (suc k) set =
-    let wider = widen b set in
-    let r = widest b k wider in
+abbrev pub closure : Board → ℕ → List ℕ → List ℕ
+closure b zero set = set
+closure b (suc k) set =
+    let wider = closureRound b set in
+    let r = closure b k wider in
     cond (eqb (length wider) (length set)) set r
 
 -- tight set of height h, its benches rising: "all benches with load h or more are in it", and what they bring in
 unfoldable pub tightSet : Board → ℕ → List ℕ
-tightSet b h = widest b (b .benches) (keep (λ x. leb h (load (b .holders) x)) (rising 1 (b .benches)))
+tightSet b h = closure b (b .benches) (filter (λ x. leb h (load (b .holders) x)) (range 1 (b .benches)))
 
 -- "the number of jobs with both benches inside": every bench that a standing job names is in the set
 abbrev pub inside : List ℕ → List (List ℕ) → ℕ

@@ -5,9 +5,10 @@ use mathlib.Core.Logic.{inl, inr}
 use mathlib.Core.Bool.{not}
 use mathlib.Core.List.{List, _∷_}
 use lib.Dec.{T}
-use Rattle.spec_lists.specs.Lists.{member, different, In, nth}
+use Rattle.spec_lists.specs.Lists.{member, distinct, In, nth}
 use Rattle.spec_table.specs.Table.{Entry, vacant, follow}
-use Rattle.spec_lists.proofs.Basics.{both, not-member}
+use Rattle.spec_lists.proofs.Tests.{both}
+use Rattle.spec_lists.proofs.NumberLists.{not-member}
 use Rattle.spec_table.proofs.Sound.{Ends}
 
 module _ (es : List Entry) where
@@ -60,10 +61,10 @@ module _ (es : List Entry) where
   ends-never m (suc k) i o e = ends-never m k i o (ends-on m k (after (suc i)) (suc i) e o)
 
   -- .. so one that ends has no job twice
-  pub ends-different : (m k j : ℕ) → Ends es k j → T (different (follow es m j))
-  ends-different zero k j e = tt
-  ends-different (suc m) k zero e = tt
-  ends-different (suc m) zero (suc i) e = absurd e
-  ends-different (suc m) (suc k) (suc i) e =
+  pub ends-distinct : (m k j : ℕ) → Ends es k j → T (distinct (follow es m j))
+  ends-distinct zero k j e = tt
+  ends-distinct (suc m) k zero e = tt
+  ends-distinct (suc m) zero (suc i) e = absurd e
+  ends-distinct (suc m) (suc k) (suc i) e =
       let c = follow es m (after (suc i)) in
-      both (not (member (suc i) c)) (different c) (not-member (suc i) c (λ o. ends-never m (suc k) i o e)) (ends-different m k (after (suc i)) e)
+      both (not (member (suc i) c)) (distinct c) (not-member (suc i) c (λ o. ends-never m (suc k) i o e)) (ends-distinct m k (after (suc i)) e)

@@ -5,7 +5,7 @@ use mathlib.Core.List.{List}
 use lib.Dec.{T}
 use Rattle.spec_table.specs.Board.{Board}
 use Rattle.spec_table.specs.Table.{words, layout, formed, fits, sound, decode, encode, Storable}
-use Rattle.spec_lists.proofs.Basics.{both}
+use Rattle.spec_lists.proofs.Tests.{both}
 use Rattle.spec_table.proofs.Words.{layout-encode, fits-encode}
 use Rattle.spec_table.proofs.Layouts.{boardOf-layoutOf, formed-layoutOf}
 

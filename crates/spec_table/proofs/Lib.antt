@@ -3,6 +3,8 @@ pub mod Named
 pub mod Loads
 pub mod Limits
 pub mod Words
+pub mod Places
+pub mod Clauses
 pub mod Sound
 pub mod ChainEnds
 pub mod Layouts

@@ -6,7 +6,7 @@ use mathlib.Core.List.{List}
 use lib.Dec.{T}
 use Rattle.spec_lists.specs.Lists.{within}
 use Rattle.spec_table.specs.Board.{Board, load, heaviest, excess}
-use Rattle.spec_lists.proofs.Basics.{within-low, within-high}
+use Rattle.spec_lists.proofs.Tests.{within-low, within-high}
 use Rattle.spec_lists.proofs.Counting.{greatest-above, total-at}
 
 -- no bench is above the heaviest

@@ -6,9 +6,11 @@ use mathlib.Core.Bool.{true, not}
 use mathlib.Core.List.{List, [], _∷_}
 use lib.Dec.{T}
 use lib.ListN.{length}
-use Rattle.spec_lists.specs.Lists.{within, member, In, all, different, Each, change}
+use Rattle.spec_lists.specs.Lists.{within, member, In, all, distinct, Each, update}
 use Rattle.spec_table.specs.Board.{Shares, namesFit, Board, Valid}
-use Rattle.spec_lists.proofs.Basics.{left, both, right, not-member, all-in, different-head, length-change, each-change}
+use Rattle.spec_lists.proofs.Tests.{left, both, right}
+use Rattle.spec_lists.proofs.Elements.{all-in, length-update, each-update}
+use Rattle.spec_lists.proofs.NumberLists.{not-member, distinct-head}
 use Rattle.spec_table.specs.Table.{mostBenches, mostJobs, paired, Storable}
 
 -- there are as many holders as job numbers
@@ -20,7 +22,7 @@ length-shares (names ∷ named) (h ∷ holders) s = ap suc (length-shares named 
 
 -- names that fit are benches of 1 to B
 pub fit-bench : (benches : ℕ) (names : List ℕ) (x : ℕ) → T (namesFit benches names) → In x names → T (within 1 benches x)
-fit-bench benches names x f = all-in (within 1 benches) x names (left (all (within 1 benches) names) (different names) f)
+fit-bench benches names x f = all-in (within 1 benches) x names (left (all (within 1 benches) names) (distinct names) f)
 
 -- two names fit exactly if they are different benches of 1 to B
 pub pair-fits : (benches x y : ℕ) → T (namesFit benches (x ∷ y ∷ [])) ↔ (T (within 1 benches x) × T (within 1 benches y) × (x ≢ y))
@@ -29,8 +31,8 @@ pair-fits benches x y =
     let rest = y ∷ [] in
     let names = x ∷ rest in
     let listed = all bench names in (
-      λ f. (fit-bench benches names x f (inl refl), fit-bench benches names y f (inr (inl refl)), λ e. different-head x rest (right listed (different names) f) (inl e)),
-      λ r. both listed (different names) (both (bench x) (all bench rest) (r .0) (both (bench y) true (r .1) tt)) (both (not (member x rest)) true (not-member x rest (⊎-elim (r .2) (λ i. i))) tt),
+      λ f. (fit-bench benches names x f (inl refl), fit-bench benches names y f (inr (inl refl)), λ e. distinct-head x rest (right listed (distinct names) f) (inl e)),
+      λ r. both listed (distinct names) (both (bench x) (all bench rest) (r .0) (both (bench y) true (r .1) tt)) (both (not (member x rest)) true (not-member x rest (⊎-elim (r .2) (λ i. i))) tt),
     )
 
 -- a board with the sizes of a storable one, valid and with two benches for each job, is storable
@@ -44,7 +46,7 @@ resized b c s v e l p =
     }
 
 -- so is one in which job j was taken to these names
-pub changed-storable : (b c : Board) (j : ℕ) (names : List ℕ) → Storable b → T (paired names) → Valid c → c .benches ≡ b .benches → c .named ≡ change (b .named) j names → Storable c
+pub changed-storable : (b c : Board) (j : ℕ) (names : List ℕ) → Storable b → T (paired names) → Valid c → c .benches ≡ b .benches → c .named ≡ update (b .named) j names → Storable c
 changed-storable b c j names s p v e n =
-    resized b c s v e (ap length n ∙ length-change (b .named) j names)
-    (subst (Each (λ names. T (paired names))) (sym n) (each-change (λ names. T (paired names)) (b .named) j names p (s .pairs)))
+    resized b c s v e (ap length n ∙ length-update (b .named) j names)
+    (subst (Each (λ names. T (paired names))) (sym n) (each-update (λ names. T (paired names)) (b .named) j names p (s .pairs)))

@@ -1,265 +1,23 @@
--- What the table's words say where the sizes fit, and what a sound table holds.
-use Prim.Native.Nat.{ℕ, zero, suc, _+_, _*_, _/_, _%_, _≤_, _<_}
+-- What a sound table holds: its board, its chains, its words.
+use Prim.Native.Nat.{ℕ, zero, suc, _+_, _≤_}
 use native.Mathlib.Omega.{arith}
-use native.Mathlib.Nat.{add-assoc}
 use native.Mathlib.Decide.{decLe}
 use mathlib.Core.Path.{_≡_, refl, sym, ap, _∙_, subst}
 use mathlib.Core.Logic.{_⊎_, inl, inr, _≢_, _↔_}
-use mathlib.Core.Bool.{Bool, true, false, cond, not, _&&_, _||_}
-use mathlib.Core.List.{List, [], _∷_, _++_, map}
-use lib.Dec.{T, eqb, leb}
-use lib.ListN.{length, getD, drop, length-take, length-drop, length-map, List·getD-eq-default}
-use lib.Seq.{getD-take, getD-drop}
-use Rattle.spec_lists.specs.Lists.{keep, bit, within, count, all, Each, In, empty, nth, numbered}
+use mathlib.Core.Bool.{Bool, true, false, cond, not, _||_}
+use mathlib.Core.List.{List, [], _∷_, map}
+use lib.Dec.{T, eqb}
+use lib.ListN.{length, getD, drop, length-map, List·getD-eq-default}
+use Rattle.spec_lists.specs.Lists.{filter, bit, within, count, Each, In, empty, nth, enumerate}
 use Rattle.spec_table.specs.Board.{holderOf, stands, standing, Shares, mayHold, namesFit}
-use Rattle.spec_table.specs.Table.{paired, words, lengthFor, mostBenches, mostJobs, sizesFit, Entry, vacant, filled, holderIn, Layout, entriesIn, layout, follow, chains, standingIn, entryFits, placed, onlyStanding, formed, fits, sound, boardOf, decode, entryWords, Storable}
-use Rattle.spec_lists.proofs.Basics.{true→T, T→true, never→false, not-false, both, left, right, five, or-right, Compared, same, other, compared, T-eqb, eqb-T, T-leb, within-low, within-high, within-both, two-elements, in-right, in-keep, keep-in, all-in, in-all, each-in, in-each, in-getD, in-nth, nth-within, in-numbered, in-numbered-nth, numbered-nth, in-map, nth-map, each-map, in-member, Member, is-in, not-in, membered}
+use Rattle.spec_table.specs.Table.{paired, words, mostJobs, Entry, vacant, filled, holderIn, Layout, entriesIn, layout, follow, chains, entryFits, placed, fits, sound, boardOf, decode, entryWords, Storable}
+use Rattle.spec_lists.proofs.Tests.{true→T, both, left, right, or-right, Compared, same, other, compared, T-eqb, eqb-T, within-low, within-high}
+use Rattle.spec_lists.proofs.Elements.{two-elements, in-right, all-in, each-in, in-getD, in-nth, in-enumerate, in-enumerate-nth, enumerate-nth, in-map, nth-map, each-map}
+use Rattle.spec_lists.proofs.NumberLists.{in-member, Member, is-in, not-in, membered}
 use Rattle.spec_table.proofs.Named.{pair-fits}
-use Rattle.spec_lists.proofs.Counting.{bit-le, bit-same, bit-other, count-none, count-some, few, keep-counts}
-
--- the table's places
-
--- the bytes of a word lie two behind those of the word before it
-pub two-more : (n : ℕ) → 2 * suc n ≡ suc (suc (2 * n))
-two-more n = omega arith
-
-pub two-more-high : (n : ℕ) → 2 * suc n + 1 ≡ suc (suc (2 * n + 1))
-two-more-high n = omega arith
-
--- word i is bytes 2i and 2i + 1, low byte first
-pub word-at : (t : List ℕ) (i : ℕ) → 2 * i + 1 < length t → getD (words t) i 0 ≡ getD t (2 * i) 0 + 256 * getD t (2 * i + 1) 0
-word-at [] i h = omega arith
-word-at (a ∷ []) i h = omega arith
-word-at (a ∷ b ∷ t) zero h = refl
-word-at (a ∷ b ∷ t) (suc i) h = rw (two-more-high i, two-more i) (word-at t i (omega arith))
-
--- a word is two bytes
-pub length-words : (t : List ℕ) → length (words t) ≡ length t / 2
-length-words [] = refl
-length-words (a ∷ []) = refl
-length-words (a ∷ b ∷ t) = omega (arith, length-words t)
-
--- word 3 + x is the head of bench x
-pub head-at : (ws : List ℕ) (x : ℕ) → 1 ≤ x → x ≤ (layout ws) .benches → nth ((layout ws) .heads) x 0 ≡ getD ws (3 + x) 0
-unfolding layout
-head-at ws zero l h = omega arith
-head-at ws (suc i) l h =
-    let e : 4 + i ≡ 3 + suc i = omega arith in
-    getD-take (getD ws 0 0) (drop 4 ws) i 0 h ∙ getD-drop 4 ws i 0 ∙ ap (λ (k : ℕ). getD ws k 0) e
-
--- the record whose first word is word i
-abbrev pub entryFrom : List ℕ → ℕ → Entry
-entryFrom ws i = record { names = getD ws i 0 ∷ getD ws (i + 1) 0 ∷ []; holder = getD ws (i + 2) 0; next = getD ws (i + 3) 0 }
-
-entryFrom-drop : (n : ℕ) (ws : List ℕ) (i : ℕ) → entryFrom (drop n ws) i ≡ entryFrom ws (n + i)
-entryFrom-drop n ws i = simp (getD-drop, add-assoc)
-
-entriesIn-at : (ws : List ℕ) (i : ℕ) → 4 * i + 4 ≤ length ws → getD (entriesIn ws) i vacant ≡ entryFrom ws (4 * i)
-entriesIn-at [] i l = absurd (omega arith)
-entriesIn-at (a ∷ []) i l = absurd (omega arith)
-entriesIn-at (a ∷ b ∷ []) i l = absurd (omega arith)
-entriesIn-at (a ∷ b ∷ h ∷ []) i l = absurd (omega arith)
-entriesIn-at (a ∷ b ∷ h ∷ n ∷ ws) zero l = refl
-entriesIn-at (a ∷ b ∷ h ∷ n ∷ ws) (suc i) l =
-    let e : 4 + 4 * i ≡ 4 * suc i = omega arith in
-    entriesIn-at ws i (omega arith) ∙ entryFrom-drop 4 (a ∷ b ∷ h ∷ n ∷ ws) (4 * i) ∙ ap (entryFrom (a ∷ b ∷ h ∷ n ∷ ws)) e
-
-entriesIn-length : (n : ℕ) (ws : List ℕ) → length ws ≡ 4 * n → length (entriesIn ws) ≡ n
-entriesIn-length n [] e = omega arith
-entriesIn-length n (a ∷ []) e = omega arith
-entriesIn-length n (a ∷ b ∷ []) e = omega arith
-entriesIn-length n (a ∷ b ∷ h ∷ []) e = omega arith
-entriesIn-length zero (a ∷ b ∷ h ∷ m ∷ ws) e = omega arith
-entriesIn-length (suc n) (a ∷ b ∷ h ∷ m ∷ ws) e = ap suc (entriesIn-length n ws (omega arith))
-
--- job j's record is words B + 4 × j, which is 4 + B + 4 × (j − 1), and the next three
-pub entry-at : (ws : List ℕ) (j : ℕ) → 1 ≤ j → 4 + (layout ws) .benches + 4 * j ≤ length ws → nth ((layout ws) .entries) j vacant ≡ entryFrom ws ((layout ws) .benches + 4 * j)
-unfolding layout
-entry-at ws zero l h = absurd (omega arith)
-entry-at ws (suc i) l h =
-    let b = getD ws 0 0 in
-    let e : 4 + b + 4 * i ≡ b + 4 * suc i = omega arith in
-    entriesIn-at (drop (4 + b) ws) i (omega (arith, length-drop (4 + b) ws)) ∙ entryFrom-drop (4 + b) ws (4 * i) ∙ ap (entryFrom ws) e
-
--- sizes that fit
-
--- what it is for a byte length to fit B and J
-pub record Sized (len benches jobs : ℕ) : Type 0 where
-  pub even : len % 2 ≡ 0
-  pub long : 8 ≤ len
-  pub benches-within : T (within 1 mostBenches benches)
-  pub jobs-within : T (within 1 mostJobs jobs)
-  pub exact : len ≡ lengthFor benches jobs
-
--- sizes that fit have this shape
-pub sized : (len benches jobs : ℕ) → T (sizesFit len benches jobs) → Sized len benches jobs
-unfolding sizesFit
-sized len benches jobs t =
-    let p = (five (eqb (len % 2) 0) (leb 8 len) (within 1 mostBenches benches) (within 1 mostJobs jobs) (eqb len (lengthFor benches jobs))) .0 t in
-    record {
-      even = T-eqb (len % 2) 0 (p .0);
-      long = T-leb 8 len (p .1);
-      benches-within = p .2;
-      jobs-within = p .3;
-      exact = T-eqb len (lengthFor benches jobs) (p .4);
-    }
-
--- a byte length does not fit where it has no such shape
-pub misfit : (len benches jobs : ℕ) → (Sized len benches jobs → ⊥) → sizesFit len benches jobs ≡ false
-misfit len benches jobs f = never→false (sizesFit len benches jobs) (λ t. f (sized len benches jobs t))
-
--- an odd length does not fit, whatever B and J
-pub odd-refused : (len benches jobs : ℕ) → len % 2 ≡ 1 → sizesFit len benches jobs ≡ false
-odd-refused len benches jobs h = misfit len benches jobs (λ s. omega arith)
-
--- a length below 8 does not fit, whatever B and J
-pub short-refused : (len benches jobs : ℕ) → len < 8 → sizesFit len benches jobs ≡ false
-short-refused len benches jobs h = misfit len benches jobs (λ s. omega arith)
-
--- a table that fits, by the sizes that its words 0 and 1 give
-pub fits-sized : (t : List ℕ) → T (fits t) → Sized (length t) ((layout (words t)) .benches) ((layout (words t)) .jobs)
-unfolding fits layout
-fits-sized t f = sized (length t) (getD (words t) 0 0) (getD (words t) 1 0) f
-
--- a table that fits has the byte length of its B and J
-pub fits-length : (t : List ℕ) → T (fits t) → length t ≡ lengthFor ((layout (words t)) .benches) ((layout (words t)) .jobs)
-fits-length t f = (fits-sized t f) .exact
-
--- a table that fits has a head for each bench
-pub fits-heads : (t : List ℕ) → T (fits t) → length ((layout (words t)) .heads) ≡ (layout (words t)) .benches
-unfolding layout
-fits-heads t f = omega (arith, fits-length t f, length-words t, length-take (getD (words t) 0 0) (drop 4 (words t)), length-drop 4 (words t))
-
--- a table that fits has a record for each job number
-pub fits-entries : (t : List ℕ) → T (fits t) → length ((layout (words t)) .entries) ≡ (layout (words t)) .jobs
-unfolding layout
-fits-entries t f =
-    let b = getD (words t) 0 0 in
-    entriesIn-length (getD (words t) 1 0) (drop (4 + b) (words t)) (omega (arith, fits-length t f, length-words t, length-drop (4 + b) (words t)))
-
--- empty records
-
--- whether a word is zero
-abbrev isZero : ℕ → Bool
-isZero w = eqb w 0
-
--- the test of all words of a record is that of its names, its holder and its next job
-zero-test : (names : List ℕ) (h n : ℕ) → all isZero (names ++ (h ∷ n ∷ [])) ≡ (all isZero names && isZero h && isZero n)
-zero-test [] h n = go (isZero h) (isZero n)
-  where
-    go : (a b : Bool) → (a && (b && true)) ≡ (a && b)
-    go true true = refl
-    go true false = refl
-    go false b = refl
-zero-test (x ∷ names) h n = go (isZero x) (zero-test names h n)
-  where
-    go : (z : Bool) → all isZero (names ++ (h ∷ n ∷ [])) ≡ (all isZero names && isZero h && isZero n) → (z && all isZero (names ++ (h ∷ n ∷ []))) ≡ (z && all isZero names && isZero h && isZero n)
-    go true ih = ih
-    go false ih = refl
-
--- "A job number that is not standing has four zero words ..
-pub vacant-words : (e : Entry) → filled e ≡ false → Each (λ w. w ≡ 0) (entryWords e)
-vacant-words e f =
-    let t = not-false (all isZero (e .names) && isZero (e .holder) && isZero (e .next)) f in
-    in-each (λ w. w ≡ 0) (entryWords e) (λ w i. T-eqb w 0 (all-in isZero w (entryWords e) (rw (zero-test (e .names) (e .holder) (e .next)) t) i))
-
--- .. any other record is a standing job's", and one of four zero words is none
-pub zero-words : (e : Entry) → Each (λ w. w ≡ 0) (entryWords e) → filled e ≡ false
-zero-words e z =
-    let t = in-all isZero (entryWords e) (λ w i. eqb-T w 0 (each-in (λ w. w ≡ 0) w (entryWords e) z i)) in
-    ap not (sym (zero-test (e .names) (e .holder) (e .next)) ∙ T→true (all isZero (entryWords e)) t)
-
--- the clauses of the sound table
-
--- a filled record's number is one of 1 to J
-pub filled-within : (es : List Entry) (j : ℕ) → T (filled (nth es j vacant)) → (1 ≤ j) × (j ≤ length es)
-filled-within es j t = nth-within es j vacant (λ e. rw e at t)
-
--- so it is one of the records ..
-pub filled-in : (es : List Entry) (j : ℕ) → T (filled (nth es j vacant)) → In (nth es j vacant) es
-filled-in es j t = let w = filled-within es j t in in-nth es j vacant (w .0) (w .1)
-
--- .. and the numbers of a list of standing jobs are such numbers
-pub filled-each : (es : List Entry) (c : List ℕ) → ((j : ℕ) → In j c → T (filled (nth es j vacant))) → Each (λ j. T (within 1 (length es) j)) c
-filled-each es c f = in-each (λ j. T (within 1 (length es) j)) c (λ j i. let r = filled-within es j (f j i) in within-both 1 (length es) j (r .0) (r .1))
-
--- the clauses of the sound table after its sizes, for each record and each chain
-pub record Formed (l : Layout) : Type 0 where
-  pub entry : (e : Entry) → In e (l .entries) → T (filled e) → T (entryFits (l .benches) e)
-  pub place : (j : ℕ) → T (filled (nth (l .entries) j vacant)) → T (placed (chains l) j (holderIn (nth (l .entries) j vacant)))
-  pub only : (c : List ℕ) → In c (chains l) → (j : ℕ) → In j c → T (filled (nth (l .entries) j vacant))
-  pub standing : (l .standing) ≡ length (standingIn (l .entries))
-  pub spare : (l .spare) ≡ 0
-
--- the tests of a standing job's number and record
-abbrev fitIn : Layout → ℕ × Entry → Bool
-fitIn l s = entryFits (l .benches) (s .1)
-
-abbrev placedIn : Layout → ℕ × Entry → Bool
-placedIn l s = placed (chains l) (s .0) (holderIn (s .1))
-
--- a layout that passes the tests has these clauses ..
-pub formed-is : (l : Layout) → T (formed l) → Formed l
-unfolding formed
-formed-is l t =
-    let p = (five (all (fitIn l) (standingIn es)) (all (placedIn l) (standingIn es)) (all (onlyStanding es) (chains l)) (eqb (l .standing) (length (standingIn es))) (eqb (l .spare) 0)) .0 t in
-    record {
-      entry = λ e i f. let r = in-numbered 1 e es i in all-in (fitIn l) (r .0, e) (standingIn es) (p .0) (in-keep full (r .0, e) (numbered 1 es) (r .1) f);
-      place = here (p .1);
-      only = λ c i j k. all-in (λ j. filled (nth es j vacant)) j c (all-in (onlyStanding es) c (chains l) (p .2) i) k;
-      standing = T-eqb (l .standing) (length (standingIn es)) (p .3);
-      spare = T-eqb (l .spare) 0 (p .4);
-    }
-  where
-    es : List Entry
-    es = l .entries
-
-    full : ℕ × Entry → Bool
-    full s = filled (s .1)
-
-    here : T (all (placedIn l) (standingIn es)) → (j : ℕ) → T (filled (nth es j vacant)) → T (placed (chains l) j (holderIn (nth es j vacant)))
-    here p j f =
-        let s : ℕ × Entry = (j, nth es j vacant) in
-        let w = filled-within es j f in
-        all-in (placedIn l) s (standingIn es) p (in-keep full s (numbered 1 es) (in-numbered-nth j es vacant (w .0) (w .1)) f)
-
--- .. and a layout that has them passes the tests
-pub formed-back : (l : Layout) → Formed l → T (formed l)
-unfolding formed
-formed-back l f =
-    (five (all (fitIn l) (standingIn es)) (all (placedIn l) (standingIn es)) (all (onlyStanding es) (chains l)) (eqb (l .standing) (length (standingIn es))) (eqb (l .spare) 0)) .1 (
-      in-all (fitIn l) (standingIn es) (λ s i. let r = there s i in f .entry (s .1) (r .0) (r .1)),
-      in-all (placedIn l) (standingIn es) (λ s i. (there s i) .2),
-      in-all (onlyStanding es) (chains l) (λ c i. in-all (λ j. filled (nth es j vacant)) c (f .only c i)),
-      eqb-T (l .standing) (length (standingIn es)) (f .standing),
-      eqb-T (l .spare) 0 (f .spare),
-    )
-  where
-    es : List Entry
-    es = l .entries
-
-    there : (s : ℕ × Entry) → In s (standingIn es) → In (s .1) es × T (filled (s .1)) × T (placedIn l s)
-    there s i =
-        let k = keep-in (λ s. filled (s .1)) s (numbered 1 es) i in
-        let r = numbered-nth s es vacant (k .0) in
-        let p = f .place (s .0) (subst (λ (e : Entry). T (filled e)) (r .2) (k .1)) in
-        (rw (r .2) (in-nth es (s .0) vacant (r .0) (r .1)), k .1, rw (r .2) p)
-
--- a sound table fits
-pub sound-fits : (t : List ℕ) → T (sound t) → T (fits t)
-unfolding sound
-sound-fits t s = left (fits t) (formed (layout (words t))) s
-
--- a sound table has the clauses after its sizes
-pub sound-formed : (t : List ℕ) → T (sound t) → Formed (layout (words t))
-unfolding sound
-sound-formed t s = formed-is (layout (words t)) (right (fits t) (formed (layout (words t))) s)
-
--- and these are all: a table is sound exactly if it fits and has them
-pub sound-exact : (t : List ℕ) → T (sound t) ↔ (T (fits t) × Formed (layout (words t)))
-unfolding sound
-sound-exact t =
-    (λ s. (sound-fits t s, sound-formed t s), λ p. both (fits t) (formed (layout (words t))) (p .0) (formed-back (layout (words t)) (p .1)))
+use Rattle.spec_lists.proofs.Counting.{bit-le, bit-same, bit-other, count-none, count-some, few, filter-counts}
+use Rattle.spec_table.proofs.Places.{Sized, fits-sized, fits-heads, fits-entries}
+use Rattle.spec_table.proofs.Clauses.{vacant-words, filled-in, filled-each, Formed, sound-fits, sound-formed}
 
 -- the board of a sound table
 
@@ -415,17 +173,17 @@ standing-record t s e i f =
 
 -- the filled records from i on, with their numbers
 abbrev pub standingFrom : ℕ → List Entry → List (ℕ × Entry)
-standingFrom i es = keep (λ s. filled (s .1)) (numbered i es)
+standingFrom i es = filter (λ s. filled (s .1)) (enumerate i es)
 
 -- the first record is one of them if it is filled
 pub standing-first : (i : ℕ) (e : Entry) (es : List Entry) → length (standingFrom i (e ∷ es)) ≡ bit (filled e) + length (standingFrom (suc i) es)
-standing-first i e es = keep-counts (λ (s : ℕ × Entry). filled (s .1)) (i, e) (numbered (suc i) es)
+standing-first i e es = filter-counts (λ (s : ℕ × Entry). filled (s .1)) (i, e) (enumerate (suc i) es)
 
 -- they are as many as the jobs that name a bench, if just these name one
-same-standing : (i : ℕ) (es : List Entry) → ((e : Entry) → In e es → not (empty (namesIn e)) ≡ filled e) → length (standingFrom i es) ≡ length (keep (λ (n : List ℕ). not (empty n)) (map namesIn es))
+same-standing : (i : ℕ) (es : List Entry) → ((e : Entry) → In e es → not (empty (namesIn e)) ≡ filled e) → length (standingFrom i es) ≡ length (filter (λ (n : List ℕ). not (empty n)) (map namesIn es))
 same-standing i [] f = refl
 same-standing i (e ∷ es) f =
-    let jobs = keep-counts (λ (n : List ℕ). not (empty n)) (namesIn e) (map namesIn es) in
+    let jobs = filter-counts (λ (n : List ℕ). not (empty n)) (namesIn e) (map namesIn es) in
     omega (arith, standing-first i e es, jobs, ap bit (f e (inl refl)), same-standing (suc i) es (λ x k. f x (inr k)))
 
 -- a record names benches on a sound table's board exactly if it is filled
@@ -442,13 +200,13 @@ unfolding decode boardOf
 standing-word t s = (sound-formed t s) .standing ∙ same-standing 1 ((layout (words t)) .entries) (λ e i. named-filled t s e (λ f. i))
 
 -- how often a placed job is on a chain with its number ..
-numbered-placed : (cs : List (List ℕ)) (j h : ℕ) → T (placed cs j h) → (s : ℕ × List ℕ) → In s (numbered 1 cs) → count j (s .1) ≡ bit (eqb (s .0) h)
-numbered-placed cs j h p s i =
-    T-eqb (count j (s .1)) (bit (eqb (s .0) h)) (all-in (λ c. eqb (count j (c .1)) (bit (eqb (c .0) h))) s (numbered 1 cs) p i)
+enumerate-placed : (cs : List (List ℕ)) (j h : ℕ) → T (placed cs j h) → (s : ℕ × List ℕ) → In s (enumerate 1 cs) → count j (s .1) ≡ bit (eqb (s .0) h)
+enumerate-placed cs j h p s i =
+    T-eqb (count j (s .1)) (bit (eqb (s .0) h)) (all-in (λ c. eqb (count j (c .1)) (bit (eqb (c .0) h))) s (enumerate 1 cs) p i)
 
 -- .. and on chain x
 count-placed : (cs : List (List ℕ)) (j h x : ℕ) → T (placed cs j h) → 1 ≤ x → x ≤ length cs → count j (nth cs x []) ≡ bit (eqb x h)
-count-placed cs j h x p l u = numbered-placed cs j h p (x, nth cs x []) (in-numbered-nth x cs [] l u)
+count-placed cs j h x p l u = enumerate-placed cs j h p (x, nth cs x []) (in-enumerate-nth x cs [] l u)
 
 -- a table that fits has a chain for each bench
 pub fits-chains : (t : List ℕ) → T (fits t) → length (chains (layout (words t))) ≡ (layout (words t)) .benches
@@ -482,7 +240,7 @@ other-chain t s j x f d = go x d
     go (suc i) d = there i d (decLe (suc i) (length (chains l)))
 
 -- a chain of a layout with the clauses has jobs of its own bench only, none twice ..
-pub formed-own : (l : Layout) → Formed l → (s : ℕ × List ℕ) → In s (numbered 1 (chains l)) → (j : ℕ) → count j (s .1) ≤ bit (eqb (s .0) (holderIn (nth (l .entries) j vacant)))
+pub formed-own : (l : Layout) → Formed l → (s : ℕ × List ℕ) → In s (enumerate 1 (chains l)) → (j : ℕ) → count j (s .1) ≤ bit (eqb (s .0) (holderIn (nth (l .entries) j vacant)))
 formed-own l f s i j = go (membered j (s .1))
   where
     h : ℕ
@@ -490,9 +248,9 @@ formed-own l f s i j = go (membered j (s .1))
 
     go : {z : Bool} → Member j (s .1) z → count j (s .1) ≤ bit (eqb (s .0) h)
     go (is-in k) =
-        let r = numbered-nth s (chains l) [] i in
+        let r = enumerate-nth s (chains l) [] i in
         let c : In (s .1) (chains l) = rw (r .2) (in-nth (chains l) (s .0) [] (r .0) (r .1)) in
-        omega (arith, numbered-placed (chains l) j h (f .place j (f .only (s .1) c j k)) s i)
+        omega (arith, enumerate-placed (chains l) j h (f .place j (f .only (s .1) c j k)) s i)
     go (not-in n) = omega (arith, count-none j (s .1) n)
 
 -- .. and if such jobs stand they are at most as many as the records
@@ -507,7 +265,7 @@ chain-ends t s h i =
     let f = sound-formed t s in
     let c = follow (l .entries) (suc (l .jobs)) h in
     let on : In c (chains l) = in-map (follow (l .entries) (suc (l .jobs))) h (l .heads) i in
-    let r = in-numbered 1 c (chains l) on in
+    let r = in-enumerate 1 c (chains l) on in
     short-ends (l .entries) (l .jobs) h (omega (arith, own-few (l .entries) (r .0) c (formed-own l f (r .0, c) (r .1)) (f .only c on), fits-entries t (sound-fits t s)))
 
 -- the board's jobs by their records

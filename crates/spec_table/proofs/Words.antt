@@ -7,10 +7,12 @@ use mathlib.Core.List.{List, [], _∷_, _++_, map, flatMap, append-nil}
 use lib.Dec.{T, eqb, leb}
 use lib.ListN.{length, take, drop, length-append}
 use lib.Seq.{take-at, drop-at}
-use Rattle.spec_lists.specs.Lists.{within, rising, Each, empty}
+use Rattle.spec_lists.specs.Lists.{within, range, Each, empty}
 use Rattle.spec_table.specs.Board.{Board, Shares, namesFit}
-use Rattle.spec_table.specs.Table.{paired, words, bytesOf, mostBenches, mostJobs, lengthFor, sizesFit, Entry, Layout, entriesIn, layout, fits, firstHeld, placeOf, entryFor, entriesFrom, layoutOf, entryWords, flat, encode, Storable}
-use Rattle.spec_lists.proofs.Basics.{five, cond-le, two-elements, T-eqb, eqb-T, leb-T, within-high, in-each, each-append, each-map, length-keep, length-values}
+use Rattle.spec_table.specs.Table.{paired, words, bytesOf, mostBenches, mostJobs, lengthFor, sizesFit, Entry, Layout, entriesIn, layout, fits, firstHeld, positionOf, entryFor, entriesFrom, layoutOf, entryWords, flat, encode, Storable}
+use Rattle.spec_lists.proofs.Tests.{five, cond-le, T-eqb, eqb-T, leb-T, within-high}
+use Rattle.spec_lists.proofs.Elements.{two-elements, in-each, each-append, each-map, length-filter}
+use Rattle.spec_lists.proofs.NumberLists.{length-values}
 use Rattle.spec_table.proofs.Named.{length-shares, fit-bench}
 
 -- words and bytes
@@ -37,7 +39,7 @@ bytesOf-bytes (w ∷ ws) = (omega arith, (omega arith, bytesOf-bytes ws))
 -- layouts
 
 -- a layout that a table of its sizes has room for: a head for each bench, two names in each record
-pub record LaidOut (l : Layout) : Type 0 where
+pub record WellSized (l : Layout) : Type 0 where
   pub heads : length (l .heads) ≡ l .benches
   pub entries : Each (λ e. length (e .names) ≡ 2) (l .entries)
 
@@ -59,7 +61,7 @@ length-entryWords (e ∷ es) p =
     omega (arith, length-entryWords es (p .1), length-append (entryWords e) (flatMap entryWords es), length-append (e .names) (e .holder ∷ e .next ∷ []))
 
 -- the words of a layout read back as the same layout
-pub layout-flat : (l : Layout) → LaidOut l → layout (flat l) ≡ l
+pub layout-flat : (l : Layout) → WellSized l → layout (flat l) ≡ l
 unfolding layout flat
 layout-flat l r = λ i. record { benches = l .benches; jobs = l .jobs; standing = l .standing; spare = l .spare; heads = heads i; entries = entries i }
   where
@@ -76,7 +78,7 @@ layout-flat l r = λ i. record { benches = l .benches; jobs = l .jobs; standing 
     entries = rw (drop-at front records (4 + l .benches) (omega arith)) (entriesIn-words (l .entries) (r .entries))
 
 -- a layout has "4 + B + 4 × J words"
-pub length-flat : (l : Layout) → LaidOut l → length (flat l) ≡ 4 + l .benches + 4 * length (l .entries)
+pub length-flat : (l : Layout) → WellSized l → length (flat l) ≡ 4 + l .benches + 4 * length (l .entries)
 unfolding flat
 length-flat l r = omega (arith, length-entryWords (l .entries) (r .entries), length-append (l .heads) (flatMap entryWords (l .entries)))
 
@@ -96,9 +98,9 @@ entries-two i ([] ∷ named) (h ∷ holders) p = (refl, entries-two (suc i) name
 entries-two i ((x ∷ names) ∷ named) (h ∷ holders) p = (T-eqb (length (x ∷ names)) 2 (p .0), entries-two (suc i) named holders (p .1))
 
 -- a table of the board's sizes has room for its layout
-pub laidOut : (b : Board) → Storable b → LaidOut (layoutOf b)
+pub wellSized : (b : Board) → Storable b → WellSized (layoutOf b)
 unfolding layoutOf
-laidOut b s =
+wellSized b s =
     record {
       heads = length-values (λ x. firstHeld 1 x (b .holders)) 1 (b .benches);
       entries = entries-two 1 (b .named) (b .holders) (s .pairs);
@@ -113,30 +115,30 @@ firstHeld-le i x (h ∷ holders) =
     cond-le (eqb h x) i (firstHeld (suc i) x holders) (i + suc (length holders)) (omega arith) (omega (arith, firstHeld-le (suc i) x holders))
 
 -- a place is not after the end of the list
-placeOf-le : (h : ℕ) (names : List ℕ) → placeOf h names ≤ length names
-placeOf-le h [] = omega arith
-placeOf-le h (x ∷ names) = cond-le (eqb x h) 1 (suc (placeOf h names)) (suc (length names)) (omega arith) (omega (arith, placeOf-le h names))
+positionOf-le : (h : ℕ) (names : List ℕ) → positionOf h names ≤ length names
+positionOf-le h [] = omega arith
+positionOf-le h (x ∷ names) = cond-le (eqb x h) 1 (suc (positionOf h names)) (suc (length names)) (omega arith) (omega (arith, positionOf-le h names))
 
-abbrev Small : ℕ → Type 0
-Small w = w < 65536
+abbrev SmallWord : ℕ → Type 0
+SmallWord w = w < 65536
 
 -- no word of a record is above 65,535
-entry-small : (benches : ℕ) (names : List ℕ) (h n : ℕ) → benches ≤ mostBenches → n < 65536 → T (namesFit benches names) → T (paired names) → Each Small (entryWords (entryFor names h n))
+entry-small : (benches : ℕ) (names : List ℕ) (h n : ℕ) → benches ≤ mostBenches → n < 65536 → T (namesFit benches names) → T (paired names) → Each SmallWord (entryWords (entryFor names h n))
 entry-small benches [] h n b m f p = omega arith
 entry-small benches (x ∷ l) h n b m f p =
     let names : List ℕ = x ∷ l in
-    each-append Small names (placeOf h names ∷ n ∷ [])
-    (in-each Small names (λ w i. omega (arith, within-high 1 benches w (fit-bench benches names w f i))))
-    (omega (arith, placeOf-le h names, T-eqb (length names) 2 p))
+    each-append SmallWord names (positionOf h names ∷ n ∷ [])
+    (in-each SmallWord names (λ w i. omega (arith, within-high 1 benches w (fit-bench benches names w f i))))
+    (omega (arith, positionOf-le h names, T-eqb (length names) 2 p))
 
 -- nor of the records of the jobs from i on
-entries-small : (benches i : ℕ) (named : List (List ℕ)) (holders : List ℕ) → benches ≤ mostBenches → i + length holders < 65536 → Each (λ names. T (namesFit benches names)) named → Each (λ names. T (paired names)) named → Each Small (flatMap entryWords (entriesFrom i named holders))
+entries-small : (benches i : ℕ) (named : List (List ℕ)) (holders : List ℕ) → benches ≤ mostBenches → i + length holders < 65536 → Each (λ names. T (namesFit benches names)) named → Each (λ names. T (paired names)) named → Each SmallWord (flatMap entryWords (entriesFrom i named holders))
 unfolding flatMap
 entries-small benches i [] holders b m f p = tt
 entries-small benches i (names ∷ named) [] b m f p = tt
 entries-small benches i (names ∷ named) (h ∷ holders) b m f p =
     let next : ℕ = firstHeld (suc i) h holders in
-    each-append Small (entryWords (entryFor names h next)) (flatMap entryWords (entriesFrom (suc i) named holders))
+    each-append SmallWord (entryWords (entryFor names h next)) (flatMap entryWords (entriesFrom (suc i) named holders))
     (entry-small benches names h next b (omega (arith, firstHeld-le (suc i) h holders)) (f .0) (p .0))
     (entries-small benches (suc i) named holders b (omega arith) (f .1) (p .1))
 
@@ -148,10 +150,10 @@ layoutOf-small b s =
     let jobs : length (b .named) ≤ mostJobs = within-high 1 mostJobs (length (b .named)) (s .jobs) in
     let held : length (b .holders) ≡ length (b .named) = length-shares (b .named) (b .holders) (s .valid .shares) in
     let head : ℕ → ℕ = λ x. firstHeld 1 x (b .holders) in
-    let heads : Each Small (map head (rising 1 (b .benches))) = each-map Small head (rising 1 (b .benches)) (λ x i. omega (arith, firstHeld-le 1 x (b .holders))) in
-    let records : Each Small (flatMap entryWords (entriesFrom 1 (b .named) (b .holders))) = entries-small (b .benches) 1 (b .named) (b .holders) benches (omega arith) (s .valid .names) (s .pairs) in
-    let rest = each-append Small (map head (rising 1 (b .benches))) (flatMap entryWords (entriesFrom 1 (b .named) (b .holders))) heads records in
-    (omega arith, (omega arith, (omega (arith, length-keep (λ names. not (empty names)) (b .named)), (omega arith, rest))))
+    let heads : Each SmallWord (map head (range 1 (b .benches))) = each-map SmallWord head (range 1 (b .benches)) (λ x i. omega (arith, firstHeld-le 1 x (b .holders))) in
+    let records : Each SmallWord (flatMap entryWords (entriesFrom 1 (b .named) (b .holders))) = entries-small (b .benches) 1 (b .named) (b .holders) benches (omega arith) (s .valid .names) (s .pairs) in
+    let rest = each-append SmallWord (map head (range 1 (b .benches))) (flatMap entryWords (entriesFrom 1 (b .named) (b .holders))) heads records in
+    (omega arith, (omega arith, (omega (arith, length-filter (λ names. not (empty names)) (b .named)), (omega arith, rest))))
 
 -- the table of a board
 
@@ -162,13 +164,13 @@ words-encode b s = words-bytesOf (flat (layoutOf b)) (layoutOf-small b s)
 
 -- an encoded board's words have the board's layout
 pub layout-encode : (b : Board) → Storable b → layout (words (encode b)) ≡ layoutOf b
-layout-encode b s = rw (words-encode b s) (layout-flat (layoutOf b) (laidOut b s))
+layout-encode b s = rw (words-encode b s) (layout-flat (layoutOf b) (wellSized b s))
 
 -- an encoded board has the length that belongs to its sizes
 length-encode : (b : Board) → Storable b → length (encode b) ≡ lengthFor (b .benches) (length (b .named))
 unfolding encode layoutOf
 length-encode b s =
-    omega (arith, length-bytesOf (flat (layoutOf b)), length-flat (layoutOf b) (laidOut b s), length-entries 1 (b .named) (b .holders) (s .valid .shares))
+    omega (arith, length-bytesOf (flat (layoutOf b)), length-flat (layoutOf b) (wellSized b s), length-entries 1 (b .named) (b .holders) (s .valid .shares))
 
 -- sizes within the limits fit the length that belongs to them
 pub within-fit : (benches jobs : ℕ) → T (within 1 mostBenches benches) → T (within 1 mostJobs jobs) → T (sizesFit (lengthFor benches jobs) benches jobs)

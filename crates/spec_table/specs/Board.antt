@@ -5,10 +5,10 @@ use mathlib.Core.Bool.{Bool, _&&_, not}
 use mathlib.Core.List.{List, [], _∷_}
 use lib.Dec.{T, eqb}
 use lib.ListN.{length}
-use Rattle.spec_lists.specs.Lists.{within, count, member, different, total, greatest, keep, all, Each, empty, nth, change}
+use Rattle.spec_lists.specs.Lists.{within, count, member, distinct, total, greatest, filter, all, Each, empty, nth, update}
 
--- benches 1 to `benches`; for each job number in order the benches that the job names, [] for no job; and the bench that
--- holds it, 0 for no job
+-- 000: an oriented multigraph; a bench is a vertex, a job an edge, its holder the vertex that the edge leaves. Benches are 1 to
+-- `benches`; for each job number in order the benches that the job names, [] for no job; and the bench that holds it, 0 for no job
 pub record Board : Type 0 where
   pub benches : ℕ
   pub named : List (List ℕ)
@@ -28,18 +28,18 @@ stands b j = not (empty (namesOf b j))
 
 -- the number of standing jobs
 abbrev pub standing : Board → ℕ
-standing b = length (keep (λ names. not (empty names)) (b .named))
+standing b = length (filter (λ names. not (empty names)) (b .named))
 
 -- the board with the benches of job j and its holder written anew; [] and 0 take the job away
 abbrev pub put : Board → ℕ → List ℕ → ℕ → Board
 put b j names h =
-    record { benches = b .benches; named = change (b .named) j names; holders = change (b .holders) j h }
+    record { benches = b .benches; named = update (b .named) j names; holders = update (b .holders) j h }
 
--- "a bench's load is then the number of jobs given to it"
+-- "a bench's load is then the number of jobs given to it"; 000: the vertex's out-degree
 abbrev pub load : List ℕ → ℕ → ℕ
 load holders x = count x holders
 
--- the heaviest load of benches 1 to B, 0 without jobs
+-- the heaviest load of benches 1 to B, 0 without jobs; 000: the maximum out-degree
 unfoldable pub heaviest : Board → ℕ
 heaviest b = greatest (b .benches) (load (b .holders))
 
@@ -65,7 +65,7 @@ heldBy b holders = record { benches = b .benches; named = b .named; holders = ho
 
 -- different benches of 1 to B
 abbrev pub namesFit : ℕ → List ℕ → Bool
-namesFit benches names = all (within 1 benches) names && different names
+namesFit benches names = all (within 1 benches) names && distinct names
 
 -- a board whose jobs name different benches of 1 to B and are held by one that they name
 pub record Valid (b : Board) : Type 0 where

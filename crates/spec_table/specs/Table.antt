@@ -4,7 +4,7 @@ use mathlib.Core.Bool.{Bool, cond, not, _&&_, _||_}
 use mathlib.Core.List.{List, [], _∷_, _++_, map, flatMap}
 use lib.Dec.{T, eqb, leb}
 use lib.ListN.{length, getD, take, drop, replicate}
-use Rattle.spec_lists.specs.Lists.{bit, within, count, rising, keep, all, Each, empty, nth, numbered}
+use Rattle.spec_lists.specs.Lists.{bit, within, count, range, filter, all, Each, empty, nth, enumerate}
 use Rattle.spec_table.specs.Board.{Board, Valid, namesFit, standing}
 
 -- "A word is 16 bits, two bytes, low byte first"
@@ -96,7 +96,7 @@ chains l = map (follow (l .entries) (suc (l .jobs))) (l .heads)
 
 -- the standing jobs with their numbers
 abbrev pub standingIn : List Entry → List (ℕ × Entry)
-standingIn es = keep (λ s. filled (s .1)) (numbered 1 es)
+standingIn es = filter (λ s. filled (s .1)) (enumerate 1 es)
 
 -- "two different benches of 1 to B and holder 1 or 2"
 abbrev pub entryFits : ℕ → Entry → Bool
@@ -104,7 +104,7 @@ entryFits benches e = namesFit benches (e .names) && within 1 (length (e .names)
 
 -- "on its holder's chain once and on no other"
 abbrev pub placed : List (List ℕ) → ℕ → ℕ → Bool
-placed cs j h = all (λ c. eqb (count j (c .1)) (bit (eqb (c .0) h))) (numbered 1 cs)
+placed cs j h = all (λ c. eqb (count j (c .1)) (bit (eqb (c .0) h))) (enumerate 1 cs)
 
 -- "no empty record and no number above J is on a chain"
 abbrev pub onlyStanding : List Entry → List ℕ → Bool
@@ -148,14 +148,14 @@ firstHeld i x [] = 0
 firstHeld i x (h ∷ holders) = let r = firstHeld (suc i) x holders in cond (eqb h x) i r
 
 -- the place of h in the list, counted from 1
-abbrev pub placeOf : ℕ → List ℕ → ℕ
-placeOf h [] = 0
-placeOf h (x ∷ names) = let r = placeOf h names in cond (eqb x h) 1 (suc r)
+abbrev pub positionOf : ℕ → List ℕ → ℕ
+positionOf h [] = 0
+positionOf h (x ∷ names) = let r = positionOf h names in cond (eqb x h) 1 (suc r)
 
 -- the record of a job with these names, this holder and this next job
 abbrev pub entryFor : List ℕ → ℕ → ℕ → Entry
 entryFor [] h n = vacant
-entryFor (x ∷ names) h n = record { names = x ∷ names; holder = placeOf h (x ∷ names); next = n }
+entryFor (x ∷ names) h n = record { names = x ∷ names; holder = positionOf h (x ∷ names); next = n }
 
 -- the records of the jobs from i on: the next job on a chain is the lowest later one of the same holder, so chains rise
 abbrev pub entriesFrom : ℕ → List (List ℕ) → List ℕ → List Entry
@@ -172,7 +172,7 @@ layoutOf b =
       jobs = length (b .named);
       standing = standing b;
       spare = 0;
-      heads = map (λ x. firstHeld 1 x (b .holders)) (rising 1 (b .benches));
+      heads = map (λ x. firstHeld 1 x (b .holders)) (range 1 (b .benches));
       entries = entriesFrom 1 (b .named) (b .holders);
     }
 

@@ -1,3 +1,3 @@
 -- Records as jobs, loads.
-pub mod Boards
-pub mod Counts
+pub mod RecordsAsBoard
+pub mod LoadCounts

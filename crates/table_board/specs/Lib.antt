@@ -1,2 +1,2 @@
 -- What the functions promise.
-pub mod View
+pub mod BoardView

@@ -3,19 +3,20 @@ ghost use mathlib.Core.Path.{_≡_};
 ghost use lib.ListN.{replicate};
 ghost use Rattle.spec_table.specs.Table.{mostBenches, decode};
 ghost use Prim.Native.Nat.{_+_};
-ghost use Rattle.table_board.specs.View.{Kept, Loaded};
+ghost use Rattle.table_board.specs.BoardView.{HoldsBoard, Loaded};
 use crate::jobs;
 use table_size::Size;
 
+// Clears the loads.
 fn clear(loads: &mut [u16; Size::MOST_BENCHES + 1])
     ensures { λ _. ⌜ now (loads .exit) ≡ replicate (mostBenches + 1) 0 ⌝ }
 {
     *loads = [0; Size::MOST_BENCHES + 1];
 }
 
-// At x the load of bench x, at 0 the number of job numbers that do not stand.
+// Counts, at x, the load of bench x, and at 0 the job numbers that do not stand.
 pub fn loads(t: &[u8], s: Size, loads: &mut [u16; Size::MOST_BENCHES + 1])
-    requires { ⌜ Kept (now t) s ⌝ }
+    requires { ⌜ HoldsBoard (now t) s ⌝ }
     ensures { λ _. ⌜ Loaded (decode (now (t .entry))) (now (loads .exit)) ⌝ }
 {
     clear(loads);

@@ -5,24 +5,25 @@ use mathlib.Core.Path.{_≡_, refl, sym, ap, _∙_, subst}
 use mathlib.Core.Logic.{_⊎_, inl, inr, _↔_, _≢_}
 use mathlib.Core.List.{List, [], _∷_}
 use lib.Dec.{T, eqb}
-use Rattle.spec_lists.specs.Lists.{within, different, In, nth, bit, total}
+use Rattle.spec_lists.specs.Lists.{within, distinct, In, nth, bit, total}
 use Rattle.spec_table.specs.Board.{holderOf, stands, standing, load}
 use Rattle.spec_table.specs.Table.{Entry, vacant, follow, chains, decode}
-use Rattle.spec_lists.proofs.Basics.{in-each, in-nth, nth-map, T-eqb, eqb-T, differ, within-both}
-use Rattle.spec_lists.proofs.Counting.{different-count, few, total-tested, count-total}
+use Rattle.spec_lists.proofs.Tests.{T-eqb, eqb-T, differ, within-both}
+use Rattle.spec_lists.proofs.Elements.{in-each, in-nth, nth-map}
+use Rattle.spec_lists.proofs.Counting.{distinct-count, few, total-tested, count-total}
 use Rattle.spec_table.proofs.Sound.{Ends, standing-word, chain-ends, on-chain}
-use Rattle.spec_table.proofs.ChainEnds.{ends-on, ends-next, ends-different}
+use Rattle.spec_table.proofs.ChainEnds.{ends-on, ends-next, ends-distinct}
 use lib.ListN.{length}
 use Rattle.spec_sharing.proofs.Paths.{stands-within, holder-bench}
-use Rattle.table_board.proofs.Boards.{sound-kept, stands-job, stands-held}
-use Rattle.table_board.proofs.Counts.{holders-long}
+use Rattle.table_board.proofs.RecordsAsBoard.{sound-holds-board, stands-job, stands-held}
+use Rattle.table_board.proofs.LoadCounts.{holders-long}
 use Rattle.table_size.proofs.Sizes.{heads-long, board-bench}
-use Rattle.table_words.specs.Bytes.{laid}
+use Rattle.table_words.specs.Bytes.{layoutIn}
 use Rattle.table_size.specs.Sizes.{JobIn, BenchIn, SoundTable}
 use Rattle.table_records.specs.Records.{RecordOf}
 use Rattle.table_size.specs.Written.{HeadOf}
 use Rattle.table_records.specs.declared.Record.{Record}
-use Rattle.table_board.specs.View.{Kept}
+use Rattle.table_board.specs.BoardView.{HoldsBoard}
 use Rattle.table_chains.specs.Chains.{chainFrom, ChainOf, NextOf, Rest}
 use Rattle.table_size.specs.declared.Size.{Size}
 
@@ -40,34 +41,34 @@ chain-begins t (suc i) l = inl refl
 -- the chains of a sound table
 
 -- bench x's chain is the chain from its head
-head-chain : (t : List ℕ) (x : ℕ) → nth (chains (laid t)) x [] ≡ chainFrom t (nth ((laid t) .heads) x 0)
+head-chain : (t : List ℕ) (x : ℕ) → nth (chains (layoutIn t)) x [] ≡ chainFrom t (nth ((layoutIn t) .heads) x 0)
 unfolding chainFrom
-head-chain t x = let l = laid t in nth-map (follow (l .entries) (suc (l .jobs))) (l .heads) x 0
+head-chain t x = let l = layoutIn t in nth-map (follow (l .entries) (suc (l .jobs))) (l .heads) x 0
 
 -- on it are the jobs that x holds
-held-chain : (t : List ℕ) (s : Size) (x : ℕ) → SoundTable t s → BenchIn s x → (i : ℕ) → In i (chainFrom t (nth ((laid t) .heads) x 0)) ↔ (T (stands (decode t) i) × (holderOf (decode t) i ≡ x))
+held-chain : (t : List ℕ) (s : Size) (x : ℕ) → SoundTable t s → BenchIn s x → (i : ℕ) → In i (chainFrom t (nth ((layoutIn t) .heads) x 0)) ↔ (T (stands (decode t) i) × (holderOf (decode t) i ≡ x))
 held-chain t s x z b i =
     let on = on-chain t (z .sound) i x (b .least) (omega (arith, z .size .board-benches, b .most)) in
     subst (λ (c : List ℕ). In i c ↔ (T (stands (decode t) i) × (holderOf (decode t) i ≡ x))) (head-chain t x) on
 
 -- bench x's chain ends
-head-ends : (t : List ℕ) (s : Size) (x : ℕ) → SoundTable t s → BenchIn s x → Ends ((laid t) .entries) ((laid t) .jobs) (nth ((laid t) .heads) x 0)
+head-ends : (t : List ℕ) (s : Size) (x : ℕ) → SoundTable t s → BenchIn s x → Ends ((layoutIn t) .entries) ((layoutIn t) .jobs) (nth ((layoutIn t) .heads) x 0)
 head-ends t s x z b =
-    let l = laid t in
+    let l = layoutIn t in
     chain-ends t (z .sound) (nth (l .heads) x 0) (in-nth (l .heads) x 0 (b .least) (omega (arith, b .most, heads-long t s (z .size))))
 
 -- bench x's chain from its head
-pub first-chain : (t : List ℕ) (s : Size) (x : ℕ) → SoundTable t s → BenchIn s x → ChainOf t s x (nth ((laid t) .heads) x 0)
+pub first-chain : (t : List ℕ) (s : Size) (x : ℕ) → SoundTable t s → BenchIn s x → ChainOf t s x (nth ((layoutIn t) .heads) x 0)
 unfolding chainFrom
 first-chain t s x z b =
     record {
       held = held;
       once = once;
-      few = few (s .jobs) c (different-count c once) (in-each (λ j. T (within 1 (s .jobs) j)) c (λ j i. let n = stands-job t s j (z .size) ((held j) .0 i .0) in within-both 1 (s .jobs) j (n .least) (n .most)));
+      few = few (s .jobs) c (distinct-count c once) (in-each (λ j. T (within 1 (s .jobs) j)) c (λ j i. let n = stands-job t s j (z .size) ((held j) .0 i .0) in within-both 1 (s .jobs) j (n .least) (n .most)));
     }
   where
     h : ℕ
-    h = nth ((laid t) .heads) x 0
+    h = nth ((layoutIn t) .heads) x 0
 
     c : List ℕ
     c = chainFrom t h
@@ -75,21 +76,21 @@ first-chain t s x z b =
     held : (i : ℕ) → In i c ↔ (T (stands (decode t) i) × (holderOf (decode t) i ≡ x))
     held = held-chain t s x z b
 
-    once : T (different c)
-    once = ends-different ((laid t) .entries) (suc ((laid t) .jobs)) ((laid t) .jobs) h (head-ends t s x z b)
+    once : T (distinct c)
+    once = ends-distinct ((layoutIn t) .entries) (suc ((layoutIn t) .jobs)) ((layoutIn t) .jobs) h (head-ends t s x z b)
 
 -- the chain after a standing job
-pub next-chain : (t : List ℕ) (s : Size) (j : ℕ) → SoundTable t s → JobIn s j → T (stands (decode t) j) → NextOf t j ((nth ((laid t) .entries) j vacant) .next)
+pub next-chain : (t : List ℕ) (s : Size) (j : ℕ) → SoundTable t s → JobIn s j → T (stands (decode t) j) → NextOf t j ((nth ((layoutIn t) .entries) j vacant) .next)
 unfolding chainFrom
 next-chain t s zero z i p = absurd (omega (arith, i .least))
 next-chain t s (suc j) z i p =
     record { chain = chain }
   where
     es : List Entry
-    es = (laid t) .entries
+    es = (layoutIn t) .entries
 
     jobs : ℕ
-    jobs = (laid t) .jobs
+    jobs = (layoutIn t) .jobs
 
     n : ℕ
     n = (nth es (suc j) vacant) .next
@@ -101,7 +102,7 @@ next-chain t s (suc j) z i p =
     bench = board-bench x (z .size) (holder-bench (decode t) (z .storable .valid) (suc j) p)
 
     h : ℕ
-    h = nth ((laid t) .heads) x 0
+    h = nth ((layoutIn t) .heads) x 0
 
     held : (i : ℕ) → In i (chainFrom t h) ↔ (T (stands (decode t) i) × (holderOf (decode t) i ≡ x))
     held = held-chain t s x z bench
@@ -118,7 +119,7 @@ next-chain t s (suc j) z i p =
 -- what was read
 
 -- the number of standing jobs of a sound table
-pub standing-read : (t : List ℕ) (s : Size) (r : ℕ) → SoundTable t s → r ≡ (laid t) .standing → r ≡ standing (decode t)
+pub standing-read : (t : List ℕ) (s : Size) (r : ℕ) → SoundTable t s → r ≡ (layoutIn t) .standing → r ≡ standing (decode t)
 standing-read t s r z e = e ∙ standing-word t (z .sound)
 
 -- bench x's head begins its chain
@@ -153,13 +154,13 @@ pub rest-less : {t : List ℕ} {j n : ℕ} → NextOf t j n → length (chainFro
 rest-less o = ap length (o .chain)
 
 -- a job that a bench holds stands
-pub held-stands : (t : List ℕ) (s : Size) (j x : ℕ) → Kept t s → 1 ≤ x → holderOf (decode t) j ≡ x → T (stands (decode t) j)
+pub held-stands : (t : List ℕ) (s : Size) (j x : ℕ) → HoldsBoard t s → 1 ≤ x → holderOf (decode t) j ≡ x → T (stands (decode t) j)
 held-stands t s j x k l e = rw (stands-held t s j k) ((differ (holderOf (decode t) j) 0) .0 (λ z. omega arith))
 
 -- a bench's chain is as long as its load
 pub chain-load : (t : List ℕ) (s : Size) (x j : ℕ) → SoundTable t s → BenchIn s x → ChainOf t s x j → length (chainFrom t j) ≡ load ((decode t) .holders) x
 chain-load t s x j z b c =
-    let k = sound-kept t s z in
+    let k = sound-holds-board t s z in
     total-tested (s .jobs) (chainFrom t j) (λ i. eqb (holderOf (decode t) i) x) (c .once) job on
     ∙ sym (subst (λ (n : ℕ). load ((decode t) .holders) x ≡ total n (λ i. bit (eqb (holderOf (decode t) i) x))) (holders-long k) (count-total x ((decode t) .holders)))
   where
@@ -169,5 +170,5 @@ chain-load t s x j z b c =
     on : (i : ℕ) → In i (chainFrom t j) ↔ T (eqb (holderOf (decode t) i) x)
     on i = (
       λ o. eqb-T (holderOf (decode t) i) x ((c .held i) .0 o .1),
-      λ q. let e = T-eqb (holderOf (decode t) i) x q in (c .held i) .1 (held-stands t s i x (sound-kept t s z) (b .least) e, e),
+      λ q. let e = T-eqb (holderOf (decode t) i) x q in (c .held i) .1 (held-stands t s i x (sound-holds-board t s z) (b .least) e, e),
     )

@@ -1,3 +1,3 @@
 -- Chains as lists of jobs, chains made anew.
 pub mod ChainView
-pub mod Settling
+pub mod Rebuilding

@@ -2,13 +2,13 @@
 use Prim.Native.Nat.{ℕ, zero, suc, _≤_}
 use mathlib.Core.Path.{_≡_}
 use mathlib.Core.List.{List, _∷_}
-use Rattle.spec_lists.specs.Lists.{bit, nth, In, different}
+use Rattle.spec_lists.specs.Lists.{bit, nth, In, distinct}
 use Rattle.spec_table.specs.Board.{stands, standing, holderOf}
 use Rattle.spec_table.specs.Table.{Layout, vacant, holderIn, decode, encode, follow}
-use Rattle.table_words.specs.Bytes.{laid}
+use Rattle.table_words.specs.Bytes.{layoutIn}
 use Rattle.table_size.specs.Written.{withHead, withEntry, withNext}
 use Rattle.table_size.specs.declared.Size.{Size}
-use Rattle.table_board.specs.View.{Kept}
+use Rattle.table_board.specs.BoardView.{HoldsBoard}
 use mathlib.Core.Logic.{_↔_}
 use lib.Dec.{T}
 use lib.ListN.{length}
@@ -16,12 +16,12 @@ use Rattle.table_size.specs.Sizes.{SoundTable}
 
 -- the jobs on a chain from job j on
 unfoldable pub chainFrom : List ℕ → ℕ → List ℕ
-chainFrom t j = follow ((laid t) .entries) (suc ((laid t) .jobs)) j
+chainFrom t j = follow ((layoutIn t) .entries) (suc ((layoutIn t) .jobs)) j
 
 -- bench x's chain begins with job j: on it are the jobs that x holds, each once
 pub record ChainOf (t : List ℕ) (s : Size) (x j : ℕ) : Type 0 where
   pub held : (i : ℕ) → In i (chainFrom t j) ↔ (T (stands (decode t) i) × (holderOf (decode t) i ≡ x))
-  pub once : T (different (chainFrom t j))
+  pub once : T (distinct (chainFrom t j))
   pub few : length (chainFrom t j) ≤ s .jobs
 
 -- after job j on its chain comes the chain from job n on
@@ -33,7 +33,7 @@ pub record Rest (t : List ℕ) (x j : ℕ) : Type 0 where
   pub held : (i : ℕ) → In i (chainFrom t j) → T (stands (decode t) i) × (holderOf (decode t) i ≡ x)
 
 -- the chains were made anew: the bytes are the board's, every chain rising
-pub record Settled (t u : List ℕ) (s : Size) : Type 0 where
+pub record ChainsRebuilt (t u : List ℕ) (s : Size) : Type 0 where
   pub bytes : u ≡ encode (decode t)
   pub sound : SoundTable u s
   pub board : decode u ≡ decode t
@@ -58,14 +58,14 @@ pushedFrom (suc j) l = pushedFrom j (pushed (suc j) l)
 
 -- the table u is t after job j was pushed; n is 1 if it stands
 pub record Pushed (t u : List ℕ) (s : Size) (j n : ℕ) : Type 0 where
-  pub kept : Kept u s
+  pub holdsBoard : HoldsBoard u s
   pub board : decode u ≡ decode t
-  pub layout : laid u ≡ pushed j (laid t)
+  pub layout : layoutIn u ≡ pushed j (layoutIn t)
   pub count : n ≡ bit (stands (decode t) j)
 
 -- the table u is t after all jobs were pushed; n is the number of those that stand
 pub record Linked (t u : List ℕ) (s : Size) (n : ℕ) : Type 0 where
-  pub kept : Kept u s
+  pub holdsBoard : HoldsBoard u s
   pub board : decode u ≡ decode t
-  pub layout : laid u ≡ pushedFrom (s .jobs) (laid t)
+  pub layout : layoutIn u ≡ pushedFrom (s .jobs) (layoutIn t)
   pub count : n ≡ standing (decode t)

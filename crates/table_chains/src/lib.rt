@@ -4,13 +4,13 @@ ghost use lib.Dec.{T};
 ghost use Rattle.spec_table.specs.Board.{stands, standing};
 ghost use Rattle.spec_table.specs.Table.{decode};
 ghost use Rattle.table_size.specs.Sizes.{JobIn, BenchIn, SoundTable};
-ghost use Rattle.table_board.specs.View.{Kept};
-ghost use Rattle.table_chains.specs.Chains.{ChainOf, NextOf, Settled, Pushed, Linked};
+ghost use Rattle.table_board.specs.BoardView.{HoldsBoard};
+ghost use Rattle.table_chains.specs.Chains.{ChainOf, NextOf, ChainsRebuilt, Pushed, Linked};
+use table_board::jobs;
 use table_header::heads;
 use table_size::Size;
-use table_board::jobs;
 
-// The number of standing jobs.
+// Reads the number of standing jobs.
 pub fn standing(t: &[u8], s: Size) -> usize
     requires { ⌜ SoundTable (now t) s ⌝ }
     ensures { λ r. ⌜ r ≡ standing (decode (now (t .entry))) ⌝ }
@@ -18,8 +18,8 @@ pub fn standing(t: &[u8], s: Size) -> usize
     table_header::standing_word(t, s)
 }
 
-// The first job on bench x's chain, 0 for none.
-pub fn first(t: &[u8], s: Size, x: usize) -> usize
+// Reads the first job on bench x's chain, 0 for none.
+pub fn head(t: &[u8], s: Size, x: usize) -> usize
     requires { ⌜ SoundTable (now t) s ⌝ }
     requires { ⌜ BenchIn s x ⌝ }
     ensures { λ r. ⌜ ChainOf (now (t .entry)) s x r ⌝ }
@@ -27,7 +27,7 @@ pub fn first(t: &[u8], s: Size, x: usize) -> usize
     heads::head(t, s, x)
 }
 
-// The job after job j on its chain, 0 for none.
+// Reads the job after job j on its chain, 0 for none.
 pub fn next(t: &[u8], s: Size, j: usize) -> usize
     requires { ⌜ SoundTable (now t) s ⌝ }
     requires { ⌜ T (stands (decode (now t)) j) ⌝ }
@@ -37,9 +37,9 @@ pub fn next(t: &[u8], s: Size, j: usize) -> usize
     r.next
 }
 
-// Job j at the front of its holder's chain; 1 if it stands, else 0.
+// Puts job j at the front of its holder's chain; 1 if it stands, else 0.
 fn push(t: &mut [u8], s: Size, j: usize) -> usize
-    requires { ⌜ Kept (now t) s ⌝ }
+    requires { ⌜ HoldsBoard (now t) s ⌝ }
     requires { ⌜ JobIn s j ⌝ }
     ensures { λ r. ⌜ Pushed (now (t .entry)) (now (t .exit)) s j r ⌝ }
 {
@@ -53,9 +53,10 @@ fn push(t: &mut [u8], s: Size, j: usize) -> usize
     1
 }
 
-// Every standing job at the front of its holder's chain, from the last job down; how many they are.
+// Puts every standing job at the front of its holder's chain, from the last job down, so that chains rise; tells
+// how many they are.
 fn push_all(t: &mut [u8], s: Size) -> usize
-    requires { ⌜ Kept (now t) s ⌝ }
+    requires { ⌜ HoldsBoard (now t) s ⌝ }
     ensures { λ r. ⌜ Linked (now (t .entry)) (now (t .exit)) s r ⌝ }
 {
     let mut count = 0;
@@ -67,10 +68,10 @@ fn push_all(t: &mut [u8], s: Size) -> usize
     count
 }
 
-// All chains made anew, in rising order. After it the bytes are those of the board that the records hold.
-pub fn settle(t: &mut [u8], s: Size)
-    requires { ⌜ Kept (now t) s ⌝ }
-    ensures { λ _. ⌜ Settled (now (t .entry)) (now (t .exit)) s ⌝ }
+// Rebuilds all chains, in rising order. After it the bytes are those of the board that the records hold.
+pub fn rebuild_chains(t: &mut [u8], s: Size)
+    requires { ⌜ HoldsBoard (now t) s ⌝ }
+    ensures { λ _. ⌜ ChainsRebuilt (now (t .entry)) (now (t .exit)) s ⌝ }
 {
     heads::clear_heads(t, s);
     let count = push_all(t, s);

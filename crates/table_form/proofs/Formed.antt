@@ -8,18 +8,21 @@ use mathlib.Core.List.{List, [], _∷_, _++_, map, flatMap}
 use lib.Dec.{T, eqb}
 use lib.ListN.{length, length-append, length-map}
 use borrow.Author.Tests.{eq-eqb}
-use Rattle.spec_lists.specs.Lists.{bit, count, different, rising, total, all, In, nth, numbered}
+use Rattle.spec_lists.specs.Lists.{bit, count, distinct, range, total, all, In, nth, enumerate}
 use Rattle.spec_table.specs.Table.{Entry, vacant, filled, holderIn, Layout, follow, chains, standingIn, entryFits, placed, formed}
-use Rattle.spec_lists.proofs.Basics.{true→T, never→false, both, left, right, tests-same, Compared, same, other, compared, T-eqb, eqb-T, within-low, within-high, in-nth, in-numbered, in-flatMap, rising-low, bench-listed, Member, is-in, not-in, membered, rising-different}
+use Rattle.spec_lists.proofs.Tests.{true→T, never→false, both, left, right, tests-same, Compared, same, other, compared, T-eqb, eqb-T, within-low, within-high}
+use Rattle.spec_lists.proofs.Elements.{in-nth, in-enumerate, in-flatMap}
+use Rattle.spec_lists.proofs.NumberLists.{range-low, bench-listed, Member, is-in, not-in, membered, range-distinct}
 use Rattle.spec_table.proofs.Named.{fit-bench}
-use Rattle.spec_lists.proofs.Counting.{bit-same, bit-other, bit-le, count-none, count-some, count-append, different-count, total-first, total-most, total-same, total-tight, total-count}
-use Rattle.spec_table.proofs.Sound.{filled-within, filled-in, filled-each, Formed, formed-is, formed-back, entry-tests, not-held, Ends, standingFrom, standing-first, formed-own, own-few}
-use Rattle.spec_table.proofs.ChainEnds.{after, ends-different}
+use Rattle.spec_lists.proofs.Counting.{bit-same, bit-other, bit-le, count-none, count-some, count-append, distinct-count, total-first, total-most, total-same, total-tight, total-count}
+use Rattle.spec_table.proofs.Clauses.{filled-within, filled-in, filled-each, Formed, formed-is, formed-back}
+use Rattle.spec_table.proofs.Sound.{entry-tests, not-held, Ends, standingFrom, standing-first, formed-own, own-few}
+use Rattle.spec_table.proofs.ChainEnds.{after, ends-distinct}
 use Rattle.table_record_form.specs.Kinds.{counted}
 use Rattle.table_record_form.specs.declared.Seen.{Seen}
 use Rattle.table_record_form.specs.declared.Seen.the-variants.{Jobs, Broken}
 use Rattle.table_record_form.proofs.Counted.{AllFit, counted-seen, fit-counted}
-use Rattle.table_form.specs.Walks.{onlyIf, walked, allWalked}
+use Rattle.table_form.specs.ChainWalks.{onlyIf, walked, allWalked}
 use Rattle.table_form.proofs.Walking.{all-broken}
 
 -- a layout with a record for each job number and a head for each bench
@@ -51,20 +54,20 @@ standing-total i (e ∷ es) =
     later (suc j) l u = refl
 
 -- a filled record that fits tells a bench of 1 to B, any other none
-holder-listed : (benches : ℕ) (e : Entry) → (T (filled e) → T (entryFits benches e)) → count (holderIn e) (rising 1 benches) ≡ bit (filled e)
+holder-listed : (benches : ℕ) (e : Entry) → (T (filled e) → T (entryFits benches e)) → count (holderIn e) (range 1 benches) ≡ bit (filled e)
 holder-listed benches e fits = go (filled e) refl
   where
     h : ℕ
     h = holderIn e
 
-    go : (z : Bool) → filled e ≡ z → count h (rising 1 benches) ≡ bit z
+    go : (z : Bool) → filled e ≡ z → count h (range 1 benches) ≡ bit z
     go true q =
         let t = (entry-tests benches e) .0 (fits (true→T (filled e) q)) in
         let n = length (e .names) in
         let i = in-nth (e .names) (e .holder) 0 (within-low 1 n (e .holder) (t .1)) (within-high 1 n (e .holder) (t .1)) in
         let bench = bench-listed benches h (fit-bench benches (e .names) h (t .0) i) in
-        omega (arith, different-count (rising 1 benches) (rising-different 1 benches) h, count-some h (rising 1 benches) bench)
-    go false q = count-none h (rising 1 benches) (λ i. omega (arith, rising-low h 1 benches i, not-held e q))
+        omega (arith, distinct-count (range 1 benches) (range-distinct 1 benches) h, count-some h (range 1 benches) bench)
+    go false q = count-none h (range 1 benches) (λ i. omega (arith, range-low h 1 benches i, not-held e q))
 
 -- word 3 is not 0
 pub spare-formed : (l : Layout) → (l .spare ≡ 0 → ⊥) → formed l ≡ false
@@ -98,21 +101,21 @@ module _ (es : List Entry) where
       go (other d) = absurd (omega (arith, o j, count-some j c i, bit-other x (holderAt es j) d))
 
   -- .. and both
-  held-own : (x : ℕ) (c : List ℕ) → Held x c → T (different c) → Own x c
+  held-own : (x : ℕ) (c : List ℕ) → Held x c → T (distinct c) → Own x c
   held-own x c h d j = go (membered j c)
     where
       go : {z : Bool} → Member j c z → count j c ≤ bit (eqb x (holderAt es j))
-      go (is-in i) = omega (arith, different-count c d j, bit-same x (holderAt es j) (sym (h j i)))
+      go (is-in i) = omega (arith, distinct-count c d j, bit-same x (holderAt es j) (sym (h j i)))
       go (not-in n) = omega (arith, count-none j c n)
 
   -- what a walk with n jobs before it and m left went over; k is J
-  record Walk (x n j m k : ℕ) : Type 0 where
+  record ChainWalk (x n j m k : ℕ) : Type 0 where
     held : Held x (follow es (suc k) j)
     ends : Ends es n j
     long : length (follow es (suc k) j) + m ≡ n
 
   -- a walk that is not broken is such
-  walked-walk : (x n j m k : ℕ) → walked es x n j ≡ Jobs m → n ≤ k → Walk x n j m k
+  walked-walk : (x n j m k : ℕ) → walked es x n j ≡ Jobs m → n ≤ k → ChainWalk x n j m k
   walked-walk x zero zero m k q h = record { held = λ i n. absurd n; ends = tt; long = let d : 0 ≡ m = cc in omega arith }
   walked-walk x zero (suc j) m k q h = absurd (true→T false cc)
   walked-walk x (suc n) zero m k q h = record { held = λ i n. absurd n; ends = tt; long = let d : suc n ≡ m = cc in omega arith }
@@ -129,7 +132,7 @@ module _ (es : List Entry) where
       first d r i (inl e) = ap (holderAt es) e ∙ d
       first d r i (inr e) = r i e
 
-      go : (z : Bool) → eqb holder x ≡ z → (walked es x n next ≡ Jobs m → Walk x n next m k) → onlyIf z (walked es x n next) ≡ Jobs m → Walk x (suc n) (suc j) m (suc k)
+      go : (z : Bool) → eqb holder x ≡ z → (walked es x n next ≡ Jobs m → ChainWalk x n next m k) → onlyIf z (walked es x n next) ≡ Jobs m → ChainWalk x (suc n) (suc j) m (suc k)
       go true d ih r =
           let p = ih r in
           record { held = first (T-eqb holder x (true→T (eqb holder x) d)) (p .held); ends = p .ends; long = omega (arith, p .long) }
@@ -139,7 +142,7 @@ module _ (es : List Entry) where
   walked-own : (x n j m k : ℕ) → walked es x n j ≡ Jobs m → n ≤ k → Own x (follow es (suc k) j) × (length (follow es (suc k) j) + m ≡ n)
   walked-own x n j m k q h =
       let p = walked-walk x n j m k q h in
-      (held-own x (follow es (suc k) j) (p .held) (ends-different es (suc k) n j (p .ends)), p .long)
+      (held-own x (follow es (suc k) j) (p .held) (ends-distinct es (suc k) n j (p .ends)), p .long)
 
   -- .. and a chain of jobs that x holds is walked so
   held-walked : (x n j m k : ℕ) → Held x (follow es (suc k) j) → length (follow es (suc k) j) ≤ k → length (follow es (suc k) j) + m ≡ n → walked es x n j ≡ Jobs m
@@ -158,7 +161,7 @@ together cs = flatMap (λ c. c) cs
 
 -- each chain, numbered from x on, has jobs of its bench only, none twice
 abbrev AllOwn : List Entry → ℕ → List (List ℕ) → Type 0
-AllOwn es x cs = (s : ℕ × List ℕ) → In s (numbered x cs) → Own es (s .0) (s .1)
+AllOwn es x cs = (s : ℕ × List ℕ) → In s (enumerate x cs) → Own es (s .0) (s .1)
 
 -- chains walked to the last of n jobs are such, with n jobs on them ..
 all-walked-own : (es : List Entry) (x k : ℕ) (heads : List ℕ) (n : ℕ) → T (allWalked es x heads (Jobs n)) → n ≤ k → AllOwn es x (map (follow es (suc k)) heads) × (length (together (map (follow es (suc k)) heads)) ≡ n)
@@ -196,20 +199,20 @@ own-all-walked es x k (j ∷ heads) n o s e =
 
 -- job j is at most once on chain h, and on no other, of those numbered from x on
 abbrev OnceAt : ℕ → ℕ → ℕ → List (List ℕ) → Type 0
-OnceAt j h x cs = (s : ℕ × List ℕ) → In s (numbered x cs) → count j (s .1) ≤ bit (eqb (s .0) h)
+OnceAt j h x cs = (s : ℕ × List ℕ) → In s (enumerate x cs) → count j (s .1) ≤ bit (eqb (s .0) h)
 
 -- so it is on all together at most as often as h is one of their numbers
-once-together : (j h x : ℕ) (cs : List (List ℕ)) → OnceAt j h x cs → count j (together cs) ≤ count h (rising x (length cs))
+once-together : (j h x : ℕ) (cs : List (List ℕ)) → OnceAt j h x cs → count j (together cs) ≤ count h (range x (length cs))
 unfolding flatMap
 once-together j h x [] f = omega arith
 once-together j h x (c ∷ cs) f = omega (arith, count-append j c (together cs), f (x, c) (inl refl), once-together j h (suc x) cs (λ s i. f s (inr i)))
 
 -- "on its holder's chain once and on no other", of the chains numbered from x on
 abbrev placedFrom : ℕ → List (List ℕ) → ℕ → ℕ → Bool
-placedFrom x cs j h = all (λ c. eqb (count j (c .1)) (bit (eqb (c .0) h))) (numbered x cs)
+placedFrom x cs j h = all (λ c. eqb (count j (c .1)) (bit (eqb (c .0) h))) (enumerate x cs)
 
 -- a job so placed is just as often on all together ..
-placed-together : (j h x : ℕ) (cs : List (List ℕ)) → T (placedFrom x cs j h) → count j (together cs) ≡ count h (rising x (length cs))
+placed-together : (j h x : ℕ) (cs : List (List ℕ)) → T (placedFrom x cs j h) → count j (together cs) ≡ count h (range x (length cs))
 unfolding flatMap
 placed-together j h x [] t = refl
 placed-together j h x (c ∷ cs) t =
@@ -218,7 +221,7 @@ placed-together j h x (c ∷ cs) t =
     omega (arith, count-append j c (together cs), T-eqb (count j c) (bit (eqb x h)) (left here later t), placed-together j h (suc x) cs (right here later t))
 
 -- .. and one that is as often on them is so placed
-together-placed : (j h x : ℕ) (cs : List (List ℕ)) → OnceAt j h x cs → count h (rising x (length cs)) ≤ count j (together cs) → T (placedFrom x cs j h)
+together-placed : (j h x : ℕ) (cs : List (List ℕ)) → OnceAt j h x cs → count h (range x (length cs)) ≤ count j (together cs) → T (placedFrom x cs j h)
 unfolding flatMap
 together-placed j h x [] f l = tt
 together-placed j h x (c ∷ cs) f l =
@@ -238,7 +241,7 @@ module _ (l : Layout) (w : Whole l) (fit : AllFit (l .benches) (l .entries)) whe
   on = together (chains l)
 
   -- a standing job's holder is one of the chains' numbers, and no other job's is
-  holder-once : (j : ℕ) → count (holderAt es j) (rising 1 (length (chains l))) ≡ bit (filledAt es j)
+  holder-once : (j : ℕ) → count (holderAt es j) (range 1 (length (chains l))) ≡ bit (filledAt es j)
   holder-once j = rw (length-map (l .heads) (follow es (suc (l .jobs))), w .heads) (holder-listed (l .benches) (nth es j vacant) fits)
     where
       fits : T (filledAt es j) → T (entryFits (l .benches) (nth es j vacant))
@@ -268,7 +271,7 @@ module _ (l : Layout) (w : Whole l) (fit : AllFit (l .benches) (l .entries)) whe
     -- no chain has more than J jobs
     own-short : (c : List ℕ) → In c (chains l) → length c ≤ l .jobs
     own-short c i =
-        let r = in-numbered 1 c (chains l) i in
+        let r = in-enumerate 1 c (chains l) i in
         omega (arith, w .entries, own-few es (r .0) c (own (r .0, c) (r .1)) (own-only c i))
 
     -- as many jobs on the chains as standing ones: every standing job is "on its holder's chain once and on no other"

@@ -1,3 +1,3 @@
 -- What the form check promises (`View`), and how its walks go (`Walks`).
-pub mod View
-pub mod Walks
+pub mod FormCheck
+pub mod ChainWalks

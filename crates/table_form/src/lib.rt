@@ -2,10 +2,10 @@
 ghost use mathlib.Core.Path.{_≡_};
 ghost use Rattle.spec_lists.specs.Lists.{nth};
 ghost use Rattle.spec_table.specs.Table.{formed};
-ghost use Rattle.table_words.specs.Bytes.{laid};
+ghost use Rattle.table_words.specs.Bytes.{layoutIn};
 ghost use Rattle.table_size.specs.Sizes.{SizeOf, BenchIn};
-ghost use Rattle.table_form.specs.Walks.{walked, allWalked};
-ghost use Rattle.table_form.specs.View.{Answered};
+ghost use Rattle.table_form.specs.ChainWalks.{walked, allWalked};
+ghost use Rattle.table_form.specs.FormCheck.{Answered};
 use table_header::heads;
 use table_record_form::Seen;
 use table_size::Size;
@@ -24,7 +24,7 @@ pub enum Form {
 fn walk(t: &[u8], s: Size, x: usize, left: usize) -> Seen
     requires { ⌜ SizeOf (now t) s ⌝ }
     requires { ⌜ BenchIn s x ⌝ }
-    ensures { λ r. ⌜ r ≡ walked (laid (now (t .entry)) .entries) x left (nth (laid (now (t .entry)) .heads) x 0) ⌝ }
+    ensures { λ r. ⌜ r ≡ walked (layoutIn (now (t .entry)) .entries) x left (nth (layoutIn (now (t .entry)) .heads) x 0) ⌝ }
 {
     let jobs = s.jobs();
     let mut left = left;
@@ -42,10 +42,10 @@ fn walk(t: &[u8], s: Size, x: usize, left: usize) -> Seen
     Seen::Jobs(left)
 }
 
-// All chains have together this number of jobs, each held by its chain's bench.
+// Tells whether all chains have together this number of jobs, each held by its chain's bench.
 fn walk_all(t: &[u8], s: Size, count: usize) -> bool
     requires { ⌜ SizeOf (now t) s ⌝ }
-    ensures { λ r. ⌜ r ≡ allWalked (laid (now (t .entry)) .entries) 1 (laid (now (t .entry)) .heads) (Seen.Jobs count) ⌝ }
+    ensures { λ r. ⌜ r ≡ allWalked (layoutIn (now (t .entry)) .entries) 1 (layoutIn (now (t .entry)) .heads) (Seen.Jobs count) ⌝ }
 {
     let benches = s.benches();
     let mut left = count;
@@ -60,10 +60,10 @@ fn walk_all(t: &[u8], s: Size, count: usize) -> bool
     left == 0
 }
 
-// The clauses of the sound table after its sizes.
+// Tests the clauses of the sound table after its sizes.
 fn is_formed(t: &[u8], s: Size) -> bool
     requires { ⌜ SizeOf (now t) s ⌝ }
-    ensures { λ r. ⌜ r ≡ formed (laid (now (t .entry))) ⌝ }
+    ensures { λ r. ⌜ r ≡ formed (layoutIn (now (t .entry))) ⌝ }
 {
     if table_header::spare_word(t, s) != 0 {
         return false;
@@ -79,7 +79,7 @@ fn is_formed(t: &[u8], s: Size) -> bool
     }
 }
 
-// Refusal 1, refusal 2, or sound, for any bytes.
+// Checks any bytes: refusal 1, refusal 2, or sound.
 pub fn check(t: &[u8]) -> Form
     ensures { λ r. ⌜ Answered (now (t .entry)) r ⌝ }
 {

@@ -11,7 +11,7 @@ use lib.ListN.{length, drop, drop-of-length-le}
 use lib.Seq.{drop-cons}
 use Rattle.spec_lists.specs.Lists.{bit, In, nth}
 use Rattle.spec_table.specs.Table.{Entry, vacant, filled, entryFits}
-use Rattle.spec_lists.proofs.Basics.{true→T}
+use Rattle.spec_lists.proofs.Tests.{true→T}
 use Rattle.spec_table.proofs.Sound.{standingFrom, standing-first}
 use Rattle.table_record_form.specs.Kinds.{kindIf, kindOf, byKind, counted}
 use Rattle.table_record_form.specs.declared.Seen.the-variants.{Jobs, Broken}

@@ -1,6 +1,6 @@
 // What each record of a table is, and the form check's pass over the records: the number of standing jobs.
 ghost use mathlib.Core.Path.{_≡_};
-ghost use Rattle.table_words.specs.Bytes.{laid};
+ghost use Rattle.table_words.specs.Bytes.{layoutIn};
 ghost use Rattle.table_size.specs.Sizes.{SizeOf};
 ghost use Rattle.table_records.specs.Records.{entryOf};
 ghost use Rattle.table_record_form.specs.Kinds.{kindOf, counted};
@@ -20,7 +20,8 @@ pub enum Seen {
     Broken,
 }
 
-// A record is no job's, or names two different benches of 1 to B and has holder 1 or 2, or neither.
+// Tells a record's kind: no job's; one that names two different benches of 1 to B and has holder 1 or 2; or
+// neither.
 fn kind_of(benches: usize, r: Record) -> Kind
     ensures { λ k. ⌜ k ≡ kindOf benches (entryOf r) ⌝ }
 {
@@ -40,10 +41,10 @@ fn kind_of(benches: usize, r: Record) -> Kind
     Kind::Fitting
 }
 
-// The number of standing jobs' records.
+// Counts the standing jobs' records.
 pub fn count_records(t: &[u8], s: Size) -> Seen
     requires { ⌜ SizeOf (now t) s ⌝ }
-    ensures { λ r. ⌜ r ≡ counted (s .benches) 0 (laid (now (t .entry)) .entries) ⌝ }
+    ensures { λ r. ⌜ r ≡ counted (s .benches) 0 (layoutIn (now (t .entry)) .entries) ⌝ }
 {
     let benches = s.benches();
     let jobs = s.jobs();

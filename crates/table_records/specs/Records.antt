@@ -11,7 +11,7 @@ abbrev pub entryOf : Record → Entry
 entryOf r = record { names = r .first ∷ r .second ∷ []; holder = r .holder; next = r .next }
 
 -- each of the four is a word
-pub record Small (r : Record) : Type 0 where
+pub record RecordFits (r : Record) : Type 0 where
   pub first : r .first < 65536
   pub second : r .second < 65536
   pub holder : r .holder < 65536
@@ -20,4 +20,4 @@ pub record Small (r : Record) : Type 0 where
 -- r is job j's record
 pub record RecordOf (t : List ℕ) (j : ℕ) (r : Record) : Type 0 where
   pub entry : entryOf r ≡ recordIn t j
-  pub small : Small r
+  pub small : RecordFits r

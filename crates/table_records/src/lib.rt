@@ -2,10 +2,10 @@
 ghost use mathlib.Core.Path.{_≡_};
 ghost use Prim.Native.Nat.{_+_, _*_, _<_};
 ghost use Rattle.spec_table.specs.Table.{holderIn};
-ghost use Rattle.table_words.specs.Bytes.{laid};
+ghost use Rattle.table_words.specs.Bytes.{layoutIn};
 ghost use Rattle.table_size.specs.Sizes.{Limits, SizeOf, JobIn};
-ghost use Rattle.table_size.specs.Written.{recordIn, Laid, withEntry, withHolder, withNext};
-ghost use Rattle.table_records.specs.Records.{entryOf, Small, RecordOf};
+ghost use Rattle.table_size.specs.Written.{recordIn, HasLayout, withEntry, withHolder, withNext};
+ghost use Rattle.table_records.specs.Records.{entryOf, RecordFits, RecordOf};
 use table_size::Size;
 
 // "First bench, second bench, holder (1 first-named, 2 second-named), next job on the chain."
@@ -16,7 +16,7 @@ pub struct Record {
     pub next: usize,
 }
 
-// Where job j's record begins.
+// Computes where job j's record begins.
 fn record_at(s: Size, j: usize) -> usize
     requires { ⌜ Limits s ⌝ }
     requires { ⌜ JobIn s j ⌝ }
@@ -25,7 +25,7 @@ fn record_at(s: Size, j: usize) -> usize
     s.benches() + 4 * j
 }
 
-// Job j's record.
+// Reads job j's record.
 pub fn read_record(t: &[u8], s: Size, j: usize) -> Record
     requires { ⌜ SizeOf (now t) s ⌝ }
     requires { ⌜ JobIn s j ⌝ }
@@ -44,8 +44,8 @@ pub fn read_record(t: &[u8], s: Size, j: usize) -> Record
     }
 }
 
-// The bench that job j's holder word tells, 0 for none. It reads that bench alone: no branch on which of the names it is, which a processor
-// would guess wrong every other time.
+// Reads the bench that job j's holder word tells, 0 for none. It reads that bench alone: no branch on which of the
+// names it is, which a processor would guess wrong every other time.
 pub fn holder_at(t: &[u8], s: Size, j: usize) -> usize
     requires { ⌜ SizeOf (now t) s ⌝ }
     requires { ⌜ JobIn s j ⌝ }
@@ -59,12 +59,12 @@ pub fn holder_at(t: &[u8], s: Size, j: usize) -> usize
     table_words::read(t, at + place - 1)
 }
 
-// Job j's record written anew.
+// Writes job j's record.
 pub fn write_record(t: &mut [u8], s: Size, j: usize, r: Record)
     requires { ⌜ SizeOf (now t) s ⌝ }
     requires { ⌜ JobIn s j ⌝ }
-    requires { ⌜ Small r ⌝ }
-    ensures { λ _. ⌜ Laid (now (t .exit)) s (withEntry (laid (now (t .entry))) j (entryOf r)) ⌝ }
+    requires { ⌜ RecordFits r ⌝ }
+    ensures { λ _. ⌜ HasLayout (now (t .exit)) s (withEntry (layoutIn (now (t .entry))) j (entryOf r)) ⌝ }
 {
     let at = record_at(s, j);
     table_words::write(t, at, r.first);
@@ -73,22 +73,22 @@ pub fn write_record(t: &mut [u8], s: Size, j: usize, r: Record)
     table_words::write(t, at + 3, r.next);
 }
 
-// Another holder word in job j's record.
+// Writes another holder word into job j's record.
 pub fn write_holder(t: &mut [u8], s: Size, j: usize, holder: usize)
     requires { ⌜ SizeOf (now t) s ⌝ }
     requires { ⌜ JobIn s j ⌝ }
     requires { ⌜ holder < 65536 ⌝ }
-    ensures { λ _. ⌜ Laid (now (t .exit)) s (withEntry (laid (now (t .entry))) j (withHolder (recordIn (now (t .entry)) j) holder)) ⌝ }
+    ensures { λ _. ⌜ HasLayout (now (t .exit)) s (withEntry (layoutIn (now (t .entry))) j (withHolder (recordIn (now (t .entry)) j) holder)) ⌝ }
 {
     table_words::write(t, record_at(s, j) + 2, holder);
 }
 
-// Another next word in job j's record.
+// Writes another next word into job j's record.
 pub fn write_next(t: &mut [u8], s: Size, j: usize, next: usize)
     requires { ⌜ SizeOf (now t) s ⌝ }
     requires { ⌜ JobIn s j ⌝ }
     requires { ⌜ next < 65536 ⌝ }
-    ensures { λ _. ⌜ Laid (now (t .exit)) s (withEntry (laid (now (t .entry))) j (withNext (recordIn (now (t .entry)) j) next)) ⌝ }
+    ensures { λ _. ⌜ HasLayout (now (t .exit)) s (withEntry (layoutIn (now (t .entry))) j (withNext (recordIn (now (t .entry)) j) next)) ⌝ }
 {
     table_words::write(t, record_at(s, j) + 3, next);
 }

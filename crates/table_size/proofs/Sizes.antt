@@ -9,10 +9,10 @@ use lib.ListN.{length, getD, length-map}
 use borrow.Author.Tests.{le-leb}
 use Rattle.spec_lists.specs.Lists.{within}
 use Rattle.spec_table.specs.Table.{words, lengthFor, mostBenches, mostJobs, sizesFit, fits, layout, boardOf, decode}
-use Rattle.spec_lists.proofs.Basics.{true→T, T→true, never→false, left, right, within-low, within-high, within-both}
+use Rattle.spec_lists.proofs.Tests.{true→T, T→true, never→false, left, right, within-low, within-high, within-both}
 use Rattle.spec_table.proofs.Words.{within-fit}
-use Rattle.spec_table.proofs.Sound.{length-words, misfit, short-refused, fits-sized, fits-heads, fits-entries}
-use Rattle.table_words.specs.Bytes.{laid}
+use Rattle.spec_table.proofs.Places.{length-words, misfit, short-refused, fits-sized, fits-heads, fits-entries}
+use Rattle.table_words.specs.Bytes.{layoutIn}
 use Rattle.table_size.specs.Sizes.{Limits, SizeOf, JobIn, BenchIn, fitIf, sizing, sizeIn, SoundTable}
 use Rattle.table_size.specs.declared.Size.{Size}
 use Rattle.table_size.specs.declared.Sizing.the-variants.{Fit, Misfit}
@@ -85,11 +85,11 @@ sizes-refused len benches jobs e =
 -- a table
 
 -- the size in words 0 and 1 is the size of a table that fits
-pub size-of : (t : List ℕ) (s : Size) → T (fits t) → (laid t) .benches ≡ s .benches → (laid t) .jobs ≡ s .jobs → SizeOf t s
+pub size-of : (t : List ℕ) (s : Size) → T (fits t) → (layoutIn t) .benches ≡ s .benches → (layoutIn t) .jobs ≡ s .jobs → SizeOf t s
 unfolding decode boardOf
 size-of t s f b j =
     let z = fits-sized t f in
-    let l = pass-limits ((laid t) .benches) ((laid t) .jobs) (z .benches-within) (z .jobs-within) in
+    let l = pass-limits ((layoutIn t) .benches) ((layoutIn t) .jobs) (z .benches-within) (z .jobs-within) in
     record {
       limits = omega arith;
       fit = f;
@@ -105,9 +105,9 @@ pub fit-size : (t : List ℕ) (s : Size) → sizeIn t ≡ Fit s → SizeOf t s
 unfolding sizeIn
 fit-size t s = go (fits t) refl
   where
-    go : (z : Bool) → fits t ≡ z → fitIf z ((laid t) .benches) ((laid t) .jobs) ≡ Fit s → SizeOf t s
+    go : (z : Bool) → fits t ≡ z → fitIf z ((layoutIn t) .benches) ((layoutIn t) .jobs) ≡ Fit s → SizeOf t s
     go true p e =
-        let same : record { benches = (laid t) .benches; jobs = (laid t) .jobs } ≡ s = cc in
+        let same : record { benches = (layoutIn t) .benches; jobs = (layoutIn t) .jobs } ≡ s = cc in
         size-of t s (true→T (fits t) p) (ap (λ (r : Size). r .benches) same) (ap (λ (r : Size). r .jobs) same)
     go false p e = absurd (true→T false cc)
 
@@ -140,10 +140,10 @@ unfolding fits layout
 size-kept t u s z l b j = size-of u s (rw (l, b, j) (z .fit)) (b ∙ z .benches) (j ∙ z .jobs)
 
 -- a head for each bench, a record for each job number, and four words more
-pub heads-long : (t : List ℕ) (s : Size) → SizeOf t s → length ((laid t) .heads) ≡ s .benches
+pub heads-long : (t : List ℕ) (s : Size) → SizeOf t s → length ((layoutIn t) .heads) ≡ s .benches
 heads-long t s z = fits-heads t (z .fit) ∙ z .benches
 
-pub entries-long : (t : List ℕ) (s : Size) → SizeOf t s → length ((laid t) .entries) ≡ s .jobs
+pub entries-long : (t : List ℕ) (s : Size) → SizeOf t s → length ((layoutIn t) .entries) ≡ s .jobs
 entries-long t s z = fits-entries t (z .fit) ∙ z .jobs
 
 pub words-long : (t : List ℕ) (s : Size) → SizeOf t s → length (words t) ≡ 4 + s .benches + 4 * s .jobs

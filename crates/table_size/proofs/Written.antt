@@ -6,14 +6,14 @@ use mathlib.Core.Logic.{_⊎_, ⊎-elim}
 use mathlib.Core.List.{List, [], _∷_, _++_, flatMap}
 use lib.ListN.{length, getD, set, take, drop, replicate, length-append, length-take, length-drop, length-replicate, take-append-drop}
 use lib.Seq.{take-set-le, take-set-lt, drop-set-lt, drop-set-add, getD-set-other, take-at, drop-at, drop-append-add}
-use Rattle.spec_lists.specs.Lists.{nth, change}
+use Rattle.spec_lists.specs.Lists.{nth, update}
 use Rattle.spec_table.specs.Table.{words, Entry, vacant, holderIn, entriesIn, entryWords, Layout, layout, flat}
-use Rattle.spec_lists.proofs.Basics.{nth-change-same, change-again, each-replicate}
+use Rattle.spec_lists.proofs.Elements.{nth-update-same, update-again, each-replicate}
 use Rattle.spec_table.proofs.Words.{words-append}
-use Rattle.spec_table.proofs.Sound.{two-more, length-words, entryFrom, head-at, entry-at}
-use Rattle.table_words.specs.Bytes.{IsWord, setWord, laid}
+use Rattle.spec_table.proofs.Places.{two-more, length-words, entryFrom, head-at, entry-at}
+use Rattle.table_words.specs.Bytes.{IsWord, setWord, layoutIn}
 use Rattle.table_size.specs.Sizes.{SizeOf, JobIn, BenchIn}
-use Rattle.table_size.specs.Written.{HeadOf, withNext, withHead, cleared, withEntry, withStanding, Laid}
+use Rattle.table_size.specs.Written.{HeadOf, withNext, withHead, cleared, withEntry, withStanding, HasLayout}
 use Rattle.table_size.specs.declared.Size.{Size}
 use Rattle.table_words.proofs.Bytes.{words-setWord, length-setWord, zero-bytes}
 use Rattle.table_size.proofs.Sizes.{size-kept, words-long, entries-long}
@@ -21,7 +21,7 @@ use Rattle.table_size.proofs.Sizes.{size-kept, words-long, entries-long
 -- one word
 
 -- a word after words 0 and 1 leaves the size, and the layout is that of the changed words
-written : (t : List ℕ) (s : Size) (i w : ℕ) (l : Layout) → SizeOf t s → 2 ≤ i → i < length (words t) → w < 65536 → layout (set (words t) i w) ≡ l → Laid (setWord t i w) s l
+written : (t : List ℕ) (s : Size) (i w : ℕ) (l : Layout) → SizeOf t s → 2 ≤ i → i < length (words t) → w < 65536 → layout (set (words t) i w) ≡ l → HasLayout (setWord t i w) s l
 written t s i w l z low high small e =
     let ws : words (setWord t i w) ≡ set (words t) i w = words-setWord t i w (omega (arith, length-words t)) small in
     let b : getD (set (words t) i w) 0 0 ≡ getD (words t) 0 0 = getD-set-other (words t) i 0 w 0 (λ p. omega arith) in
@@ -64,12 +64,12 @@ layout-head ws i w l =
     layout-later ws i w ∙ (λ k. withBoth (layout ws) (heads k) (entriesIn (rest k)))
 
 -- word 3 + x
-pub laid-head : (t : List ℕ) (s : Size) (x j : ℕ) → SizeOf t s → BenchIn s x → j < 65536 → Laid (setWord t (3 + x) j) s (withHead (laid t) x j)
-laid-head t s zero j z b w = absurd (omega (arith, b .least))
-laid-head t s (suc i) j z b w =
+pub has-layout-head : (t : List ℕ) (s : Size) (x j : ℕ) → SizeOf t s → BenchIn s x → j < 65536 → HasLayout (setWord t (3 + x) j) s (withHead (layoutIn t) x j)
+has-layout-head t s zero j z b w = absurd (omega (arith, b .least))
+has-layout-head t s (suc i) j z b w =
     let e : 3 + suc i ≡ 4 + i = omega arith in
-    let l : layout (set (words t) (4 + i) j) ≡ withHead (laid t) (suc i) j = layout-head (words t) i j (omega (arith, b .most, z .benches)) in
-    rw e (written t s (4 + i) j (withHead (laid t) (suc i) j) z (omega arith) (omega (arith, words-long t s z, b .most)) w l)
+    let l : layout (set (words t) (4 + i) j) ≡ withHead (layoutIn t) (suc i) j = layout-head (words t) i j (omega (arith, b .most, z .benches)) in
+    rw e (written t s (4 + i) j (withHead (layoutIn t) (suc i) j) z (omega arith) (omega (arith, words-long t s z, b .most)) w l)
 
 -- records
 
@@ -110,50 +110,50 @@ layout-word ws (suc i) k w l p h =
     rw d (layout-later ws (b + m) w ∙ (λ q. withBoth (layout ws) (heads q) (entries q)))
 
 -- job j's record is words B + 4 × j and the next three
-pub record-words : (t : List ℕ) (s : Size) (j : ℕ) → SizeOf t s → JobIn s j → nth ((laid t) .entries) j vacant ≡ entryFrom (words t) (s .benches + 4 * j)
+pub record-words : (t : List ℕ) (s : Size) (j : ℕ) → SizeOf t s → JobIn s j → nth ((layoutIn t) .entries) j vacant ≡ entryFrom (words t) (s .benches + 4 * j)
 record-words t s j z i = rw (sym (z .benches)) (entry-at (words t) j (i .least) (omega (arith, words-long t s z, z .benches, i .most)))
 
 -- word k of job j's record written ..
-laid-word : (t : List ℕ) (s : Size) (j k w : ℕ) → SizeOf t s → JobIn s j → k < 4 → w < 65536 → Laid (setWord t (s .benches + 4 * j + k) w) s (withEntry (laid t) j (withWord k w (nth ((laid t) .entries) j vacant)))
-laid-word t s j k w z i p small =
-    let l : Layout = withEntry (laid t) j (withWord k w (nth ((laid t) .entries) j vacant)) in
+has-layout-word : (t : List ℕ) (s : Size) (j k w : ℕ) → SizeOf t s → JobIn s j → k < 4 → w < 65536 → HasLayout (setWord t (s .benches + 4 * j + k) w) s (withEntry (layoutIn t) j (withWord k w (nth ((layoutIn t) .entries) j vacant)))
+has-layout-word t s j k w z i p small =
+    let l : Layout = withEntry (layoutIn t) j (withWord k w (nth ((layoutIn t) .entries) j vacant)) in
     let e = layout-word (words t) j k w (i .least) p (omega (arith, words-long t s z, z .benches, i .most)) in
     let f : layout (set (words t) (s .benches + 4 * j + k) w) ≡ l = rw (sym (z .benches)) e in
     written t s (s .benches + 4 * j + k) w l z (omega (arith, i .least)) (omega (arith, words-long t s z, i .most)) small f
 
 -- .. after others of it
-laid-again : (t : List ℕ) (s : Size) (l : Layout) (j k w : ℕ) (e : Entry) → Laid t s (withEntry l j e) → JobIn s j → j ≤ length (l .entries) → k < 4 → w < 65536 → Laid (setWord t (s .benches + 4 * j + k) w) s (withEntry l j (withWord k w e))
-laid-again t s l j k w e a i m p small =
-    let r = laid-word t s j k w (a .size) i p small in
-    let same : nth (change (l .entries) j e) j vacant ≡ e = nth-change-same (l .entries) j e vacant (i .least) m in
+has-layout-again : (t : List ℕ) (s : Size) (l : Layout) (j k w : ℕ) (e : Entry) → HasLayout t s (withEntry l j e) → JobIn s j → j ≤ length (l .entries) → k < 4 → w < 65536 → HasLayout (setWord t (s .benches + 4 * j + k) w) s (withEntry l j (withWord k w e))
+has-layout-again t s l j k w e a i m p small =
+    let r = has-layout-word t s j k w (a .size) i p small in
+    let same : nth (update (l .entries) j e) j vacant ≡ e = nth-update-same (l .entries) j e vacant (i .least) m in
     let q : Layout → Layout = λ m. withEntry m j (withWord k w (nth (m .entries) j vacant)) in
-    let f : q (withEntry l j e) ≡ withEntry l j (withWord k w e) = rw same (λ n. withBoth l (l .heads) (change-again (l .entries) j e (withWord k w e) n)) in
+    let f : q (withEntry l j e) ≡ withEntry l j (withWord k w e) = rw same (λ n. withBoth l (l .heads) (update-again (l .entries) j e (withWord k w e) n)) in
     record { size = r .size; layout = r .layout ∙ ap q (a .layout) ∙ f }
 
 -- the four words of job j's record, written one after the other
-pub laid-entry : (t : List ℕ) (s : Size) (j a b h n : ℕ) → SizeOf t s → JobIn s j → a < 65536 → b < 65536 → h < 65536 → n < 65536 → Laid (setWord (setWord (setWord (setWord t (s .benches + 4 * j) a) (s .benches + 4 * j + 1) b) (s .benches + 4 * j + 2) h) (s .benches + 4 * j + 3) n) s (withEntry (laid t) j (record { names = a ∷ b ∷ []; holder = h; next = n }))
-laid-entry t s j a b h n z i wa wb wh wn =
+pub has-layout-entry : (t : List ℕ) (s : Size) (j a b h n : ℕ) → SizeOf t s → JobIn s j → a < 65536 → b < 65536 → h < 65536 → n < 65536 → HasLayout (setWord (setWord (setWord (setWord t (s .benches + 4 * j) a) (s .benches + 4 * j + 1) b) (s .benches + 4 * j + 2) h) (s .benches + 4 * j + 3) n) s (withEntry (layoutIn t) j (record { names = a ∷ b ∷ []; holder = h; next = n }))
+has-layout-entry t s j a b h n z i wa wb wh wn =
     let p : ℕ = s .benches + 4 * j in
-    let l : Layout = laid t in
+    let l : Layout = layoutIn t in
     let m : j ≤ length (l .entries) = omega (arith, entries-long t s z, i .most) in
     let old : Entry = nth (l .entries) j vacant in
     let t0 : List ℕ = setWord t p a in
     let t1 : List ℕ = setWord t0 (p + 1) b in
     let t2 : List ℕ = setWord t1 (p + 2) h in
     let t3 : List ℕ = setWord t2 (p + 3) n in
-    let r0 : Laid t0 s (withEntry l j (withWord 0 a old)) = subst (λ (q : ℕ). Laid (setWord t q a) s (withEntry l j (withWord 0 a old))) (omega arith) (laid-word t s j 0 a z i (omega arith) wa) in
-    let r1 = laid-again t0 s l j 1 b (withWord 0 a old) r0 i m (omega arith) wb in
-    let r2 = laid-again t1 s l j 2 h (withWord 1 b (withWord 0 a old)) r1 i m (omega arith) wh in
-    let r3 = laid-again t2 s l j 3 n (withWord 2 h (withWord 1 b (withWord 0 a old))) r2 i m (omega arith) wn in
-    subst (λ (e : Entry). Laid t3 s (withEntry l j (withWord 3 n (withWord 2 h (withWord 1 b (withWord 0 a e)))))) (record-words t s j z i) r3
+    let r0 : HasLayout t0 s (withEntry l j (withWord 0 a old)) = subst (λ (q : ℕ). HasLayout (setWord t q a) s (withEntry l j (withWord 0 a old))) (omega arith) (has-layout-word t s j 0 a z i (omega arith) wa) in
+    let r1 = has-layout-again t0 s l j 1 b (withWord 0 a old) r0 i m (omega arith) wb in
+    let r2 = has-layout-again t1 s l j 2 h (withWord 1 b (withWord 0 a old)) r1 i m (omega arith) wh in
+    let r3 = has-layout-again t2 s l j 3 n (withWord 2 h (withWord 1 b (withWord 0 a old))) r2 i m (omega arith) wn in
+    subst (λ (e : Entry). HasLayout t3 s (withEntry l j (withWord 3 n (withWord 2 h (withWord 1 b (withWord 0 a e)))))) (record-words t s j z i) r3
 
 -- the holder word alone ..
-pub laid-holder : (t : List ℕ) (s : Size) (j h : ℕ) → SizeOf t s → JobIn s j → h < 65536 → let e = nth ((laid t) .entries) j vacant in Laid (setWord t (s .benches + 4 * j + 2) h) s (withEntry (laid t) j (record { names = e .names; holder = h; next = e .next }))
-laid-holder t s j h z i w = laid-word t s j 2 h z i (omega arith) w
+pub has-layout-holder : (t : List ℕ) (s : Size) (j h : ℕ) → SizeOf t s → JobIn s j → h < 65536 → let e = nth ((layoutIn t) .entries) j vacant in HasLayout (setWord t (s .benches + 4 * j + 2) h) s (withEntry (layoutIn t) j (record { names = e .names; holder = h; next = e .next }))
+has-layout-holder t s j h z i w = has-layout-word t s j 2 h z i (omega arith) w
 
 -- .. and the next word alone
-pub laid-next : (t : List ℕ) (s : Size) (j n : ℕ) → SizeOf t s → JobIn s j → n < 65536 → Laid (setWord t (s .benches + 4 * j + 3) n) s (withEntry (laid t) j (withNext (nth ((laid t) .entries) j vacant) n))
-laid-next t s j n z i w = laid-word t s j 3 n z i (omega arith) w
+pub has-layout-next : (t : List ℕ) (s : Size) (j n : ℕ) → SizeOf t s → JobIn s j → n < 65536 → HasLayout (setWord t (s .benches + 4 * j + 3) n) s (withEntry (layoutIn t) j (withNext (nth ((layoutIn t) .entries) j vacant) n))
+has-layout-next t s j n z i w = has-layout-word t s j 3 n z i (omega arith) w
 
 -- the number of standing jobs
 
@@ -169,14 +169,14 @@ layout-standing (a ∷ b ∷ c ∷ d ∷ ws) n l =
     λ k. record { benches = a; jobs = b; standing = n; spare = 0; heads = take a ws; entries = entriesIn (rest k) }
 
 -- words 2 and 3
-pub laid-standing : (t : List ℕ) (s : Size) (n : ℕ) → SizeOf t s → n < 65536 → Laid (setWord (setWord t 2 n) 3 0) s (withStanding (laid t) n)
-laid-standing t s n z w =
+pub has-layout-standing : (t : List ℕ) (s : Size) (n : ℕ) → SizeOf t s → n < 65536 → HasLayout (setWord (setWord t 2 n) 3 0) s (withStanding (layoutIn t) n)
+has-layout-standing t s n z w =
     let u : List ℕ = setWord t 2 n in
     let long : length (words t) ≡ 4 + s .benches + 4 * s .jobs = words-long t s z in
     let ws : words u ≡ set (words t) 2 n = words-setWord t 2 n (omega (arith, length-words t)) w in
-    let r : Laid u s (layout (set (words t) 2 n)) = written t s 2 n (layout (set (words t) 2 n)) z (omega arith) (omega arith) w refl in
-    let e : layout (set (words u) 3 0) ≡ withStanding (laid t) n = rw ws (layout-standing (words t) n (omega arith)) in
-    written u s 3 0 (withStanding (laid t) n) (r .size) (omega arith) (omega (arith, words-long u s (r .size))) (omega arith) e
+    let r : HasLayout u s (layout (set (words t) 2 n)) = written t s 2 n (layout (set (words t) 2 n)) z (omega arith) (omega arith) w refl in
+    let e : layout (set (words u) 3 0) ≡ withStanding (layoutIn t) n = rw ws (layout-standing (words t) n (omega arith)) in
+    written u s 3 0 (withStanding (layoutIn t) n) (r .size) (omega arith) (omega (arith, words-long u s (r .size))) (omega arith) e
 
 -- no heads
 
@@ -213,9 +213,9 @@ layout-cleared (a ∷ b ∷ c ∷ d ∷ ws) l =
     λ k. withBoth (layout (a ∷ b ∷ c ∷ d ∷ ws)) (heads k) (entriesIn (entries k))
 
 -- the words of all heads: bytes 8 to 8 + 2 × B
-pub laid-cleared : (t : List ℕ) (s : Size) → SizeOf t s → Laid (take 8 t ++ (replicate (2 * s .benches) 0 ++ drop (8 + 2 * s .benches) t)) s (cleared (laid t))
+pub has-layout-cleared : (t : List ℕ) (s : Size) → SizeOf t s → HasLayout (take 8 t ++ (replicate (2 * s .benches) 0 ++ drop (8 + 2 * s .benches) t)) s (cleared (layoutIn t))
 unfolding layout
-laid-cleared t s z =
+has-layout-cleared t s z =
     let b : ℕ = s .benches in
     let rest : List ℕ = drop (8 + 2 * b) t in
     let zeros : List ℕ = replicate (2 * b) 0 in
@@ -223,8 +223,8 @@ laid-cleared t s z =
     let e : 8 + 2 * b ≡ 2 * (4 + b) = omega arith in
     let f : words rest ≡ drop (4 + b) (words t) = rw e (words-drop (4 + b) t) in
     let ws : words u ≡ take 4 (words t) ++ (replicate b 0 ++ words rest) = words-take 4 t (zeros ++ rest) (omega (arith, z .long)) ∙ ap (λ (l : List ℕ). take 4 (words t) ++ l) (words-zeros b rest) in
-    let c : layout (take 4 (words t) ++ (replicate b 0 ++ drop (4 + b) (words t))) ≡ cleared (laid t) = subst (λ (n : ℕ). layout (take 4 (words t) ++ (replicate n 0 ++ drop (4 + n) (words t))) ≡ cleared (laid t)) (z .benches) (layout-cleared (words t) (omega (arith, words-long t s z))) in
-    let l : laid u ≡ cleared (laid t) = rw (ws, f) c in
+    let c : layout (take 4 (words t) ++ (replicate b 0 ++ drop (4 + b) (words t))) ≡ cleared (layoutIn t) = subst (λ (n : ℕ). layout (take 4 (words t) ++ (replicate n 0 ++ drop (4 + n) (words t))) ≡ cleared (layoutIn t)) (z .benches) (layout-cleared (words t) (omega (arith, words-long t s z))) in
+    let l : layoutIn u ≡ cleared (layoutIn t) = rw (ws, f) c in
     let long : length u ≡ length t = omega (arith, z .long, length-append (take 8 t) (zeros ++ rest), length-append zeros rest, length-take 8 t, length-drop (8 + 2 * b) t, length-replicate {A = ℕ} (2 * b) 0) in
     record { size = size-kept t u s z long (ap (λ (l : Layout). l .benches) l) (ap (λ (l : Layout). l .jobs) l); layout = l }
 
@@ -252,18 +252,18 @@ flat-layout (a ∷ b ∷ c ∷ d ∷ ws) jobs e =
     rw (drop-append-add (a ∷ b ∷ c ∷ d ∷ []) ws a, r, take-append-drop a ws)
 
 -- .. and so are a table's
-pub flat-laid : (t : List ℕ) (s : Size) → SizeOf t s → flat (laid t) ≡ words t
-flat-laid t s z = flat-layout (words t) (s .jobs) (omega (arith, words-long t s z, z .benches))
+pub flat-table : (t : List ℕ) (s : Size) → SizeOf t s → flat (layoutIn t) ≡ words t
+flat-table t s z = flat-layout (words t) (s .jobs) (omega (arith, words-long t s z, z .benches))
 
 -- words read
 
 -- word 2
-pub standing-read : (t : List ℕ) (r : ℕ) → IsWord t 2 r → r ≡ (laid t) .standing
+pub standing-read : (t : List ℕ) (r : ℕ) → IsWord t 2 r → r ≡ (layoutIn t) .standing
 unfolding layout
 standing-read t r w = w .value
 
 -- word 3
-pub spare-read : (t : List ℕ) (r : ℕ) → IsWord t 3 r → r ≡ (laid t) .spare
+pub spare-read : (t : List ℕ) (r : ℕ) → IsWord t 3 r → r ≡ (layoutIn t) .spare
 unfolding layout
 spare-read t r w = w .value
 
@@ -291,14 +291,14 @@ none-named a b (suc (suc (suc p))) o = refl
 
 module _ (t : List ℕ) (s : Size) (j place : ℕ) (size : SizeOf t s) (job : JobIn s j) (holder : IsWord t (s .benches + 4 * j + 2) place) where
   -- the holder word tells the bench at its place among the names
-  holder-place : holderIn (nth ((laid t) .entries) j vacant) ≡ nth (getD (words t) (s .benches + 4 * j) 0 ∷ getD (words t) (s .benches + 4 * j + 1) 0 ∷ []) place 0
+  holder-place : holderIn (nth ((layoutIn t) .entries) j vacant) ≡ nth (getD (words t) (s .benches + 4 * j) 0 ∷ getD (words t) (s .benches + 4 * j + 1) 0 ∷ []) place 0
   holder-place = ap holderIn (record-words t s j size job) ∙ ap (λ p. nth (getD (words t) (s .benches + 4 * j) 0 ∷ getD (words t) (s .benches + 4 * j + 1) 0 ∷ []) p 0) (sym (holder .value))
 
   -- .. which is one word
-  pub holder-word : (r : ℕ) → 1 ≤ place → place ≤ 2 → IsWord t (s .benches + 4 * j + place - 1) r → r ≡ holderIn (nth ((laid t) .entries) j vacant)
+  pub holder-word : (r : ℕ) → 1 ≤ place → place ≤ 2 → IsWord t (s .benches + 4 * j + place - 1) r → r ≡ holderIn (nth ((layoutIn t) .entries) j vacant)
   holder-word r l m w = w .value ∙ sym (holder-place ∙ named-word (words t) (s .benches + 4 * j) place l m)
 
   -- .. or none
-  pub holder-none : (place < 1) ⊎ (2 < place) → 0 ≡ holderIn (nth ((laid t) .entries) j vacant)
+  pub holder-none : (place < 1) ⊎ (2 < place) → 0 ≡ holderIn (nth ((layoutIn t) .entries) j vacant)
   holder-none o =
       sym (holder-place ∙ none-named (getD (words t) (s .benches + 4 * j) 0) (getD (words t) (s .benches + 4 * j + 1) 0) place o)

@@ -7,7 +7,7 @@ use lib.Dec.{T}
 use lib.ListN.{length}
 use Rattle.spec_lists.specs.Lists.{within}
 use Rattle.spec_table.specs.Table.{mostBenches, mostJobs, lengthFor, fits, sound, decode, Storable}
-use Rattle.table_words.specs.Bytes.{laid}
+use Rattle.table_words.specs.Bytes.{layoutIn}
 use Rattle.table_size.specs.declared.Size.{Size}
 use Rattle.table_size.specs.declared.Sizing.{Sizing}
 use Rattle.table_size.specs.declared.Sizing.the-variants.{Fit, Misfit}
@@ -30,15 +30,15 @@ sizing benches jobs = fitIf (within 1 mostBenches benches && within 1 mostJobs j
 
 -- the size of a table: "every other call reads B and J there", in words 0 and 1; refusal 1 where they do not fit
 unfoldable pub sizeIn : List ℕ → Sizing
-sizeIn t = fitIf (fits t) ((laid t) .benches) ((laid t) .jobs)
+sizeIn t = fitIf (fits t) ((layoutIn t) .benches) ((layoutIn t) .jobs)
 
 -- s is the size of the table t, whose sizes fit
 pub record SizeOf (t : List ℕ) (s : Size) : Type 0 where
   pub limits : Limits s
   pub fit : T (fits t)
   pub long : length t ≡ lengthFor (s .benches) (s .jobs)
-  pub benches : (laid t) .benches ≡ s .benches
-  pub jobs : (laid t) .jobs ≡ s .jobs
+  pub benches : (layoutIn t) .benches ≡ s .benches
+  pub jobs : (layoutIn t) .jobs ≡ s .jobs
   pub board-benches : (decode t) .benches ≡ s .benches
   pub board-jobs : length ((decode t) .named) ≡ s .jobs
 

@@ -4,18 +4,18 @@ use mathlib.Core.Path.{_≡_}
 use mathlib.Core.List.{List}
 use lib.ListN.{replicate}
 use Rattle.table_size.specs.declared.Size.{Size}
-use Rattle.spec_lists.specs.Lists.{nth, change}
+use Rattle.spec_lists.specs.Lists.{nth, update}
 use Rattle.table_size.specs.Sizes.{SizeOf}
 use Rattle.spec_table.specs.Table.{Entry, Layout, vacant}
-use Rattle.table_words.specs.Bytes.{laid}
+use Rattle.table_words.specs.Bytes.{layoutIn}
 
 -- job j's record
 abbrev pub recordIn : List ℕ → ℕ → Entry
-recordIn t j = nth ((laid t) .entries) j vacant
+recordIn t j = nth ((layoutIn t) .entries) j vacant
 
 -- j is the first job on bench x's chain
 pub record HeadOf (t : List ℕ) (x j : ℕ) : Type 0 where
-  pub head : j ≡ nth ((laid t) .heads) x 0
+  pub head : j ≡ nth ((layoutIn t) .heads) x 0
   pub small : j < 65536
 
 -- a record with another holder word ..
@@ -29,7 +29,7 @@ withNext e n = record { names = e .names; holder = e .holder; next = n }
 -- the layout with another first job on bench x's chain
 abbrev pub withHead : Layout → ℕ → ℕ → Layout
 withHead l x j =
-    record { benches = l .benches; jobs = l .jobs; standing = l .standing; spare = l .spare; heads = change (l .heads) x j; entries = l .entries }
+    record { benches = l .benches; jobs = l .jobs; standing = l .standing; spare = l .spare; heads = update (l .heads) x j; entries = l .entries }
 
 -- the layout with other chains' heads
 abbrev pub withHeads : Layout → List ℕ → Layout
@@ -43,7 +43,7 @@ cleared l = withHeads l (replicate (l .benches) 0)
 -- the layout with another record of job j
 abbrev pub withEntry : Layout → ℕ → Entry → Layout
 withEntry l j e =
-    record { benches = l .benches; jobs = l .jobs; standing = l .standing; spare = l .spare; heads = l .heads; entries = change (l .entries) j e }
+    record { benches = l .benches; jobs = l .jobs; standing = l .standing; spare = l .spare; heads = l .heads; entries = update (l .entries) j e }
 
 -- the layout with word 2 written anew and word 3 zero
 abbrev pub withStanding : Layout → ℕ → Layout
@@ -51,6 +51,6 @@ withStanding l n =
     record { benches = l .benches; jobs = l .jobs; standing = n; spare = 0; heads = l .heads; entries = l .entries }
 
 -- a table of size s that has the layout l: l fixes all its bytes
-pub record Laid (t : List ℕ) (s : Size) (l : Layout) : Type 0 where
+pub record HasLayout (t : List ℕ) (s : Size) (l : Layout) : Type 0 where
   pub size : SizeOf t s
-  pub layout : laid t ≡ l
+  pub layout : layoutIn t ≡ l

@@ -34,7 +34,7 @@ impl Size {
         Sizing::Fit(Size { benches, jobs })
     }
 
-    // The size of a table; refused where its sizes do not fit (refusal 1).
+    // Reads the size of a table; refuses where its sizes do not fit (refusal 1).
     pub fn of(t: &[u8]) -> Sizing
         ensures { λ r. ⌜ r ≡ sizeIn (now (t .entry)) ⌝ }
     {
@@ -66,21 +66,21 @@ impl Size {
         self.jobs
     }
 
-    // Whether j is a job number of 1 to J.
+    // Tells whether j is a job number of 1 to J.
     pub fn has_job(self, j: usize) -> bool
         ensures { λ r. ⌜ r ≡ within 1 (self .jobs) j ⌝ }
     {
         1 <= j && j <= self.jobs
     }
 
-    // Whether x is a bench of 1 to B.
+    // Tells whether x is a bench of 1 to B.
     pub fn has_bench(self, x: usize) -> bool
         ensures { λ r. ⌜ r ≡ within 1 (self .benches) x ⌝ }
     {
         1 <= x && x <= self.benches
     }
 
-    // The byte length of a table of this size.
+    // Computes the byte length of a table of this size.
     pub fn bytes(self) -> usize
         requires { ⌜ Limits self ⌝ }
         ensures { λ r. ⌜ r ≡ lengthFor (self .benches) (self .jobs) ⌝ }

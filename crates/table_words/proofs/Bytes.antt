@@ -6,7 +6,7 @@ use mathlib.Core.Path.{_≡_, refl, ap}
 use mathlib.Core.List.{List, [], _∷_}
 use lib.ListN.{length, getD, set, replicate, length-set}
 use Rattle.spec_table.specs.Table.{words, bytesOf, lengthFor, blankTable}
-use Rattle.spec_table.proofs.Sound.{two-more, two-more-high}
+use Rattle.spec_table.proofs.Places.{two-more, two-more-high}
 use Rattle.table_words.specs.Bytes.{setWord}
 
 -- a written word is a changed word ..

@@ -15,5 +15,5 @@ unfoldable pub setWord : List ℕ → ℕ → ℕ → List ℕ
 setWord bytes i w = set (set bytes (2 * i) (w % 256)) (2 * i + 1) (w / 256 % 256)
 
 -- the table's words by their meaning
-abbrev pub laid : List ℕ → Layout
-laid t = layout (words t)
+abbrev pub layoutIn : List ℕ → Layout
+layoutIn t = layout (words t)

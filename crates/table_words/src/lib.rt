@@ -4,13 +4,14 @@ ghost use Prim.Native.Nat.{_+_, _*_, _<_};
 ghost use lib.ListN.{length, replicate};
 ghost use Rattle.table_words.specs.Bytes.{IsWord, setWord};
 
+// Widens a byte; the contract spares callers the proof that it fits.
 fn wide(byte: u8) -> usize
     ensures { λ r. ⌜ (r ≡ byte) × (r < 256) ⌝ }
 {
     byte as usize
 }
 
-// Word i of a list of words.
+// Reads word i.
 pub fn read(bytes: &[u8], i: usize) -> usize
     requires { ⌜ 2 * i + 1 < length (now bytes) ⌝ }
     ensures { λ r. ⌜ IsWord (now (bytes .entry)) i r ⌝ }
@@ -18,7 +19,7 @@ pub fn read(bytes: &[u8], i: usize) -> usize
     wide(bytes[2 * i]) + 256 * wide(bytes[2 * i + 1])
 }
 
-// Word i written anew.
+// Writes word i.
 pub fn write(bytes: &mut [u8], i: usize, word: usize)
     requires { ⌜ 2 * i + 1 < length (now bytes) ⌝ }
     requires { ⌜ word < 65536 ⌝ }
@@ -28,7 +29,7 @@ pub fn write(bytes: &mut [u8], i: usize, word: usize)
     bytes[2 * i + 1] = (word / 256 % 256) as u8;
 }
 
-// All bytes zero.
+// Clears all bytes.
 pub fn clear(bytes: &mut [u8])
     ensures { λ _. ⌜ now (bytes .exit) ≡ replicate (length (now (bytes .entry))) 0 ⌝ }
 {

@@ -1,6 +1,8 @@
 // Random runs of arrivals, closings and levellings on small boards. A job book, kept by document 01's rules, foretells every refusal, and a
 // second solver that tries every sharing of the book's jobs tells the least heaviest load and the least overhang above every height; the
 // board's answers and its table are held against both after each call.
+use libc::STDOUT_FILENO;
+use notes::Counts;
 use test_board_calls::ARRIVALS;
 use test_board_calls::CLOSINGS;
 use test_board_calls::LEVELLED;
@@ -14,8 +16,6 @@ use test_board_calls::tries;
 use test_solver::Book;
 use test_solver::bytes;
 use test_solver::job_book;
-use libc::STDOUT_FILENO;
-use notes::Counts;
 
 mod notes;
 mod starts;
@@ -191,14 +191,22 @@ fn print_board_faults(counts: &Counts) {
         test_board_checks::BAD_SHARING,
         b" sharings not the least\n",
     );
-    print_fault(counts, test_board_checks::BAD_TIGHT_SET, b" wrong tight sets\n");
+    print_fault(
+        counts,
+        test_board_checks::BAD_TIGHT_SET,
+        b" wrong tight sets\n",
+    );
 }
 
 fn print_call_faults(counts: &Counts) {
     print_fault(counts, test_board_calls::BAD_REFUSAL, b" wrong refusals\n");
     print_fault(counts, test_board_calls::BAD_ARRIVAL, b" wrong arrivals\n");
     print_fault(counts, test_board_calls::BAD_CLOSING, b" wrong closings\n");
-    print_fault(counts, test_board_calls::BAD_LEVELLING, b" wrong levellings\n");
+    print_fault(
+        counts,
+        test_board_calls::BAD_LEVELLING,
+        b" wrong levellings\n",
+    );
     print_fault(
         counts,
         test_board_calls::BAD_DAMAGED,

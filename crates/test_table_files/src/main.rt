@@ -2,10 +2,10 @@
 // same refusal. The files and the expected answers were made by another implementation of document 01. A file's name tells what damage was
 // tried; where that changed nothing, the table is sound.
 ghost use Rattle.table_size.specs.Sizes.{SoundTable};
-use table_form::Form;
 use libc::STDOUT_FILENO;
-use table_size::Size;
 use table_board::loads;
+use table_form::Form;
+use table_size::Size;
 
 fn heaviest(loads: &[u16; Size::MOST_BENCHES + 1]) -> u16 {
     let mut most = 0;

@@ -2,8 +2,8 @@
 use mathlib.Core.Logic.{⊎-elim, inl, inr}
 use borrow.Author.Tests.{eqb-true}
 use Rattle.spec_table.specs.Table.{decode}
-use Rattle.spec_calls.proofs.Outcomes.{MayArrive}
-use Rattle.board_changes.proofs.Writing.{Numbered, arrival-number, bench-wrong, arrival-bench, readable, arrival-numbered, arrival-standing, may-arrive, arrival-left}
+use Rattle.spec_calls.specs.Calls.{MayArrive}
+use Rattle.board_changes.proofs.ChangeOutcomes.{Numbered, arrival-number, bench-wrong, arrival-bench, readable, arrival-numbered, arrival-standing, may-arrive, arrival-left}
 use borrow.Author.Needs.{needs}
 use Rattle.board_changes.proofs.arrival_on.Statement.{statement}
 use Rattle.board_changes.proofs.arrival_on.Tie as tie

@@ -1,6 +1,6 @@
 -- The answer and the bytes of a blanking, by whether the sizes fit.
 use mathlib.Core.Bool.{true, false}
-use Rattle.board_changes.proofs.Writing.{blanking-left}
+use Rattle.board_changes.proofs.ChangeOutcomes.{blanking-left}
 use borrow.Author.Needs.{needs}
 use Rattle.board_changes.proofs.blank.Statement.{statement}
 use Rattle.board_changes.proofs.blank.Tie as tie

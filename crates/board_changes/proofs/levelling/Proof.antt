@@ -3,7 +3,7 @@ use mathlib.Core.Bool.{true, false}
 use Rattle.spec_calls.specs.Calls.{levelling}
 use Rattle.table_size.specs.Sizes.{SoundTable}
 use Rattle.board_answers.proofs.Formal.{sizes-refused, unsound-refused}
-use Rattle.board_changes.proofs.Writing.{levelling-left}
+use Rattle.board_changes.proofs.ChangeOutcomes.{levelling-left}
 use borrow.Author.Needs.{needs}
 use Rattle.board_changes.proofs.levelling.Statement.{statement}
 use Rattle.board_changes.proofs.levelling.Tie as tie

@@ -3,7 +3,7 @@ use mathlib.Core.Path.{sym, _∙_}
 use mathlib.Core.Bool.{true, false}
 use Rattle.spec_calls.specs.Calls.{levelCheck}
 use Rattle.table_size.specs.Sizes.{SoundTable}
-use Rattle.table_board.proofs.Boards.{sound-kept}
+use Rattle.table_board.proofs.RecordsAsBoard.{sound-holds-board}
 use Rattle.board_answers.proofs.Formal.{sizes-refused, unsound-refused}
 use Rattle.board_questions.proofs.Asking.{level-told}
 use borrow.Author.Needs.{needs}
@@ -27,7 +27,7 @@ sound-table : (c : tie.After-known-told) → SoundTable (c .before .before .befo
 sound-table c = rw (c .before .s .given .1) at (c .before .before .before .check .ensures .says)
 
 is-level-requires : tie.Need-is-level-requires
-is-level-requires c κs = sound-kept _ _ (sound-table c)
+is-level-requires c κs = sound-holds-board _ _ (sound-table c)
 
 returns : tie.Need-returns
 returns c = sizes-refused levelCheck _ (rw (c .enum-told .given .1) at (c .before .before .check .ensures .says))

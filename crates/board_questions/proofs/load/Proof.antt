@@ -1,7 +1,7 @@
 -- The load of a bench of a sound table, or that it has no such bench.
 use mathlib.Core.Path.{sym, _∙_}
 use Rattle.spec_calls.specs.Calls.{loadOf}
-use Rattle.spec_lists.proofs.Basics.{true→T}
+use Rattle.spec_lists.proofs.Tests.{true→T}
 use Rattle.table_size.specs.Sizes.{SoundTable}
 use Rattle.table_size.proofs.Sizes.{bench-in}
 use Rattle.board_answers.proofs.Formal.{sizes-refused, unsound-refused}

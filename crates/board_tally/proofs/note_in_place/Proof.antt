@@ -52,9 +52,9 @@ use Rattle.board_tally.proofs.Noted as D
 use Rattle.board_tally.proofs.Noted.Laws as D′
 use Rattle.board_tally.proofs.Tally.note as note
 use Rattle.board_tally.proofs.Tally.note.Symbol as note-def
-use Rattle.board_tally.proofs.Tally.note.Symbol.{name as #tally·Tally·note}
+use Rattle.board_tally.proofs.Tally.note.Symbol.{name as #board-tally·Tally·note}
 use Rattle.board_tally.proofs.Tally.note.Met as note-thm
-use Rattle.board_tally.proofs.note_in_place.Key.{name as #tally·note-in-place}
+use Rattle.board_tally.proofs.note_in_place.Key.{name as #board-tally·note-in-place}
 use Rattle.board_tally.proofs.note_in_place as in-place
 use Rattle.board_tally.proofs.note_in_place.Statement as stated
 use Rattle.board_tally.proofs.note_in_place.Code as code
@@ -97,7 +97,7 @@ module _ {M : Type 1} (𝓤 : URA M) (H : Heap 𝓤) (𝓐 : Atoms 𝓤) (W : Gi
   goes-note : ent 𝓤 (sep 𝓤 (sem 𝓤 H 𝓐 ftrue) (sem 𝓤 H 𝓐 (owns (T.the-row ∷ A.the-row ∷ []) (h, (a, tt)) (tallyVal h ∷ [], (answerVal a ∷ [], tt))))) (Noting 𝓤 H 𝓐 at-mem run .pre given-note)
   goes-note = qed W (‵ ftrue ∷ ‵ (owns (T.the-row ∷ A.the-row ∷ []) (h, (a, tt)) (tallyVal h ∷ [], (answerVal a ∷ [], tt))) ∷ []) ∵ join ! $ frame ! $ done !
 
-  module _ (C : Calls 𝓤 H) (Λ : Loops 𝓤 H) (fm : FmC 𝓤 H (W .laws) C) (known : Triple 𝓤 (C #tally·Tally·note) (Noting 𝓤 H 𝓐 at-mem run)) where
+  module _ (C : Calls 𝓤 H) (Λ : Loops 𝓤 H) (fm : FmC 𝓤 H (W .laws) C) (known : Triple 𝓤 (C #board-tally·Tally·note) (Noting 𝓤 H 𝓐 at-mem run)) where
     walk : ent 𝓤 (onEntry 𝓤 H 𝓐 in-place.signature (κ, tt) (q, tt) x at) (WpFn 𝓤 H C Λ code.function (vptr b o ∷ answerVal a ∷ []) Post)
     walk =
         qed W ((‵ (flft κ q) ⊛ ‵ ftrue) ∷ ‵ (owns (MutRef (named 0) κ T.the-row ∷ A.the-row ∷ []) x at) ∷ []) ∵ split ! $ move ! (2 ∷ []) $ fsplit ! $ fsplit3 ! $ drop ! $ move ! (0 ∷ 1 ∷ 3 ∷ []) $
@@ -127,7 +127,7 @@ module _ {M : Type 1} (𝓤 : URA M) (H : Heap 𝓤) (𝓐 : Atoms 𝓤) (W : Gi
         keep ! (0 ∷ 1 ∷ 2 ∷ []) $ by ! (exits r e (its-note r _ is)))))))))))))
 
 module _ {M : Type 1} (𝓤 : URA M) (H : Heap 𝓤) (𝓐 : Atoms 𝓤) (W : Given 𝓤 H 𝓐) (at-mem : Memory → SProp 𝓤) (run : Routine → Fun 𝓤) where
-  in-place-walks : (C : Calls 𝓤 H) (Λ : Loops 𝓤 H) → FmC 𝓤 H (W .laws) C → Triple 𝓤 (C #tally·Tally·note) (Noting 𝓤 H 𝓐 at-mem run) → Walks 𝓤 H 𝓐 in-place.ended stayed (WpFn 𝓤 H C Λ code.function) (in-place.clauses 𝓤 H 𝓐 at-mem run)
+  in-place-walks : (C : Calls 𝓤 H) (Λ : Loops 𝓤 H) → FmC 𝓤 H (W .laws) C → Triple 𝓤 (C #board-tally·Tally·note) (Noting 𝓤 H 𝓐 at-mem run) → Walks 𝓤 H 𝓐 in-place.ended stayed (WpFn 𝓤 H C Λ code.function) (in-place.clauses 𝓤 H 𝓐 at-mem run)
   in-place-walks C Λ fm known =
       walked 𝓤 H 𝓐 in-place.ended stayed (in-place.clauses 𝓤 H 𝓐 at-mem run) (WpFn 𝓤 H C Λ code.function) (λ κs. (ptr-vals, (EL.vals A.the-type A′.the-laws, tt))) (λ κs. (mut-tells (named 0) (κs .0) T.the-row, (EL.tells A.the-type A′.the-laws, tt)))
       (λ κs qs bounds a _ are. via 𝓤 _ (fst∗ 𝓤 _ (emp 𝓤)) (walk 𝓤 H 𝓐 W at-mem run (κs .0) (qs .0) (a .0 .ptr .0) (a .0 .ptr .1) (a .0 .name) (a .0 .now) (a .1 .0) (are .1 .0) C Λ fm known))
@@ -135,7 +135,7 @@ module _ {M : Type 1} (𝓤 : URA M) (H : Heap 𝓤) (𝓐 : Atoms 𝓤) (W : Gi
   goes : AllGo 𝓤 H 𝓐 W 1 (in-place.signature .params) (in-place.ended .kept) stayed
   goes = (goes-ref 𝓤 H 𝓐 W 1 0 tt (plain (λ _. T.the-row)), (goes-none 𝓤 H 𝓐 W 1 (λ _. A.the-row) yes (λ κs x f. refl), tt))
 
-in-place-meets : {M : Type 1} (𝓤 : URA M) (H : Heap 𝓤) (𝓐 : Atoms 𝓤) → Given 𝓤 H 𝓐 → (at-mem : Memory → SProp 𝓤) (run : Routine → Fun 𝓤) (𝓣 : Tables 𝓤 H) → Triple 𝓤 (𝓣 .C #tally·Tally·note) (Noting 𝓤 H 𝓐 at-mem run)
+in-place-meets : {M : Type 1} (𝓤 : URA M) (H : Heap 𝓤) (𝓐 : Atoms 𝓤) → Given 𝓤 H 𝓐 → (at-mem : Memory → SProp 𝓤) (run : Routine → Fun 𝓤) (𝓣 : Tables 𝓤 H) → Triple 𝓤 (𝓣 .C #board-tally·Tally·note) (Noting 𝓤 H 𝓐 at-mem run)
     → Meets 𝓤 H 𝓐 in-place.signature (WpFn 𝓤 H (𝓣 .C) (𝓣 .Λ) code.function) (in-place.spec 𝓤 H 𝓐 at-mem run)
 in-place-meets 𝓤 H 𝓐 W at-mem run 𝓣 known =
     walk-meets 𝓤 H 𝓐 in-place.ended stayed W (goes 𝓤 H 𝓐 W at-mem run) (in-place.clauses 𝓤 H 𝓐 at-mem run) (WpFn 𝓤 H (𝓣 .C) (𝓣 .Λ) code.function) (WpFn-mono 𝓤 H (W .laws) 𝓣 code.function)
@@ -145,6 +145,6 @@ pub note-in-place-spec : {M : Type 1} → stated.statement M
 unfolding code.routine tablesOf
 note-in-place-spec 𝓤 H 𝓜 𝓖 𝓡 =
     entered 𝓤 H (tripleOf 𝓤 H (𝓖 .A) in-place.signature (in-place.spec 𝓤 H (𝓖 .A) (𝓜 .mem) (𝓡 .run)))
-    (tables 𝓤 H 𝓜 𝓡 code.env .C) (tables 𝓤 H 𝓜 𝓡 code.env .Λ) #tally·note-in-place code.function (code.unfolded 𝓤 H 𝓜 𝓡)
+    (tables 𝓤 H 𝓜 𝓡 code.env .C) (tables 𝓤 H 𝓜 𝓡 code.env .Λ) #board-tally·note-in-place code.function (code.unfolded 𝓤 H 𝓜 𝓡)
     (in-place-meets 𝓤 H (𝓖 .A) (givenOf 𝓤 H 𝓜 𝓖) (𝓜 .mem) (𝓡 .run) (tablesOf 𝓤 H 𝓜 (tables 𝓤 H 𝓜 𝓡 code.env))
-    (cited 𝓤 H (Noting 𝓤 H (𝓖 .A) (𝓜 .mem) (𝓡 .run)) 𝓜 𝓡 code.env #tally·Tally·note note-def.routine code.calls-tally·Tally·note (note-thm.met 𝓤 H 𝓜 𝓖 𝓡)))
+    (cited 𝓤 H (Noting 𝓤 H (𝓖 .A) (𝓜 .mem) (𝓡 .run)) 𝓜 𝓡 code.env #board-tally·Tally·note note-def.routine code.calls-board-tally·Tally·note (note-thm.met 𝓤 H 𝓜 𝓖 𝓡)))

@@ -54,9 +54,9 @@ use Rattle.board_tally.proofs.Note as N
 use Rattle.board_tally.proofs.Note.Laws as N′
 use Rattle.board_tally.proofs.note_in_place as in-place
 use Rattle.board_tally.proofs.note_in_place.Symbol as in-place-def
-use Rattle.board_tally.proofs.note_in_place.Symbol.{name as #tally·note-in-place}
+use Rattle.board_tally.proofs.note_in_place.Symbol.{name as #board-tally·note-in-place}
 use Rattle.board_tally.proofs.note_in_place.Met as in-place-thm
-use Rattle.board_tally.proofs.note_own.Key.{name as #tally·note-own}
+use Rattle.board_tally.proofs.note_own.Key.{name as #board-tally·note-own}
 use Rattle.board_tally.proofs.note_own as own
 use Rattle.board_tally.proofs.note_own.Statement as stated
 use Rattle.board_tally.proofs.note_own.Code as code
@@ -111,7 +111,7 @@ module _ {M : Type 1} (𝓤 : URA M) (H : Heap 𝓤) (𝓐 : Atoms 𝓤) (W : Gi
       qed W (‵ (flft (ν ∷ []) fullShare) ∷ ‵ (MutRef (named 0) (ν ∷ []) T.the-row .own (ref l γ) (vptr l 0 ∷ [])) ∷ []) ∵ nothing ! $ move ! (1 ∷ 0 ∷ []) $ join ! $
       nothing ! $ has-answer ! a ia $ fjoin ! $ move ! (2 ∷ 0 ∷ []) $ fjoin ! $ move ! (1 ∷ 0 ∷ []) $ join ! $ frame ! $ done !
 
-  module _ (C : Calls 𝓤 H) (Λ : Loops 𝓤 H) (fm : FmC 𝓤 H (W .laws) C) (known : Triple 𝓤 (C #tally·note-in-place) (InPlace 𝓤 H 𝓐 at-mem run)) where
+  module _ (C : Calls 𝓤 H) (Λ : Loops 𝓤 H) (fm : FmC 𝓤 H (W .laws) C) (known : Triple 𝓤 (C #board-tally·note-in-place) (InPlace 𝓤 H 𝓐 at-mem run)) where
     walk : ent 𝓤 (onEntry 𝓤 H 𝓐 own.signature tt tt x at) (WpFn 𝓤 H C Λ code.function (tallyVal h ∷ answerVal a ∷ []) Post)
     walk =
         qed W (‵ ftrue ∷ ‵ (owns (T.the-row ∷ A.the-row ∷ []) x at) ∷ []) ∵ enter ! C Λ code.function (tallyVal h ∷ answerVal a ∷ []) _ $
@@ -147,7 +147,7 @@ module _ {M : Type 1} (𝓤 : URA M) (H : Heap 𝓤) (𝓐 : Atoms 𝓤) (W : Gi
         keep ! (1 ∷ []) $ by ! (exits (record { tally = zs .0; note = n }) e (of-parts (record { tally = zs .0; note = n }) (w ∷ []) iz is)))))))))))))))))
 
 module _ {M : Type 1} (𝓤 : URA M) (H : Heap 𝓤) (𝓐 : Atoms 𝓤) (W : Given 𝓤 H 𝓐) (at-mem : Memory → SProp 𝓤) (run : Routine → Fun 𝓤) where
-  own-walks : (C : Calls 𝓤 H) (Λ : Loops 𝓤 H) → FmC 𝓤 H (W .laws) C → Triple 𝓤 (C #tally·note-in-place) (InPlace 𝓤 H 𝓐 at-mem run) → Walks 𝓤 H 𝓐 own.ended stayed (WpFn 𝓤 H C Λ code.function) (own.clauses 𝓤 H 𝓐 at-mem run)
+  own-walks : (C : Calls 𝓤 H) (Λ : Loops 𝓤 H) → FmC 𝓤 H (W .laws) C → Triple 𝓤 (C #board-tally·note-in-place) (InPlace 𝓤 H 𝓐 at-mem run) → Walks 𝓤 H 𝓐 own.ended stayed (WpFn 𝓤 H C Λ code.function) (own.clauses 𝓤 H 𝓐 at-mem run)
   own-walks C Λ fm known =
       walked 𝓤 H 𝓐 own.ended stayed (own.clauses 𝓤 H 𝓐 at-mem run) (WpFn 𝓤 H C Λ code.function) (λ κs. (SL.vals T.the-type T′.the-laws, (EL.vals A.the-type A′.the-laws, tt))) (λ κs. (SL.tells T.the-type T′.the-laws, (EL.tells A.the-type A′.the-laws, tt)))
       (λ κs qs bounds a _ are. via 𝓤 _ (fst∗ 𝓤 _ (emp 𝓤)) (walk 𝓤 H 𝓐 W at-mem run (a .0) (a .1 .0) (are .0) (are .1 .0) C Λ fm known))
@@ -155,7 +155,7 @@ module _ {M : Type 1} (𝓤 : URA M) (H : Heap 𝓤) (𝓐 : Atoms 𝓤) (W : Gi
   goes : AllGo 𝓤 H 𝓐 W 0 (own.signature .params) (own.ended .kept) stayed
   goes = (goes-none 𝓤 H 𝓐 W 0 (λ _. T.the-row) yes (λ κs x f. refl), (goes-none 𝓤 H 𝓐 W 0 (λ _. A.the-row) yes (λ κs x f. refl), tt))
 
-own-meets : {M : Type 1} (𝓤 : URA M) (H : Heap 𝓤) (𝓐 : Atoms 𝓤) → Given 𝓤 H 𝓐 → (at-mem : Memory → SProp 𝓤) (run : Routine → Fun 𝓤) (𝓣 : Tables 𝓤 H) → Triple 𝓤 (𝓣 .C #tally·note-in-place) (InPlace 𝓤 H 𝓐 at-mem run)
+own-meets : {M : Type 1} (𝓤 : URA M) (H : Heap 𝓤) (𝓐 : Atoms 𝓤) → Given 𝓤 H 𝓐 → (at-mem : Memory → SProp 𝓤) (run : Routine → Fun 𝓤) (𝓣 : Tables 𝓤 H) → Triple 𝓤 (𝓣 .C #board-tally·note-in-place) (InPlace 𝓤 H 𝓐 at-mem run)
     → Meets 𝓤 H 𝓐 own.signature (WpFn 𝓤 H (𝓣 .C) (𝓣 .Λ) code.function) (own.spec 𝓤 H 𝓐 at-mem run)
 own-meets 𝓤 H 𝓐 W at-mem run 𝓣 known =
     walk-meets 𝓤 H 𝓐 own.ended stayed W (goes 𝓤 H 𝓐 W at-mem run) (own.clauses 𝓤 H 𝓐 at-mem run) (WpFn 𝓤 H (𝓣 .C) (𝓣 .Λ) code.function) (WpFn-mono 𝓤 H (W .laws) 𝓣 code.function)
@@ -165,6 +165,6 @@ pub note-own-spec : {M : Type 1} → stated.statement M
 unfolding code.routine tablesOf
 note-own-spec 𝓤 H 𝓜 𝓖 𝓡 =
     entered 𝓤 H (tripleOf 𝓤 H (𝓖 .A) own.signature (own.spec 𝓤 H (𝓖 .A) (𝓜 .mem) (𝓡 .run)))
-    (tables 𝓤 H 𝓜 𝓡 code.env .C) (tables 𝓤 H 𝓜 𝓡 code.env .Λ) #tally·note-own code.function (code.unfolded 𝓤 H 𝓜 𝓡)
+    (tables 𝓤 H 𝓜 𝓡 code.env .C) (tables 𝓤 H 𝓜 𝓡 code.env .Λ) #board-tally·note-own code.function (code.unfolded 𝓤 H 𝓜 𝓡)
     (own-meets 𝓤 H (𝓖 .A) (givenOf 𝓤 H 𝓜 𝓖) (𝓜 .mem) (𝓡 .run) (tablesOf 𝓤 H 𝓜 (tables 𝓤 H 𝓜 𝓡 code.env))
-    (cited 𝓤 H (InPlace 𝓤 H (𝓖 .A) (𝓜 .mem) (𝓡 .run)) 𝓜 𝓡 code.env #tally·note-in-place in-place-def.routine code.calls-tally·note-in-place (in-place-thm.met 𝓤 H 𝓜 𝓖 𝓡)))
+    (cited 𝓤 H (InPlace 𝓤 H (𝓖 .A) (𝓜 .mem) (𝓡 .run)) 𝓜 𝓡 code.env #board-tally·note-in-place in-place-def.routine code.calls-board-tally·note-in-place (in-place-thm.met 𝓤 H 𝓜 𝓖 𝓡)))

@@ -3,7 +3,7 @@ use borrow.Author.Needs.{needs}
 use native.Mathlib.Omega.{arith}
 use mathlib.Core.List.{[]}
 use Rattle.board_answers.specs.Answered.{answerOf, valuesOf}
-use Rattle.counter_printing.proofs.Writing.{wrote-start}
+use Rattle.counter_printing.proofs.WrittenText.{wrote-start}
 use Rattle.counter_answer_lines.proofs.Lines.{wrote-refused, wrote-accepted}
 use Rattle.counter_answer_lines.proofs.answer.Statement.{statement}
 use Rattle.counter_answer_lines.proofs.answer.Tie as tie

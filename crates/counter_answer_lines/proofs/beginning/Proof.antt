@@ -4,7 +4,7 @@ use native.Mathlib.Omega.{arith}
 use lib.ListN.{drop}
 use Rattle.spec_calls.specs.Answers.{inNumbers}
 use Rattle.board_answers.specs.Answered.{answerOf, valuesOf}
-use Rattle.counter_printing.proofs.Writing.{wrote-then, wrote-same}
+use Rattle.counter_printing.proofs.WrittenText.{wrote-then, wrote-same}
 use Rattle.counter_answer_lines.proofs.Lines.{wrote-numbers}
 use Rattle.counter_answer_lines.proofs.beginning.Statement.{statement}
 use Rattle.counter_answer_lines.proofs.beginning.Tie as tie

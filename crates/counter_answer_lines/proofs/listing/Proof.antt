@@ -8,7 +8,7 @@ use Rattle.spec_lists.specs.Lists.{nth}
 use Rattle.spec_table.specs.Table.{words}
 use Rattle.spec_calls.specs.Answers.{inNumbers}
 use Rattle.board_answers.specs.Answered.{answerOf, valuesOf}
-use Rattle.counter_printing.proofs.Writing.{wrote-same}
+use Rattle.counter_printing.proofs.WrittenText.{wrote-same}
 use Rattle.counter_answer_lines.proofs.Lines.{wrote-unlisted, wrote-accepted, first-value}
 use Rattle.counter_answer_lines.proofs.listing.Statement.{statement}
 use Rattle.counter_answer_lines.proofs.listing.Tie as tie

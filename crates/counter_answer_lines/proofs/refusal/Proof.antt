@@ -2,7 +2,7 @@
 use borrow.Author.Needs.{needs}
 use native.Mathlib.Omega.{arith}
 use mathlib.Core.List.{[], _∷_}
-use Rattle.counter_printing.proofs.Writing.{wrote-then}
+use Rattle.counter_printing.proofs.WrittenText.{wrote-then}
 use Rattle.counter_answer_lines.proofs.Lines.{wrote-field, wrote-line}
 use Rattle.counter_answer_lines.proofs.refusal.Statement.{statement}
 use Rattle.counter_answer_lines.proofs.refusal.Tie as tie

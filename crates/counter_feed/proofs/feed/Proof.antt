@@ -6,8 +6,8 @@ use lib.ListN.{length}
 use borrow.Author.Tests.{leb-true, leb-false}
 use borrow.Author.Needs.{needs}
 use Rattle.counter_answer_lines.specs.AnswerLines.{lineMost}
-use Rattle.counter_feed.specs.Heard.{placeOf}
-use Rattle.counter_feed.proofs.Hearing.{Feeding, feeding-start, feeding-turn, feeding-end}
+use Rattle.counter_feed.specs.Feeding.{placeOf}
+use Rattle.counter_feed.proofs.Consuming.{Feeding, feeding-start, feeding-turn, feeding-end}
 use Rattle.counter_feed.proofs.feed.Statement.{statement}
 use Rattle.counter_feed.proofs.feed.Tie as tie
 
@@ -38,11 +38,11 @@ room c =
 sub-if1 : tie.Need-sub-if1 Inv-loop μ-loop
 sub-if1 c = search needs
 
-shared-slice-read-hear : tie.Need-shared-slice-read-hear Inv-loop μ-loop
-shared-slice-read-hear c = search needs
+shared-slice-read-take-byte : tie.Need-shared-slice-read-take-byte Inv-loop μ-loop
+shared-slice-read-take-byte c = search needs
 
-hear-requires : tie.Need-hear-requires Inv-loop μ-loop
-hear-requires c κs =
+take-byte-requires : tie.Need-take-byte-requires Inv-loop μ-loop
+take-byte-requires c κs =
     let i = c .before .before .before .before .before .before .loop .inv in
     (i .0 .stands, room (c .before .before .before .before))
 
@@ -57,7 +57,7 @@ loop-again c =
     let n = c .before .before .before .before .before .before .before in
     let i = n .before .before .before .before .before in
     let l = i .before .before .loop in
-    (feeding-turn (l .inv .0) (n .hear .last .1 .1 .0) (n .hear .last .1 .1 .1 .0) (n .hear .last .1 .1 .1 .1 .0) (n .hear .result) (i .before .loop-test .taken) (room i) (n .hear .ensures), l .inv .1)
+    (feeding-turn (l .inv .0) (n .take-byte .last .1 .1 .0) (n .take-byte .last .1 .1 .1 .0) (n .take-byte .last .1 .1 .1 .1 .0) (n .take-byte .result) (i .before .loop-test .taken) (room i) (n .take-byte .ensures), l .inv .1)
 
 same-length : tie.Need-same-length Inv-loop μ-loop
 same-length c = search needs
@@ -91,8 +91,8 @@ feed-spec =
     μ-loop
     loop-holds
     sub-if1
-    shared-slice-read-hear
-    hear-requires
+    shared-slice-read-take-byte
+    take-byte-requires
     add-used
     loop-less
     loop-again

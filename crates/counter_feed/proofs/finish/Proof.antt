@@ -1,6 +1,6 @@
 -- A line that has begun ends without a line feed.
 use borrow.Author.Needs.{needs}
-use Rattle.counter_feed.proofs.Hearing.{finishes-none, finishes-line}
+use Rattle.counter_feed.proofs.Consuming.{finishes-none, finishes-line}
 use Rattle.counter_feed.proofs.finish.Statement.{statement}
 use Rattle.counter_feed.proofs.finish.Tie as tie
 

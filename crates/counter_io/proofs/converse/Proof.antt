@@ -9,11 +9,11 @@ use Rattle.counter_io.proofs.converse.Statement.{statement}
 use Rattle.counter_io.proofs.converse.Tie as tie
 
 abbrev Inv-loop : tie.InvT-loop
-Inv-loop input output most bytes₀ line₀ chunk₀ out₀ reader₀ used₀ open₀ turns₀ bytes line chunk out reader used «open» turns =
+Inv-loop input output most bytes₀ line₀ chunk₀ out₀ reader₀ used₀ open₀ rounds₀ bytes line chunk out reader used «open» rounds =
     Going bytes₀ line₀ out₀ bytes line out reader × (length chunk ≡ length chunk₀)
 
 abbrev μ-loop : tie.MeasureT-loop
-μ-loop input output most bytes₀ line₀ chunk₀ out₀ reader₀ used₀ open₀ turns₀ bytes line chunk out reader used «open» turns = turns
+μ-loop input output most bytes₀ line₀ chunk₀ out₀ reader₀ used₀ open₀ rounds₀ bytes line chunk out reader used «open» rounds = rounds
 
 new-requires : tie.Need-new-requires Inv-loop μ-loop
 new-requires c κs = search needs
@@ -23,18 +23,18 @@ loop-holds c =
     let b = c .before .before .before .before .before in
     (going-start (b .args .bytes .now) (b .args .line .now) (b .args .out .now) (c .new .result) (c .new .ensures .stands (b .args .bytes .now) (b .args .line .now) (b .pre .0) (b .pre .1 .0)) (b .pre .1 .1), refl)
 
-turn-requires : tie.Need-turn-requires Inv-loop μ-loop
-turn-requires c κs = search needs
+read-and-answer-requires : tie.Need-read-and-answer-requires Inv-loop μ-loop
+read-and-answer-requires c κs = search needs
 
-sub-turns : tie.Need-sub-turns Inv-loop μ-loop
-sub-turns c = search needs
+sub-rounds : tie.Need-sub-rounds Inv-loop μ-loop
+sub-rounds c = search needs
 
 loop-less : tie.Need-loop-less Inv-loop μ-loop
-loop-less c = omega (arith, ltb-true 0 (c .before .before .before .before .before .before .before .before .before .before .before .before .before .before .before .before .loop .turns) (c .before .before .before .before .before .before .before .before .before .before .before .before .before .before .if1 .taken))
+loop-less c = omega (arith, ltb-true 0 (c .before .before .before .before .before .before .before .before .before .before .before .before .before .before .before .before .loop .rounds) (c .before .before .before .before .before .before .before .before .before .before .before .before .before .before .if1 .taken))
 
 loop-again : tie.Need-loop-again Inv-loop μ-loop
 loop-again c =
-    let t = c .before .before .before .before .before .before .before .before .before .turn in
+    let t = c .before .before .before .before .before .before .before .before .before .read-and-answer in
     let i = c .before .before .before .before .before .before .before .before .before .before .before .before .before .before .before .before .loop .inv in
     (going-turn (t .last .1 .1 .1 .1 .0) (t .last .1 .1 .1 .1 .1 .0) (t .last .1 .1 .1 .1 .1 .1 .1 .0) (t .result .reader) (i .0) (t .ensures) (t .kept .1 .1 .1 .1 .0) (t .kept .1 .1 .1 .1 .1 .0) (t .kept .1 .1 .1 .1 .1 .1 .1 .0), t .kept .1 .1 .1 .1 .1 .1 .0 ∙ i .1)
 
@@ -76,8 +76,8 @@ converse-spec =
     μ-loop
     new-requires
     loop-holds
-    turn-requires
-    sub-turns
+    read-and-answer-requires
+    sub-rounds
     loop-less
     loop-again
     same-length

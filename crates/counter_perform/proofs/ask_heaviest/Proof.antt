@@ -13,8 +13,8 @@ heaviest-requires c κs = search needs
 none-requires : tie.Need-none-requires
 none-requires c κs = search needs
 
-tell-requires : tie.Need-tell-requires
-tell-requires c κs = search needs
+write-answer-requires : tie.Need-write-answer-requires
+write-answer-requires c κs = search needs
 
 same-length : tie.Need-same-length
 same-length c = search needs
@@ -25,7 +25,7 @@ returns c =
     let numbers = told .before .before in
     let called = numbers .before in
     let start = called .before .before .before .before in
-    heaviest-replies (start .pre .0) (called .heaviest .ensures) (numbers .none .ensures) (told .tell .ensures)
+    heaviest-replies (start .pre .0) (called .heaviest .ensures) (numbers .none .ensures) (told .write-answer .ensures)
 
 pub ask-heaviest-spec : {M : Type 1} → statement M
 ask-heaviest-spec =
@@ -34,6 +34,6 @@ ask-heaviest-spec =
     slice-aggregate-heaviest
     heaviest-requires
     none-requires
-    tell-requires
+    write-answer-requires
     same-length
     returns)

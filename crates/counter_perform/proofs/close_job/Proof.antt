@@ -19,8 +19,8 @@ noted-requires c κs = search needs
 one-requires : tie.Need-one-requires
 one-requires c κs = search needs
 
-tell-requires : tie.Need-tell-requires
-tell-requires c κs = search needs
+write-answer-requires : tie.Need-write-answer-requires
+write-answer-requires c κs = search needs
 
 same-length : tie.Need-same-length
 same-length c = search needs
@@ -36,7 +36,7 @@ returns c =
     let called = counted .before .before .before in
     let start = called .before .before .before .before in
     let args = start .args in
-    closing-replies (start .pre .0) (counted .noted .ensures .0) (counted .noted .ensures .1) (args .job) (called .closing .ensures) (called .closing .kept .0) (number .one .ensures) (told .tell .ensures)
+    closing-replies (start .pre .0) (counted .noted .ensures .0) (counted .noted .ensures .1) (args .job) (called .closing .ensures) (called .closing .kept .0) (number .one .ensures) (told .write-answer .ensures)
 
 pub close-job-spec : {M : Type 1} → statement M
 close-job-spec =
@@ -47,7 +47,7 @@ close-job-spec =
     closing-requires
     noted-requires
     one-requires
-    tell-requires
+    write-answer-requires
     same-length
     same-length-2
     returns)

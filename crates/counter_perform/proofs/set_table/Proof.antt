@@ -59,8 +59,8 @@ new-requires-2 c κs = search needs
 two-requires : tie.Need-two-requires
 two-requires c κs = search needs
 
-tell-requires : tie.Need-tell-requires
-tell-requires c κs = search needs
+write-answer-requires : tie.Need-write-answer-requires
+write-answer-requires c κs = search needs
 
 same-length : tie.Need-same-length
 same-length c = search needs
@@ -87,7 +87,7 @@ returns-2 c =
     let long = called .before .before in
     let known = long .before .before in
     let start = known .before .before .before .before .before in
-    table-replies (start .pre .0) (start .args .benches) (start .args .jobs) (asked known) (long .bytes .ensures) (called .blank .ensures) (called .blank .kept .0) (counted .new2 .ensures) (number .two .ensures) (told .tell .ensures)
+    table-replies (start .pre .0) (start .args .benches) (start .args .jobs) (asked known) (long .bytes .ensures) (called .blank .ensures) (called .blank .kept .0) (counted .new2 .ensures) (number .two .ensures) (told .write-answer .ensures)
 
 pub set-table-spec : {M : Type 1} → statement M
 set-table-spec =
@@ -103,7 +103,7 @@ set-table-spec =
     blank-requires
     new-requires-2
     two-requires
-    tell-requires
+    write-answer-requires
     same-length
     returns
     same-length-2

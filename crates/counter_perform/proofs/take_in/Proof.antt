@@ -19,8 +19,8 @@ noted-requires c κs = search needs
 one-requires : tie.Need-one-requires
 one-requires c κs = search needs
 
-tell-requires : tie.Need-tell-requires
-tell-requires c κs = search needs
+write-answer-requires : tie.Need-write-answer-requires
+write-answer-requires c κs = search needs
 
 same-length : tie.Need-same-length
 same-length c = search needs
@@ -36,7 +36,7 @@ returns c =
     let called = counted .before .before .before in
     let start = called .before .before .before .before in
     let args = start .args in
-    arrival-replies (start .pre .0) (counted .noted .ensures .0) (counted .noted .ensures .1) (args .job) (args .first) (args .second) (called .arrival .ensures) (called .arrival .kept .0) (number .one .ensures) (told .tell .ensures)
+    arrival-replies (start .pre .0) (counted .noted .ensures .0) (counted .noted .ensures .1) (args .job) (args .first) (args .second) (called .arrival .ensures) (called .arrival .kept .0) (number .one .ensures) (told .write-answer .ensures)
 
 pub take-in-spec : {M : Type 1} → statement M
 take-in-spec =
@@ -47,7 +47,7 @@ take-in-spec =
     arrival-requires
     noted-requires
     one-requires
-    tell-requires
+    write-answer-requires
     same-length
     same-length-2
     returns)

@@ -4,7 +4,7 @@ use Prim.Native.Nat.{ℕ, _<_}
 use native.Mathlib.Omega.{arith}
 use borrow.Fn.Kinds.{In}
 use borrow.Fn.PlainCycle.{Measures, is, falls, and}
-use Rattle.counter_printing.proofs.Writing.{digit-room, digits-room, wrote-digit, wrote-last}
+use Rattle.counter_printing.proofs.WrittenText.{digit-room, digits-room, wrote-digit, wrote-last}
 use Rattle.counter_printing.proofs.decimal.Reads as decimal
 use Rattle.counter_printing.proofs.decimal.Kinds as decimal-kinds
 use Rattle.counter_printing.proofs.+decimal.Lts-decimal as decimal-lts

@@ -1,6 +1,6 @@
 -- The store is the text.
 use borrow.Author.Needs.{needs}
-use Rattle.counter_printing.proofs.Writing.{wrote-byte}
+use Rattle.counter_printing.proofs.WrittenText.{wrote-byte}
 use Rattle.counter_printing.proofs.byte.Statement.{statement}
 use Rattle.counter_printing.proofs.byte.Tie as tie
 

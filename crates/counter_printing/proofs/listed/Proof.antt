@@ -6,7 +6,7 @@ use mathlib.Core.Path.{_≡_, ap}
 use lib.ListN.{take}
 use Rattle.spec_table.specs.Table.{words}
 use Rattle.counter_printing.specs.Wrote.{Wrote, fieldMost, spaced}
-use Rattle.counter_printing.proofs.Writing.{wrote-start, wrote-same, wrote-word}
+use Rattle.counter_printing.proofs.WrittenText.{wrote-start, wrote-same, wrote-word}
 use Rattle.counter_printing.proofs.listed.Statement.{statement}
 use Rattle.counter_printing.proofs.listed.Tie as tie
 

@@ -1,7 +1,7 @@
 -- A space, and the digits behind it.
 use borrow.Author.Needs.{needs}
 use native.Mathlib.Omega.{arith}
-use Rattle.counter_printing.proofs.Writing.{wrote-then, field-short}
+use Rattle.counter_printing.proofs.WrittenText.{wrote-then, field-short}
 use Rattle.counter_printing.proofs.number.Statement.{statement}
 use Rattle.counter_printing.proofs.number.Tie as tie
 

@@ -2,7 +2,7 @@
 use borrow.Author.Needs.{needs}
 use native.Mathlib.Omega.{arith}
 use mathlib.Core.List.{[], _∷_}
-use Rattle.counter_printing.proofs.Writing.{wrote-start, wrote-more, wrote-same, values-some, values-all}
+use Rattle.counter_printing.proofs.WrittenText.{wrote-start, wrote-more, wrote-same, values-some, values-all}
 use Rattle.counter_printing.proofs.values.Statement.{statement}
 use Rattle.counter_printing.proofs.values.Tie as tie
 

@@ -2,7 +2,7 @@
 use borrow.Author.Needs.{needs}
 use mathlib.Core.Path.{ap}
 use Rattle.counter_answer_lines.specs.AnswerLines.{refusalText}
-use Rattle.counter_state.proofs.Telling.{tells}
+use Rattle.counter_state.proofs.Answering.{printed-as}
 use Rattle.counter_state.proofs.refuse.Statement.{statement}
 use Rattle.counter_state.proofs.refuse.Tie as tie
 
@@ -21,7 +21,7 @@ same-length c = search needs
 returns : tie.Need-returns
 returns c =
     let written = c .before .before in
-    tells (written .before .before .before .before .args .c) (ap refusalText (written .before .number .ensures)) (written .refusal .ensures .0) (written .refusal .ensures .1)
+    printed-as (written .before .before .before .before .args .c) (ap refusalText (written .before .number .ensures)) (written .refusal .ensures .0) (written .refusal .ensures .1)
 
 pub refuse-spec : {M : Type 1} → statement M
 refuse-spec =

@@ -2,7 +2,7 @@
 use Prim.Native.Nat.{_+_}
 use borrow.Author.Needs.{needs}
 use Rattle.spec_table.specs.Table.{mostBenches}
-use Rattle.graph_lists.specs.Lists.{ListedBy}
+use Rattle.graph_lists.specs.LinkedLists.{ListedBy}
 use Rattle.graph_lists.proofs.Listing.{listable-arcs, listed-below}
 use Rattle.graph_search.proofs.distances.Statement.{statement}
 use Rattle.graph_search.proofs.distances.Tie as tie

@@ -4,19 +4,19 @@ use Prim.Native.Nat.{_+_, _≤_, _<_}
 use native.Mathlib.Omega.{arith}
 use native.Mathlib.Numerals.{add-one}
 use Rattle.spec_table.specs.Table.{mostBenches, mostJobs}
-use Rattle.spec_lists.proofs.Basics.{within-high}
+use Rattle.spec_lists.proofs.Tests.{within-high}
 use Rattle.graph_lists.specs.Arrays.{at}
 use Rattle.graph_lists.proofs.Listing.{left}
-use Rattle.graph_search.proofs.Widening.{queued-few, Expanding, expand-start, expand-arc, expand-after, expand-less, expand-leads, expand-turn, expand-end}
+use Rattle.graph_search.proofs.Expanding.{queued-few, Expanding, expand-start, expand-arc, expand-after, expand-less, expand-leads, expand-turn, expand-end}
 use Rattle.graph_search.proofs.expand.Statement.{statement}
 use Rattle.graph_search.proofs.expand.Tie as tie
 
 abbrev Inv-loop : tie.InvT-loop
-Inv-loop first next to x found queue₀ dist₀ k found₀ a₀ queue dist found' a =
-    Expanding first next to x k found queue₀ dist₀ a found' queue dist
+Inv-loop head next to x found queue₀ dist₀ k found₀ a₀ queue dist found' a =
+    Expanding head next to x k found queue₀ dist₀ a found' queue dist
 
 abbrev μ-loop : tie.MeasureT-loop
-μ-loop first next to x found queue₀ dist₀ k found₀ a₀ queue dist found' a = left mostJobs a
+μ-loop head next to x found queue₀ dist₀ k found₀ a₀ queue dist found' a = left mostJobs a
 
 -- the bench is one of the arrays
 small : (c : tie.Start Inv-loop μ-loop) → c .args .x < mostBenches + 1
@@ -62,17 +62,17 @@ loop-holds c =
     let start = c .before .before in
     expand-start (start .args .x) (start .pre .0) (start .pre .1 .0) (start .pre .1 .1)
 
-mul-find : tie.Need-mul-find Inv-loop μ-loop
-mul-find c = omega (arith, arc c)
+mul-discover : tie.Need-mul-discover Inv-loop μ-loop
+mul-discover c = omega (arith, arc c)
 
-element-copy-out-find : tie.Need-element-copy-out-find Inv-loop μ-loop
-element-copy-out-find c = arc c
+element-copy-out-discover : tie.Need-element-copy-out-discover Inv-loop μ-loop
+element-copy-out-discover c = arc c
 
-cast-find : tie.Need-cast-find Inv-loop μ-loop
-cast-find c = omega (arith, lead (c .before))
+cast-discover : tie.Need-cast-discover Inv-loop μ-loop
+cast-discover c = omega (arith, lead (c .before))
 
-find-requires : tie.Need-find-requires Inv-loop μ-loop
-find-requires c κs =
+discover-requires : tie.Need-discover-requires Inv-loop μ-loop
+discover-requires c κs =
     (lead (c .before .before .before), queued-few (c .before .before .before .before .loop .inv .widened .queued))
 
 mul-a-2 : tie.Need-mul-a-2 Inv-loop μ-loop
@@ -98,7 +98,7 @@ loop-again c =
     let start = c .before .before .before .before .before .before .before .before .before in
     let l = c .before .before .before .before .before .before .loop in
     let most = start .pre .1 .1 .most (start .args .x) in
-    expand-turn (start .args .x) (start .pre .0) (start .pre .1 .0) (l .inv) (omega arith) (omega arith) (c .before .before .before .before .before .loop-test .taken) (c .before .find .ensures)
+    expand-turn (start .args .x) (start .pre .0) (start .pre .1 .0) (l .inv) (omega arith) (omega arith) (c .before .before .before .before .before .loop-test .taken) (c .before .discover .ensures)
 
 returns : tie.Need-returns Inv-loop μ-loop
 returns c =
@@ -118,10 +118,10 @@ expand-spec =
     element-copy-out-a
     cast-a
     loop-holds
-    mul-find
-    element-copy-out-find
-    cast-find
-    find-requires
+    mul-discover
+    element-copy-out-discover
+    cast-discover
+    discover-requires
     mul-a-2
     element-copy-out-a-2
     cast-a-2

@@ -6,17 +6,17 @@ use mir.Syntax.{w64}
 use mir.Val.{Fits}
 use borrow.Author.Needs.{needs}
 use Rattle.spec_table.specs.Table.{mostBenches, mostJobs}
-use Rattle.graph_lists.specs.Lists.{ListedBy}
+use Rattle.graph_lists.specs.LinkedLists.{ListedBy}
 use Rattle.graph_lists.proofs.Listing.{listable-arcs, listable-loads, listed-below}
 use Rattle.graph_start.proofs.Starting.{Falling, falling-start, falling-some, falling-none, falling-turn, falling-heavy, least-most, load-less, low-few}
 use Rattle.graph_start.proofs.first_start.Statement.{statement}
 use Rattle.graph_start.proofs.first_start.Tie as tie
 
 abbrev Inv-loop : tie.InvT-loop
-Inv-loop from to loads r first next heavy after benches queue₀ dist₀ found₀ load₀ queue dist found load = Falling benches (r .low) to loads first next heavy after load found queue dist
+Inv-loop from to loads r head next heavy after benches queue₀ dist₀ found₀ load₀ queue dist found load = Falling benches (r .low) to loads head next heavy after load found queue dist
 
 abbrev μ-loop : tie.MeasureT-loop
-μ-loop from to loads r first next heavy after benches queue₀ dist₀ found₀ load₀ queue dist found load = load
+μ-loop from to loads r head next heavy after benches queue₀ dist₀ found₀ load₀ queue dist found load = load
 
 benches-requires : tie.Need-benches-requires Inv-loop μ-loop
 benches-requires c κs = search needs
@@ -105,7 +105,7 @@ cast-x c =
 start-among-requires : tie.Need-start-among-requires Inv-loop μ-loop
 start-among-requires c κs =
     let l = c .before .before .before .before .before .before .before .loop in
-    (l .inv .ways, (falling-heavy (l .inv) (c .before .before .before .before .before .if1 .taken), l .inv .searching))
+    (l .inv .adjacency, (falling-heavy (l .inv) (c .before .before .before .before .before .if1 .taken), l .inv .searching))
 
 returns : tie.Need-returns Inv-loop μ-loop
 returns c =

@@ -7,18 +7,18 @@ use lib.Dec.{T}
 use lib.ListN.{getD}
 use Rattle.spec_lists.specs.Lists.{within}
 use Rattle.spec_table.specs.Table.{mostBenches}
-use Rattle.spec_lists.proofs.Basics.{within-low, within-high, within-both}
-use Rattle.graph_lists.specs.Lists.{LeastFrom, Joins}
+use Rattle.spec_lists.proofs.Tests.{within-low, within-high, within-both}
+use Rattle.graph_lists.specs.LinkedLists.{LeastFrom, Adjacent}
 use Rattle.graph_lists.proofs.Listing.{least-some, left, left-less}
-use Rattle.graph_start.proofs.Starting.{Among, among-start, among-few, among-first, among-turn, among-end, searched-first, spread-queued, least-most}
+use Rattle.graph_start.proofs.Starting.{Among, among-start, among-few, among-first, among-turn, among-end, searched-first, search-queued, least-most}
 use Rattle.graph_start.proofs.start_among.Statement.{statement}
 use Rattle.graph_start.proofs.start_among.Tie as tie
 
 abbrev Inv-loop : tie.InvT-loop
-Inv-loop first next to loads after benches load x found queue₀ dist₀ found₀ x₀ queue dist found' x' = Among (Joins first next to) loads benches load x' found' queue dist
+Inv-loop head next to loads after benches load x found queue₀ dist₀ found₀ x₀ queue dist found' x' = Among (Adjacent head next to) loads benches load x' found' queue dist
 
 abbrev μ-loop : tie.MeasureT-loop
-μ-loop first next to loads after benches load x found queue₀ dist₀ found₀ x₀ queue dist found' x' = left mostBenches x'
+μ-loop head next to loads after benches load x found queue₀ dist₀ found₀ x₀ queue dist found' x' = left mostBenches x'
 
 loop-holds : tie.Need-loop-holds Inv-loop μ-loop
 loop-holds c = among-start (c .pre .1 .0) (c .pre .1 .1)
@@ -29,21 +29,21 @@ sub-limit c = omega (arith, c .before .before .pre .1 .0 .least)
 cast-limit : tie.Need-cast-limit Inv-loop μ-loop
 cast-limit c = omega (arith, among-few (c .before .before .pre .1 .0) (c .before .loop .inv) (c .loop-test .taken))
 
-spread-requires : tie.Need-spread-requires Inv-loop μ-loop
-spread-requires c κs =
+breadth-first-requires : tie.Need-breadth-first-requires Inv-loop μ-loop
+breadth-first-requires c κs =
     let start = c .before .before .before .before in
     let l = c .before .before .before .loop in
     let (t, e) = l .inv .next (c .before .before .loop-test .taken) in
     (start .pre .0, (within-both 1 (start .args .benches) (l .x) (within-low 1 mostBenches (l .x) t) (start .pre .1 .0 .bench (l .x) e), (l .inv .searching .queued, l .inv .searching .stays)))
 
 wanted-among-requires : tie.Need-wanted-among-requires Inv-loop μ-loop
-wanted-among-requires c κs = spread-queued (c .before .spread .ensures)
+wanted-among-requires c κs = search-queued (c .before .breadth-first .ensures)
 
 returns : tie.Need-returns Inv-loop μ-loop
 returns c =
     let l = c .before .before .before .before .before .before .before .loop in
     let d = c .before .before .before .before .before .before .loop-test .taken in
-    searched-first d (among-first (l .inv) d (c .before .before .before .before .before .before .before .before .pre .1 .0 .least) (c .before .before .before .spread .ensures) (rw (c .if1 .taken) at (c .before .wanted-among .ensures)))
+    searched-first d (among-first (l .inv) d (c .before .before .before .before .before .before .before .before .pre .1 .0 .least) (c .before .before .before .breadth-first .ensures) (rw (c .if1 .taken) at (c .before .wanted-among .ensures)))
 
 -- x is a bench of this load ..
 bench : (c : tie.Else1 Inv-loop μ-loop) → let x = c .before .before .before .before .before .before .before .loop .x in T (within 1 mostBenches x) × (getD (c .before .before .before .before .before .before .before .before .args .loads .now) x 0 ≡ c .before .before .before .before .before .before .before .before .args .load)
@@ -80,7 +80,7 @@ loop-again : tie.Need-loop-again Inv-loop μ-loop
 loop-again c =
     let l = c .before .before .before .before .before .before .before .before .loop in
     let d = c .before .before .before .before .before .before .before .loop-test .taken in
-    among-turn (l .inv) d (c .before .before .before .before .before .before .before .before .before .pre .1 .0 .least) (c .before .before .before .before .spread .ensures) (rw (c .before .if1 .left) at (c .before .before .wanted-among .ensures)) (c .before .before .before .before .before .before .before .before .before .pre .1 .0)
+    among-turn (l .inv) d (c .before .before .before .before .before .before .before .before .before .pre .1 .0 .least) (c .before .before .before .before .breadth-first .ensures) (rw (c .before .if1 .left) at (c .before .before .wanted-among .ensures)) (c .before .before .before .before .before .before .before .before .before .pre .1 .0)
 
 returns-2 : tie.Need-returns-2 Inv-loop μ-loop
 returns-2 c = among-end (c .before .loop .inv) (c .loop-test .left) (c .before .before .pre .1 .0 .least)
@@ -94,7 +94,7 @@ start-among-spec =
     loop-holds
     sub-limit
     cast-limit
-    spread-requires
+    breadth-first-requires
     wanted-among-requires
     returns
     mul-x

@@ -5,7 +5,7 @@ use mathlib.Core.Path.{sym, _∙_}
 use borrow.Author.Needs.{needs}
 use Rattle.spec_table.specs.Board.{namesOf}
 use Rattle.spec_table.specs.Table.{decode}
-use Rattle.table_board.specs.View.{Place}
+use Rattle.table_board.specs.BoardView.{Position}
 use Rattle.sharing_arcs.specs.Arcs.{OtherOf}
 use Rattle.sharing_arcs.proofs.AsArcs.{free-of, held-place, held-of}
 use Rattle.sharing_arcs.proofs.other.Statement.{statement}
@@ -17,7 +17,7 @@ returns c =
     free-of (c .before .before .args .t .now) (c .before .before .args .s) (c .before .before .args .j) (p .0) (sym (p .1 .1) ∙ c .if1 .taken)
 
 -- job j names two benches
-place : (c : tie.Else1) (k : ℕ) → 1 ≤ k → k ≤ 2 → Place (namesOf (decode (c .before .before .args .t .now)) (c .before .before .args .j)) k
+place : (c : tie.Else1) (k : ℕ) → 1 ≤ k → k ≤ 2 → Position (namesOf (decode (c .before .before .args .t .now)) (c .before .before .args .j)) k
 place c k l u =
     let a = c .before .before .args in
     let p = c .before .before .pre in

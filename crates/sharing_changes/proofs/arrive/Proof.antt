@@ -7,8 +7,8 @@ use mathlib.Core.Logic.{⊎-elim, inl, inr}
 use borrow.Author.Needs.{needs}
 use Rattle.spec_sharing.specs.Sharing.{arrive}
 use Rattle.spec_table.specs.Table.{decode}
-use Rattle.table_board.proofs.Boards.{sound-kept}
-use Rattle.sharing_changes.proofs.Changing.{arriving-job, arriving-bench, getting-bench, arriving-fills, Handed, arrival-handed, arrival-settled}
+use Rattle.table_board.proofs.RecordsAsBoard.{sound-holds-board}
+use Rattle.sharing_changes.proofs.Changing.{arriving-job, arriving-bench, getting-bench, arriving-fills, Handed, arrival-handed, arrival-rebuilt}
 use Rattle.sharing_changes.proofs.arrive.Statement.{statement}
 use Rattle.sharing_changes.proofs.arrive.Tie as tie
 
@@ -24,33 +24,33 @@ add-job-requires : tie.Need-add-job-requires
 add-job-requires c κs =
     let got = c .before .before in
     let start = got .before .before .before in
-    (sound-kept (start .args .t .now) (start .args .s) (start .pre .0), arriving-fills (start .pre .0) (start .pre .1) (got .lighter .ensures))
+    (sound-holds-board (start .args .t .now) (start .args .s) (start .pre .0), arriving-fills (start .pre .0) (start .pre .1) (got .lighter .ensures))
 
 improve-from-requires : tie.Need-improve-from-requires
 improve-from-requires c κs =
     let put = c .before .before .before in
     let got = put .before .before .before in
     let pre = got .before .before .before .pre in
-    (put .add-job .ensures .kept, getting-bench (pre .0) (pre .1) (got .lighter .ensures))
+    (put .add-job .ensures .holdsBoard, getting-bench (pre .0) (pre .1) (got .lighter .ensures))
 
 holder-requires : tie.Need-holder-requires
 holder-requires c κs =
-    let turned = c .before .before .before in
-    let pre = turned .before .before .before .before .before .before .before .before .before .before .pre in
-    (turned .improve-from .ensures .holds .kept, arriving-job (pre .0) (pre .1))
+    let flipped = c .before .before .before in
+    let pre = flipped .before .before .before .before .before .before .before .before .before .before .pre in
+    (flipped .improve-from .ensures .holds .holdsBoard, arriving-job (pre .0) (pre .1))
 
-settle-requires : tie.Need-settle-requires
-settle-requires c κs = search needs
+rebuild-chains-requires : tie.Need-rebuild-chains-requires
+rebuild-chains-requires c κs = search needs
 
 -- the path is turned, and the new job's holder read
-handed : (c : tie.After-row-known) → let told = c .before .before .before .before .before .before in let turned = told .before .before .before .before .before in let args = turned .before .before .before .before .before .before .before .before .before .before .args in Handed (turned .improve-from .last .0) (args .j) (arrive (decode (args .t .now)) (args .j) (args .first ∷ args .second ∷ [])) (told .before .holder .result) (told .if1 .others) (turned .improve-from .result)
+handed : (c : tie.After-row-known) → let told = c .before .before .before .before .before .before in let flipped = told .before .before .before .before .before in let args = flipped .before .before .before .before .before .before .before .before .before .before .args in Handed (flipped .improve-from .last .0) (args .j) (arrive (decode (args .t .now)) (args .j) (args .first ∷ args .second ∷ [])) (told .before .holder .result) (told .if1 .new-job-moved) (flipped .improve-from .result)
 handed c =
     let told = c .before .before .before .before .before .before in
-    let turned = told .before .before .before .before .before in
-    let put = turned .before .before .before .before in
+    let flipped = told .before .before .before .before .before in
+    let put = flipped .before .before .before .before in
     let got = put .before .before .before in
     let pre = got .before .before .before .pre in
-    arrival-handed (pre .0) (pre .1) (got .lighter .ensures) (put .add-job .ensures) (turned .improve-from .ensures) (told .before .holder .ensures) (⊎-elim (λ w. inl (w .0 .taken, w .1)) (λ w. inr (w .0 .left, w .1)) (told .if1 .came))
+    arrival-handed (pre .0) (pre .1) (got .lighter .ensures) (put .add-job .ensures) (flipped .improve-from .ensures) (told .before .holder .ensures) (⊎-elim (λ w. inl (w .0 .taken, w .1)) (λ w. inr (w .0 .left, w .1)) (told .if1 .came))
 
 sub-t26 : tie.Need-sub-t26
 sub-t26 c = omega (arith, handed c .moved)
@@ -59,7 +59,7 @@ same-length : tie.Need-same-length
 same-length c = search needs
 
 returns : tie.Need-returns
-returns c = arrival-settled (handed c) (c .before .before .before .before .settle .ensures)
+returns c = arrival-rebuilt (handed c) (c .before .before .before .before .rebuild-chains .ensures)
 
 pub arrive-spec : {M : Type 1} → statement M
 arrive-spec =
@@ -70,7 +70,7 @@ arrive-spec =
     add-job-requires
     improve-from-requires
     holder-requires
-    settle-requires
+    rebuild-chains-requires
     sub-t26
     same-length
     returns)

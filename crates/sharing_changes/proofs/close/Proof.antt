@@ -1,6 +1,6 @@
 -- The job is taken off the board, the rule's path turned and the chains made anew.
 use borrow.Author.Needs.{needs}
-use Rattle.sharing_changes.proofs.Changing.{closing-job, closing-bench, closing-settled}
+use Rattle.sharing_changes.proofs.Changing.{closing-job, closing-bench, closing-rebuilt}
 use Rattle.sharing_changes.proofs.close.Statement.{statement}
 use Rattle.sharing_changes.proofs.close.Tie as tie
 
@@ -18,19 +18,19 @@ improve-to-requires : tie.Need-improve-to-requires
 improve-to-requires c κs =
     let removed = c .before .before .before in
     let pre = removed .before .before .before .before .before .pre in
-    (removed .remove-job .ensures .kept, closing-bench (pre .0) (pre .1) (removed .before .before .holder .ensures))
+    (removed .remove-job .ensures .holdsBoard, closing-bench (pre .0) (pre .1) (removed .before .before .holder .ensures))
 
-settle-requires : tie.Need-settle-requires
-settle-requires c κs = search needs
+rebuild-chains-requires : tie.Need-rebuild-chains-requires
+rebuild-chains-requires c κs = search needs
 
 same-length : tie.Need-same-length
 same-length c = search needs
 
 returns : tie.Need-returns
 returns c =
-    let turned = c .before .before .before .before .before .before in
-    let removed = turned .before .before .before .before in
-    closing-settled (removed .before .before .holder .ensures) (removed .remove-job .ensures) (turned .improve-to .ensures) (c .before .before .settle .ensures)
+    let flipped = c .before .before .before .before .before .before in
+    let removed = flipped .before .before .before .before in
+    closing-rebuilt (removed .before .before .holder .ensures) (removed .remove-job .ensures) (flipped .improve-to .ensures) (c .before .before .rebuild-chains .ensures)
 
 pub close-spec : {M : Type 1} → statement M
 close-spec =
@@ -39,6 +39,6 @@ close-spec =
     holder-requires
     remove-job-requires
     improve-to-requires
-    settle-requires
+    rebuild-chains-requires
     same-length
     returns)

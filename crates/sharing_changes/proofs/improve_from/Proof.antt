@@ -21,8 +21,8 @@ benches-requires c κs = search needs
 loads-requires : tie.Need-loads-requires
 loads-requires c κs = search needs
 
-turn-from-requires : tie.Need-turn-from-requires
-turn-from-requires c κs =
+flip-from-requires : tie.Need-flip-from-requires
+flip-from-requires c κs =
     let counted = c .before .before .before .before in
     let filled = counted .before .before .before .before in
     let start = filled .before .before .before .before .before .before .before in
@@ -32,7 +32,7 @@ same-length : tie.Need-same-length
 same-length c = search needs
 
 returns : tie.Need-returns
-returns c = c .before .before .turn-from .ensures
+returns c = c .before .before .flip-from .ensures
 
 pub improve-from-spec : {M : Type 1} → statement M
 improve-from-spec =
@@ -43,6 +43,6 @@ improve-from-spec =
     fill-requires
     benches-requires
     loads-requires
-    turn-from-requires
+    flip-from-requires
     same-length
     returns)

@@ -21,8 +21,8 @@ benches-requires c κs = search needs
 loads-requires : tie.Need-loads-requires
 loads-requires c κs = search needs
 
-turn-to-requires : tie.Need-turn-to-requires
-turn-to-requires c κs =
+flip-to-requires : tie.Need-flip-to-requires
+flip-to-requires c κs =
     let counted = c .before .before .before .before in
     let filled = counted .before .before .before .before in
     let start = filled .before .before .before .before .before .before .before in
@@ -32,7 +32,7 @@ same-length : tie.Need-same-length
 same-length c = search needs
 
 returns : tie.Need-returns
-returns c = c .before .before .turn-to .ensures
+returns c = c .before .before .flip-to .ensures
 
 pub improve-to-spec : {M : Type 1} → statement M
 improve-to-spec =
@@ -43,6 +43,6 @@ improve-to-spec =
     fill-requires
     benches-requires
     loads-requires
-    turn-to-requires
+    flip-to-requires
     same-length
     returns)

@@ -1,7 +1,7 @@
 -- Whether there is no next path.
 use borrow.Author.Needs.{needs}
 use Rattle.graph_lists.proofs.Listing.{array-long}
-use Rattle.sharing_levelling.proofs.Turning.{zero-level}
+use Rattle.sharing_levelling.proofs.Flipping.{zero-level}
 use Rattle.sharing_levelling.proofs.is_level.Statement.{statement}
 use Rattle.sharing_levelling.proofs.is_level.Tie as tie
 

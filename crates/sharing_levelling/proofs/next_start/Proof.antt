@@ -1,7 +1,7 @@
 -- Where loads are even the board is level; else the search for a first bench tells.
 use native.Mathlib.Omega.{arith}
 use Rattle.sharing_arcs.proofs.AsArcs.{loads-in, arcs-forth}
-use Rattle.sharing_levelling.proofs.Turning.{low-most, next-even, next-found}
+use Rattle.sharing_levelling.proofs.Flipping.{low-most, next-even, next-found}
 use Rattle.sharing_levelling.proofs.next_start.Statement.{statement}
 use Rattle.sharing_levelling.proofs.next_start.Tie as tie
 
@@ -10,8 +10,8 @@ loads-requires c κs = c .before .before .pre .0
 
 range-of-requires : tie.Need-range-of-requires
 range-of-requires c κs =
-    let kept = c .before .before .before .before .pre .0 in
-    (kept .size .limits, loads-in kept (c .before .loads .ensures))
+    let holdsBoard = c .before .before .before .before .pre .0 in
+    (holdsBoard .size .limits, loads-in holdsBoard (c .before .loads .ensures))
 
 add-if1 : tie.Need-add-if1
 add-if1 c =
@@ -30,8 +30,8 @@ first-start-requires : tie.Need-first-start-requires
 first-start-requires c κs =
     let ranged = c .before .before .before .before .before .before .before .before .before in
     let counted = ranged .before .before in
-    let kept = counted .before .before .before .pre .0 in
-    (kept .size .limits, (arcs-forth kept (c .before .before .before .fill .ensures), (loads-in kept (counted .loads .ensures), ranged .range-of .ensures)))
+    let holdsBoard = counted .before .before .before .pre .0 in
+    (holdsBoard .size .limits, (arcs-forth holdsBoard (c .before .before .before .fill .ensures), (loads-in holdsBoard (counted .loads .ensures), ranged .range-of .ensures)))
 
 returns-2 : tie.Need-returns-2
 returns-2 c =

@@ -5,14 +5,14 @@ use native.Mathlib.Omega.{arith}
 use mathlib.Core.Logic.{⊎-elim}
 use borrow.Author.Needs.{needs}
 use borrow.Author.Tests.{ltb-true, ltb-false}
-use Rattle.table_board.proofs.Boards.{sound-kept}
+use Rattle.table_board.proofs.RecordsAsBoard.{sound-holds-board}
 use Rattle.graph_lists.proofs.Listing.{array-long}
-use Rattle.sharing_levelling.proofs.Turning.{Turning, turning-start, turning-ready, turning-turn, turning-end}
+use Rattle.sharing_levelling.proofs.Flipping.{Flipping, flipping-start, flipping-ready, flipping-turn, flipping-end}
 use Rattle.sharing_levelling.proofs.relevel.Statement.{statement}
 use Rattle.sharing_levelling.proofs.relevel.Tie as tie
 
 abbrev Inv-loop : tie.InvT-loop
-Inv-loop t₀ s allowance from₀ to₀ load₀ paths₀ x₀ t from to load paths x = Turning t₀ t s allowance from to load paths x
+Inv-loop t₀ s allowance from₀ to₀ load₀ paths₀ x₀ t from to load paths x = Flipping t₀ t s allowance from to load paths x
 
 abbrev μ-loop : tie.MeasureT-loop
 μ-loop t₀ s allowance from₀ to₀ load₀ paths₀ x₀ t from to load paths x = allowance - paths
@@ -29,17 +29,17 @@ benches-requires c κs = search needs
 next-start-requires : tie.Need-next-start-requires Inv-loop μ-loop
 next-start-requires c κs =
     let made = c .before .before .before .before .before .before in
-    (sound-kept _ _ (made .before .before .pre), (array-long 0 (made .jobs .ensures), array-long 0 (c .before .before .before .before .before .jobs2 .ensures)))
+    (sound-holds-board _ _ (made .before .before .pre), (array-long 0 (made .jobs .ensures), array-long 0 (c .before .before .before .before .before .jobs2 .ensures)))
 
 loop-holds : tie.Need-loop-holds Inv-loop μ-loop
-loop-holds c = turning-start (c .before .before .before .before .before .before .before .before .before .pre) (c .next-start .ensures)
+loop-holds c = flipping-start (c .before .before .before .before .before .before .before .before .before .pre) (c .next-start .ensures)
 
-turn-from-requires : tie.Need-turn-from-requires Inv-loop μ-loop
-turn-from-requires c κs =
+flip-from-requires : tie.Need-flip-from-requires Inv-loop μ-loop
+flip-from-requires c κs =
     let test = c .before .before .before .before .before in
     let i = test .before .loop .inv in
-    let ready = turning-ready i (test .loop-test .taken) in
-    (i .kept, (ready .0, (ready .1, ready .2)))
+    let ready = flipping-ready i (test .loop-test .taken) in
+    (i .holdsBoard, (ready .0, (ready .1, ready .2)))
 
 -- in the loop the allowance is not used up
 less : (c : tie.Then1 Inv-loop μ-loop) → c .before .before .loop .paths < c .before .before .before .before .before .before .before .before .before .before .before .before .args .allowance
@@ -52,21 +52,21 @@ add-paths c =
 
 next-start-requires-2 : tie.Need-next-start-requires-2 Inv-loop μ-loop
 next-start-requires-2 c κs =
-    let turned = c .before .before .before .before .before .before in
-    let n = turned .before .before .before .before .before .before .before .loop .inv .next in
-    (turned .turn-from .ensures .holds .kept, (n .from-long, n .to-long))
+    let flipped = c .before .before .before .before .before .before in
+    let n = flipped .before .before .before .before .before .before .before .loop .inv .next in
+    (flipped .flip-from .ensures .holds .holdsBoard, (n .from-long, n .to-long))
 
 loop-less : tie.Need-loop-less Inv-loop μ-loop
 loop-less c = omega (arith, less (c .before .before .before .before .before .before .before .before .before .before .before .before))
 
 loop-again : tie.Need-loop-again Inv-loop μ-loop
 loop-again c =
-    let turned = c .before .before .before .before .before .before .before in
-    let test = turned .before .before .before .before .before in
-    turning-turn (test .before .before .loop .inv) (test .before .loop-test .taken) (less test) (turned .turn-from .ensures .holds) (c .next-start2 .ensures)
+    let flipped = c .before .before .before .before .before .before .before in
+    let test = flipped .before .before .before .before .before in
+    flipping-turn (test .before .before .loop .inv) (test .before .loop-test .taken) (less test) (flipped .flip-from .ensures .holds) (c .next-start2 .ensures)
 
-settle-requires : tie.Need-settle-requires Inv-loop μ-loop
-settle-requires c κs = c .before .before .loop .inv .kept
+rebuild-chains-requires : tie.Need-rebuild-chains-requires Inv-loop μ-loop
+rebuild-chains-requires c κs = c .before .before .loop .inv .holdsBoard
 
 same-length : tie.Need-same-length Inv-loop μ-loop
 same-length c = search needs
@@ -74,9 +74,9 @@ same-length c = search needs
 returns : tie.Need-returns Inv-loop μ-loop
 returns c =
     let at-loop = c .before .before .before .before .before in
-    turning-end (at-loop .loop .inv)
+    flipping-end (at-loop .loop .inv)
     (λ h. ⊎-elim (λ w. absurd (omega (arith, h, ltb-false (at-loop .loop .paths) (at-loop .before .before .before .before .before .before .before .before .before .before .args .allowance) (w .1 .left)))) (λ w. w .left) (c .before .before .before .before .loop-test .came))
-    (c .before .before .settle .ensures)
+    (c .before .before .rebuild-chains .ensures)
 
 pub relevel-spec : {M : Type 1} → statement M
 relevel-spec =
@@ -89,11 +89,11 @@ relevel-spec =
     benches-requires
     next-start-requires
     loop-holds
-    turn-from-requires
+    flip-from-requires
     add-paths
     next-start-requires-2
     loop-less
     loop-again
-    settle-requires
+    rebuild-chains-requires
     same-length
     returns)

@@ -14,11 +14,11 @@ Inv-loop t s x count₀ j₀ count j = Met t x count j
 abbrev μ-loop : tie.MeasureT-loop
 μ-loop t s x count₀ j₀ count j = length (chainFrom t j)
 
-first-requires : tie.Need-first-requires Inv-loop μ-loop
-first-requires c κs = search needs
+head-requires : tie.Need-head-requires Inv-loop μ-loop
+head-requires c κs = search needs
 
 loop-holds : tie.Need-loop-holds Inv-loop μ-loop
-loop-holds c = met-start (c .before .before .pre .0) (c .before .before .pre .1) (c .first .ensures)
+loop-holds c = met-start (c .before .before .pre .0) (c .before .before .pre .1) (c .head .ensures)
 
 add-count : tie.Need-add-count Inv-loop μ-loop
 add-count c = omega (arith, met-few (c .before .loop .inv) (c .before .before .before .before .pre .0))
@@ -42,7 +42,7 @@ load-spec =
     (tie.spec
     Inv-loop
     μ-loop
-    first-requires
+    head-requires
     loop-holds
     add-count
     next-requires

@@ -7,7 +7,7 @@ use lib.ListN.{length}
 use borrow.Author.Needs.{needs}
 use Rattle.spec_table.specs.Table.{decode}
 use Rattle.graph_lists.specs.Arrays.{at}
-use Rattle.sharing_paths.proofs.Handing.{Handing, Next, handing-start, handing-next, handing-turn, handing-end}
+use Rattle.sharing_paths.proofs.Handing.{Handing, NextJob, handing-start, handing-next, handing-turn, handing-end}
 use Rattle.sharing_paths.proofs.hand_over.Statement.{statement}
 use Rattle.sharing_paths.proofs.hand_over.Tie as tie
 
@@ -27,7 +27,7 @@ long : (c : tie.In-loop Inv-loop μ-loop) → let a = c .before .before .before 
 long c = let p = c .before .before .before .pre .1 in omega (arith, p .0, p .1 .0)
 
 -- the next one can go
-next : (c : tie.In-loop Inv-loop μ-loop) → let a = c .before .before .before .args in let j = at (a .path .now) (c .before .loop .done) in Next (c .before .loop .t) (a .s) j (at (a .to .now) j)
+next : (c : tie.In-loop Inv-loop μ-loop) → let a = c .before .before .before .args in let j = at (a .path .now) (c .before .loop .done) in NextJob (c .before .loop .t) (a .s) j (at (a .to .now) j)
 next c = handing-next (c .before .loop .inv) (long c) (c .loop-test .taken) (c .before .before .before .pre .1 .1 .1)
 
 mul-j : tie.Need-mul-j Inv-loop μ-loop
@@ -49,7 +49,7 @@ cast-set-holder : tie.Need-cast-set-holder Inv-loop μ-loop
 cast-set-holder c = omega (arith, next (c .before .before .before) .bench)
 
 set-holder-requires : tie.Need-set-holder-requires Inv-loop μ-loop
-set-holder-requires c κs = let k = next (c .before .before .before) in (k .kept, k .named)
+set-holder-requires c κs = let k = next (c .before .before .before) in (k .holdsBoard, k .named)
 
 add-done : tie.Need-add-done Inv-loop μ-loop
 add-done c = search needs
@@ -63,7 +63,7 @@ loop-again c =
     handing-turn (o .before .loop .inv) (c .before .before .set-holder .last .0) (long o) (o .loop-test .taken) (c .before .before .set-holder .ensures)
 
 same-length : tie.Need-same-length Inv-loop μ-loop
-same-length c = c .before .loop .inv .holds .kept .size .long ∙ sym (c .before .before .before .pre .0 .size .long)
+same-length c = c .before .loop .inv .holds .holdsBoard .size .long ∙ sym (c .before .before .before .pre .0 .size .long)
 
 returns : tie.Need-returns Inv-loop μ-loop
 returns c = handing-end (c .before .loop .inv) (c .loop-test .left)

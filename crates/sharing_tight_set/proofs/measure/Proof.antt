@@ -9,7 +9,7 @@ use Rattle.spec_lists.specs.Lists.{bit}
 use Rattle.spec_table.specs.Table.{mostJobs}
 use Rattle.graph_lists.specs.Arrays.{at}
 use Rattle.sharing_visits.specs.Marks.{mark}
-use Rattle.sharing_tight_set.proofs.AsSet.{kept-few, Measuring, markedLoad, measure-start, measure-turn, measure-room, measure-end}
+use Rattle.sharing_tight_set.proofs.AsSet.{passing-few, Measuring, markedLoad, measure-start, measure-turn, measure-room, measure-end}
 use Rattle.sharing_tight_set.proofs.measure.Statement.{statement}
 use Rattle.sharing_tight_set.proofs.measure.Tie as tie
 
@@ -31,7 +31,7 @@ element-copy-out-if1 c = search needs
 add-count : tie.Need-add-count Inv-loop μ-loop
 add-count c =
     let m = c .before .before .before .loop .inv .1 in
-    omega (arith, m .counted, kept-few (mark (c .before .before .before .before .before .args .marks .now)) (m .done))
+    omega (arith, m .counted, passing-few (mark (c .before .before .before .before .before .args .marks .now)) (m .done))
 
 mul-jobs : tie.Need-mul-jobs Inv-loop μ-loop
 mul-jobs c = search needs

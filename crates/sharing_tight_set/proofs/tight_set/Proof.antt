@@ -7,7 +7,7 @@ use Rattle.spec_table.specs.Table.{decode}
 use Rattle.spec_sharing.specs.Sharing.{tightSet}
 use Rattle.graph_lists.proofs.Listing.{array-long}
 use Rattle.sharing_arcs.proofs.AsArcs.{loads-in}
-use Rattle.sharing_tight_set.specs.Sets.{marked}
+use Rattle.sharing_tight_set.specs.MarkedSets.{marked}
 use Rattle.sharing_tight_set.proofs.AsSet.{all-tight, measured-tight}
 use Rattle.sharing_tight_set.proofs.tight_set.Statement.{statement}
 use Rattle.sharing_tight_set.proofs.tight_set.Tie as tie
@@ -29,8 +29,8 @@ mark-all-requires c κs =
     let b = c .before .before .before .before .before .before .before .before in
     (b .pre .0 .size .limits, record { long = array-long false (b .pre .1) })
 
-mark-brought-requires : tie.Need-mark-brought-requires
-mark-brought-requires c κs =
+mark-closure-requires : tie.Need-mark-closure-requires
+mark-closure-requires c κs =
     let l = c .before .before .before .before .before in
     let b = l .before .before .before .before in
     (b .pre .0, (l .loads .ensures, b .pre .1))
@@ -67,6 +67,6 @@ tight-set-spec =
     least-requires
     cast-if1
     mark-all-requires
-    mark-brought-requires
+    mark-closure-requires
     measure-requires
     returns)

@@ -10,7 +10,7 @@ use borrow.Author.Needs.{needs}
 use Rattle.spec_lists.specs.Lists.{bit}
 use Rattle.table_words.specs.Bytes.{setWord}
 use Rattle.sharing_visits.specs.Marks.{mark}
-use Rattle.sharing_tight_set.proofs.AsSet.{kept-few, Writing, write-start, write-room, write-turn, write-end}
+use Rattle.sharing_tight_set.proofs.AsSet.{passing-few, Writing, write-start, write-room, write-turn, write-end}
 use Rattle.sharing_tight_set.proofs.write.Statement.{statement}
 use Rattle.sharing_tight_set.proofs.write.Tie as tie
 
@@ -42,7 +42,7 @@ write-requires c κs =
 add-count : tie.Need-add-count Inv-loop μ-loop
 add-count c =
     let m = c .before .before .before .before .before .before .before .loop .inv .1 in
-    omega (arith, m .counted, kept-few (mark (c .before .before .before .before .before .before .before .before .before .before .args .marks .now)) (m .done))
+    omega (arith, m .counted, passing-few (mark (c .before .before .before .before .before .before .before .before .before .before .args .marks .now)) (m .done))
 
 add-x : tie.Need-add-x Inv-loop μ-loop
 add-x c = search needs

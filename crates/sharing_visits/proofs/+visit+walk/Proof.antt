@@ -5,9 +5,9 @@ use native.Mathlib.Omega.{arith}
 use borrow.Fn.Kinds.{In}
 use borrow.Fn.PlainCycle.{Measures, is, falls, and}
 use Rattle.spec_table.specs.Table.{mostBenches, mostJobs}
-use Rattle.spec_lists.proofs.Basics.{within-high}
+use Rattle.spec_lists.proofs.Tests.{within-high}
 use Rattle.graph_lists.specs.Arrays.{at}
-use Rattle.sharing_visits.proofs.Visiting.{falling, falls-marked, falls-visit, falls-walk, chain-first, chain-most, chain-leads, chain-next, marks-set, brings-marked, brings-chain, brings-end, brings-job}
+use Rattle.sharing_visits.proofs.Visiting.{falling, falls-marked, falls-visit, falls-walk, chain-first, chain-most, chain-leads, chain-next, marks-set, closed-marked, closed-chain, closed-end, closed-job}
 use Rattle.sharing_visits.proofs.visit.Reads as visit
 use Rattle.sharing_visits.proofs.visit.Kinds as visit-kinds
 use Rattle.sharing_visits.proofs.+visit+walk.Lts-visit as visit-lts
@@ -49,7 +49,7 @@ visit-element-copy-out-if1 t c = omega (arith, bench-most t c)
 visit-returns : (t : ℕ) → visit-lts.Need-returns (walk-below t, walk.Post) (visit-at t) visit.Post
 visit-returns t c =
     let b = c .before .before in
-    brings-marked (b .args .x) (b .args .marks .now) (b .pre .1 .1 .1) (c .if1 .taken)
+    closed-marked (b .args .x) (b .args .marks .now) (b .pre .1 .1 .1) (c .if1 .taken)
 
 visit-element-write-marks :
     (t : ℕ) → visit-lts.Need-element-write-marks (walk-below t, walk.Post) (visit-at t) visit.Post
@@ -78,14 +78,14 @@ visit-walk-requires t c κs =
     let m = b .args .marks .now in
     let x = b .args .x in
     let w = b .pre .1 .0 in
-    let fall = falls-marked m x (at (b .args .first .now) x) (b .pre .1 .1 .1) (b .pre .1 .1 .0) (c .before .before .if1 .left) in
+    let fall = falls-marked m x (at (b .args .head .now) x) (b .pre .1 .1 .1) (b .pre .1 .1 .0) (c .before .before .if1 .left) in
     (rw (b .pre .0) at fall, (w, (chain-first w x (b .pre .1 .1 .0), marks-set m x (b .pre .1 .1 .1))))
 
 visit-returns-2 :
     (t : ℕ) → visit-lts.Need-returns-2 (walk-below t, walk.Post) (visit-at t) visit.Post
 visit-returns-2 t c =
     let b = c .before .before .before .before .before in
-    brings-chain (b .args .first .now) (b .args .next .now) (b .args .to .now) (b .args .x) (b .args .marks .now) (c .walk .last .1 .1 .1 .1 .0)
+    closed-chain (b .args .head .now) (b .args .next .now) (b .args .to .now) (b .args .x) (b .args .marks .now) (c .walk .last .1 .1 .1 .1 .0)
     (omega (arith, bench-most t b, b .pre .1 .1 .1 .long)) (c .before .before .before .if1 .left) (c .walk .ensures)
 
 -- there are arcs for the job
@@ -100,7 +100,7 @@ walk-returns : (t : ℕ) → walk-lts.Need-returns (
 ) (walk-at t) walk.Post
 walk-returns t c =
     let b = c .before in
-    brings-end (b .args .first .now) (b .args .next .now) (b .args .to .now) (b .args .j) (b .args .marks .now) (b .pre .1 .1 .1) (c .if1 .taken)
+    closed-end (b .args .head .now) (b .args .next .now) (b .args .to .now) (b .args .j) (b .args .marks .now) (b .pre .1 .1 .1) (c .if1 .taken)
 
 walk-mul-visit : (t : ℕ) → walk-lts.Need-mul-visit (
   visit-below t,
@@ -190,7 +190,7 @@ walk-returns-2 : (t : ℕ) → walk-lts.Need-returns-2 (
 walk-returns-2 t c =
     let b = c .before .before .before .before .before .before .before in
     let v = c .before .before .before .visit in
-    brings-job (b .args .first .now) (b .args .next .now) (b .args .to .now) (b .args .j) (b .args .marks .now) (v .last .1 .1 .1 .1 .0) (c .walk .last .1 .1 .1 .1 .0)
+    closed-job (b .args .head .now) (b .args .next .now) (b .args .to .now) (b .args .j) (b .args .marks .now) (v .last .1 .1 .1 .1 .0) (c .walk .last .1 .1 .1 .1 .0)
     (c .before .before .before .before .before .before .if1 .left) (v .ensures) (c .walk .ensures)
 
 pub +visit+walk-spec : {M : Type 1} → statement M

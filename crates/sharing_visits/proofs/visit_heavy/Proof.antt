@@ -5,17 +5,17 @@ use native.Mathlib.Omega.{arith}
 use mathlib.Core.Logic.{⊎-elim}
 use borrow.Author.Needs.{needs}
 use Rattle.spec_table.specs.Table.{mostBenches}
-use Rattle.spec_lists.proofs.Basics.{within-both}
-use Rattle.graph_lists.specs.Lists.{Joins}
+use Rattle.spec_lists.proofs.Tests.{within-both}
+use Rattle.graph_lists.specs.LinkedLists.{Adjacent}
 use Rattle.sharing_visits.proofs.Visiting.{Heavy, heavy-start, heavy-visit, heavy-pass, heavy-end}
 use Rattle.sharing_visits.proofs.visit_heavy.Statement.{statement}
 use Rattle.sharing_visits.proofs.visit_heavy.Tie as tie
 
 abbrev Inv-loop : tie.InvT-loop
-Inv-loop first next to loads h marks₀ benches x₀ marks x = Heavy (Joins first next to) loads h benches marks₀ marks x
+Inv-loop head next to loads h marks₀ benches x₀ marks x = Heavy (Adjacent head next to) loads h benches marks₀ marks x
 
 abbrev μ-loop : tie.MeasureT-loop
-μ-loop first next to loads h marks₀ benches x₀ marks x = benches + 1 - x
+μ-loop head next to loads h marks₀ benches x₀ marks x = benches + 1 - x
 
 benches-requires : tie.Need-benches-requires Inv-loop μ-loop
 benches-requires c κs = search needs

@@ -1,5 +1,5 @@
 -- A standing job's record tells the next job on its chain.
-use Rattle.table_board.proofs.Boards.{stands-job}
+use Rattle.table_board.proofs.RecordsAsBoard.{stands-job}
 use Rattle.table_chains.proofs.ChainView.{next-read}
 use Rattle.table_chains.proofs.next.Statement.{statement}
 use Rattle.table_chains.proofs.next.Tie as tie

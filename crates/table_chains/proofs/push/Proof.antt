@@ -3,7 +3,7 @@
 use borrow.Author.Needs.{needs}
 use native.Mathlib.Omega.{arith}
 use mathlib.Core.Path.{sym, _∙_}
-use Rattle.table_chains.proofs.Settling.{push-vacant, push-held, held-bench}
+use Rattle.table_chains.proofs.Rebuilding.{push-vacant, push-held, held-bench}
 use Rattle.table_chains.proofs.push.Statement.{statement}
 use Rattle.table_chains.proofs.push.Tie as tie
 

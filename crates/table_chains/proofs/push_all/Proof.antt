@@ -3,7 +3,7 @@
 use native.Mathlib.Omega.{arith}
 use mathlib.Core.Path.{_≡_}
 use borrow.Author.Needs.{needs}
-use Rattle.table_chains.proofs.Settling.{Pushing, pushing-start, pushing-turn, pushing-end, pushing-few}
+use Rattle.table_chains.proofs.Rebuilding.{Pushing, pushing-start, pushing-turn, pushing-end, pushing-few}
 use Rattle.table_chains.proofs.push_all.Statement.{statement}
 use Rattle.table_chains.proofs.push_all.Tie as tie
 
@@ -22,7 +22,7 @@ loop-holds c = rw (c .jobs .ensures) (pushing-start (c .before .before .args .t 
 push-requires : tie.Need-push-requires Inv-loop μ-loop
 push-requires c κs =
     let p = c .before .before .loop .inv in
-    (p .kept, record { least = search needs; most = p .number })
+    (p .holdsBoard, record { least = search needs; most = p .number })
 
 loop-again : tie.Need-loop-again Inv-loop μ-loop
 loop-again c = pushing-turn (search needs) (c .before .before .before .before .before .loop .inv) (c .before .before .push .ensures)

@@ -9,8 +9,8 @@ use borrow.Author.Needs.{needs}
 use borrow.Author.Tests.{eq-eqb, ne-eqb, ltb-true, ltb-false}
 use Rattle.spec_lists.specs.Lists.{nth}
 use Rattle.spec_table.specs.Table.{Entry, vacant}
-use Rattle.table_words.specs.Bytes.{laid}
-use Rattle.table_form.specs.Walks.{onlyIf, walked}
+use Rattle.table_words.specs.Bytes.{layoutIn}
+use Rattle.table_form.specs.ChainWalks.{onlyIf, walked}
 use Rattle.table_size.proofs.Sizes.{entries-long}
 use Rattle.table_form.proofs.Walking.{walk-end, walk-full, walk-step, walk-above}
 use Rattle.table_form.proofs.walk.Statement.{statement}
@@ -18,7 +18,7 @@ use Rattle.table_form.proofs.walk.Tie as tie
 
 abbrev Inv-loop : tie.InvT-loop
 Inv-loop t s x left jobs left₀ j₀ left' j =
-    walked ((laid t) .entries) x left' j ≡ walked ((laid t) .entries) x left (nth ((laid t) .heads) x 0)
+    walked ((layoutIn t) .entries) x left' j ≡ walked ((layoutIn t) .entries) x left (nth ((layoutIn t) .heads) x 0)
 
 abbrev μ-loop : tie.MeasureT-loop
 μ-loop t s x left jobs left₀ j₀ left' j = left'
@@ -32,14 +32,14 @@ head-requires c κs = search needs
 loop-holds : tie.Need-loop-holds Inv-loop μ-loop
 loop-holds c =
     let a = c .before .before .before .args in
-    ap (walked ((laid (a .t .now)) .entries) (a .x) (a .left)) (c .head .ensures .head)
+    ap (walked ((layoutIn (a .t .now)) .entries) (a .x) (a .left)) (c .head .ensures .head)
 
 returns : tie.Need-returns Inv-loop μ-loop
 returns c =
     let start = c .before .before .before .before .before .before in
     let a = start .args in
     let l = c .before .before .loop in
-    let es = (laid (a .t .now)) .entries in
+    let es = (layoutIn (a .t .now)) .entries in
     let long = entries-long (a .t .now) (a .s) (start .pre .0) in
     ⊎-elim
     (λ w. walk-full es (a .x) (l .left) (l .j) (omega arith) (omega arith) ∙ l .inv)
@@ -50,11 +50,11 @@ holder-at-requires : tie.Need-holder-at-requires Inv-loop μ-loop
 holder-at-requires c κs = (search needs, omega (arith, ltb-false))
 
 -- what is left of the walk after job j's holder is read
-turn : (c : tie.After-holder-at Inv-loop μ-loop) → let a = c .before .before .before .before .before .before .before .before .args in let l = c .before .before .before .before .loop in let es = (laid (a .t .now)) .entries in walked es (a .x) (a .left) (nth ((laid (a .t .now)) .heads) (a .x) 0) ≡ onlyIf (eqb (c .holder-at .result) (a .x)) (walked es (a .x) (l .left - 1) ((nth es (l .j) vacant) .next))
+turn : (c : tie.After-holder-at Inv-loop μ-loop) → let a = c .before .before .before .before .before .before .before .before .args in let l = c .before .before .before .before .loop in let es = (layoutIn (a .t .now)) .entries in walked es (a .x) (a .left) (nth ((layoutIn (a .t .now)) .heads) (a .x) 0) ≡ onlyIf (eqb (c .holder-at .result) (a .x)) (walked es (a .x) (l .left - 1) ((nth es (l .j) vacant) .next))
 turn c =
     let a = c .before .before .before .before .before .before .before .before .args in
     let l = c .before .before .before .before .loop in
-    let es = (laid (a .t .now)) .entries in
+    let es = (layoutIn (a .t .now)) .entries in
     let step = walk-step es (a .x) (l .left) (l .j) (nth es (l .j) vacant) refl (omega arith) (omega arith) in
     rw (c .holder-at .ensures) (sym (l .inv) ∙ step)
 
@@ -76,14 +76,14 @@ loop-again : tie.Need-loop-again Inv-loop μ-loop
 loop-again c =
     let a = c .before .before .before .before .before .before .before .before .before .before .args in
     let l = c .before .before .before .before .before .before .loop in
-    let es = (laid (a .t .now)) .entries in
+    let es = (layoutIn (a .t .now)) .entries in
     ap (λ (e : Entry). walked es (a .x) (l .left - 1) (e .next)) (c .read-record .ensures .entry) ∙ sym (rw (eq-eqb (c .before .before .holder-at .result) (a .x) (c .before .if3 .left)) at (turn (c .before .before)))
 
 returns-3 : tie.Need-returns-3 Inv-loop μ-loop
 returns-3 c =
     let a = c .before .before .before .before .before .args in
     let l = c .before .loop in
-    walk-end ((laid (a .t .now)) .entries) (a .x) (l .left) (l .j) (omega arith) ∙ l .inv
+    walk-end ((layoutIn (a .t .now)) .entries) (a .x) (l .left) (l .j) (omega arith) ∙ l .inv
 
 pub walk-spec : {M : Type 1} → statement M
 walk-spec =

@@ -5,8 +5,8 @@ use native.Mathlib.Omega.{arith}
 use mathlib.Core.Path.{_≡_, refl, sym, _∙_}
 use lib.ListN.{drop}
 use borrow.Author.Needs.{needs}
-use Rattle.table_words.specs.Bytes.{laid}
-use Rattle.table_form.specs.Walks.{allWalked}
+use Rattle.table_words.specs.Bytes.{layoutIn}
+use Rattle.table_form.specs.ChainWalks.{allWalked}
 use Rattle.table_record_form.specs.declared.Seen.the-variants.{Jobs}
 use Rattle.table_size.proofs.Sizes.{heads-long}
 use Rattle.table_form.proofs.Walking.{all-step, all-broken, all-end}
@@ -17,7 +17,7 @@ abbrev Inv-loop : tie.InvT-loop
 Inv-loop t s count benches left₀ x₀ left x =
     (1 ≤ x)
     × (x ≤ s .benches + 1)
-    × (allWalked ((laid t) .entries) x (drop (x - 1) ((laid t) .heads)) (Jobs left) ≡ allWalked ((laid t) .entries) 1 ((laid t) .heads) (Jobs count))
+    × (allWalked ((layoutIn t) .entries) x (drop (x - 1) ((layoutIn t) .heads)) (Jobs left) ≡ allWalked ((layoutIn t) .entries) 1 ((layoutIn t) .heads) (Jobs count))
 
 abbrev μ-loop : tie.MeasureT-loop
 μ-loop t s count benches left₀ x₀ left x = benches + 1 - x
@@ -35,13 +35,13 @@ enum-told : tie.Need-enum-told Inv-loop μ-loop
 enum-told c = search needs
 
 -- what is left of the walks after bench x's
-turn : (c : tie.After-walk Inv-loop μ-loop) → let a = c .before .before .before .before .before .args in let x = c .before .before .loop .x in let l = laid (a .t .now) in allWalked (l .entries) 1 (l .heads) (Jobs (a .count)) ≡ allWalked (l .entries) (x + 1) (drop (x + 1 - 1) (l .heads)) (c .walk .result)
+turn : (c : tie.After-walk Inv-loop μ-loop) → let a = c .before .before .before .before .before .args in let x = c .before .before .loop .x in let l = layoutIn (a .t .now) in allWalked (l .entries) 1 (l .heads) (Jobs (a .count)) ≡ allWalked (l .entries) (x + 1) (drop (x + 1 - 1) (l .heads)) (c .walk .result)
 turn c =
     let start = c .before .before .before .before .before in
     let w = c .before .before .loop in
     let t = start .args .t .now in
     let long = heads-long t (start .args .s) (start .pre) in
-    let step = all-step ((laid t) .entries) (w .x) (w .left) ((laid t) .heads) (omega arith) (omega arith) in
+    let step = all-step ((layoutIn t) .entries) (w .x) (w .left) ((layoutIn t) .heads) (omega arith) (omega arith) in
     rw (c .walk .ensures) (sym (w .inv .2) ∙ step)
 
 returns : tie.Need-returns Inv-loop μ-loop
@@ -65,7 +65,7 @@ returns-2 c =
     let l = c .before .loop in
     let t = start .args .t .now in
     let long = heads-long t (start .args .s) (start .pre) in
-    all-end ((laid t) .entries) (l .x) (l .left) ((laid t) .heads) (omega arith) ∙ l .inv .2
+    all-end ((layoutIn t) .entries) (l .x) (l .left) ((layoutIn t) .heads) (omega arith) ∙ l .inv .2
 
 pub walk-all-spec : {M : Type 1} → statement M
 walk-all-spec =

@@ -6,7 +6,7 @@ use mathlib.Core.Path.{_≡_, refl, sym, _∙_}
 use mathlib.Core.Logic.{⊎-elim}
 use lib.ListN.{drop}
 use borrow.Author.Needs.{needs}
-use Rattle.table_words.specs.Bytes.{laid}
+use Rattle.table_words.specs.Bytes.{layoutIn}
 use Rattle.table_records.specs.Records.{entryOf}
 use Rattle.table_record_form.specs.Kinds.{byKind, counted}
 use Rattle.table_size.proofs.Sizes.{entries-long}
@@ -18,7 +18,7 @@ abbrev Inv-loop : tie.InvT-loop
 Inv-loop t s benches jobs count₀ done₀ count done =
     (done ≤ s .jobs)
     × (count ≤ done)
-    × (counted (s .benches) count (drop done ((laid t) .entries)) ≡ counted (s .benches) 0 ((laid t) .entries))
+    × (counted (s .benches) count (drop done ((layoutIn t) .entries)) ≡ counted (s .benches) 0 ((layoutIn t) .entries))
 
 abbrev μ-loop : tie.MeasureT-loop
 μ-loop t s benches jobs count₀ done₀ count done = jobs - done
@@ -45,12 +45,12 @@ enum-told : tie.Need-enum-told Inv-loop μ-loop
 enum-told c = search needs
 
 -- what is left of the count at a record's kind
-turn : (c : tie.After-kind-of Inv-loop μ-loop) → let a = c .before .before .before .before .before .before .before .args in let l = c .before .before .before .loop in let es = (laid (a .t .now)) .entries in counted (a .s .benches) 0 es ≡ byKind (c .kind-of .result) (counted (a .s .benches) (l .count) (drop (l .done + 1) es)) (counted (a .s .benches) (l .count + 1) (drop (l .done + 1) es))
+turn : (c : tie.After-kind-of Inv-loop μ-loop) → let a = c .before .before .before .before .before .before .before .args in let l = c .before .before .before .loop in let es = (layoutIn (a .t .now)) .entries in counted (a .s .benches) 0 es ≡ byKind (c .kind-of .result) (counted (a .s .benches) (l .count) (drop (l .done + 1) es)) (counted (a .s .benches) (l .count + 1) (drop (l .done + 1) es))
 turn c =
     let a = c .before .before .before .before .before .before .before .args in
     let l = c .before .before .before .loop in
     let r = c .before .read-record in
-    let es = (laid (a .t .now)) .entries in
+    let es = (layoutIn (a .t .now)) .entries in
     let long = entries-long (a .t .now) (a .s) (c .before .before .before .before .before .before .before .pre) in
     let step = count-step (a .s .benches) (l .count) (l .done) es (entryOf (r .result)) (r .ensures .entry) (omega arith) in
     rw (c .kind-of .ensures, c .before .before .before .before .before .benches .ensures) (sym (l .inv .2) ∙ step)
@@ -88,7 +88,7 @@ returns-2 : tie.Need-returns-2 Inv-loop μ-loop
 returns-2 c =
     let start = c .before .before .before .before .before in
     let l = c .before .loop in
-    let es = (laid (start .args .t .now)) .entries in
+    let es = (layoutIn (start .args .t .now)) .entries in
     let long = entries-long (start .args .t .now) (start .args .s) (start .pre) in
     count-end (start .args .s .benches) (l .count) (l .done) es (omega arith) ∙ l .inv .2
 

@@ -2,7 +2,7 @@
 use native.Mathlib.Omega.{arith}
 use mathlib.Core.Logic.{⊎-elim}
 use borrow.Author.Tests.{eqb-true, eqb-false, ltb-true, ltb-false}
-use Rattle.table_record_form.proofs.Telling.{AllZero, Fits, vacant-kind, fitting-kind, unfit-kind}
+use Rattle.table_record_form.proofs.KindOfRecord.{AllZero, Fits, vacant-kind, fitting-kind, unfit-kind}
 use Rattle.table_record_form.proofs.kind_of.Statement.{statement}
 use Rattle.table_record_form.proofs.kind_of.Tie as tie
 

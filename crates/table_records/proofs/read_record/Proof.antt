@@ -5,7 +5,7 @@ use mathlib.Core.Path.{_≡_, sym, ap, _∙_}
 use mathlib.Core.List.{List, [], _∷_}
 use borrow.Author.Needs.{needs}
 use Rattle.spec_table.specs.Table.{words}
-use Rattle.spec_table.proofs.Sound.{entryFrom}
+use Rattle.spec_table.proofs.Places.{entryFrom}
 use Rattle.table_words.specs.Bytes.{IsWord}
 use Rattle.table_size.specs.Sizes.{SizeOf, JobIn}
 use Rattle.table_records.specs.Records.{RecordOf, entryOf}

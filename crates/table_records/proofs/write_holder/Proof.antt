@@ -1,6 +1,6 @@
--- The word written is the holder in job j's record, by `laid-holder`.
+-- The word written is the holder in job j's record, by `has-layout-holder`.
 use borrow.Author.Needs.{needs}
-use Rattle.table_size.proofs.Written.{laid-holder}
+use Rattle.table_size.proofs.Written.{has-layout-holder}
 use Rattle.table_records.proofs.write_holder.Statement.{statement}
 use Rattle.table_records.proofs.write_holder.Tie as tie
 
@@ -21,7 +21,7 @@ returns c =
     let start = c .before .before .before .before .before .before in
     let args = start .args in
     rw (c .before .before .write .ensures, c .before .before .before .record-at .ensures)
-    (laid-holder (args .t .now) (args .s) (args .j) (args .holder) (start .pre .0) (start .pre .1 .0) (start .pre .1 .1))
+    (has-layout-holder (args .t .now) (args .s) (args .j) (args .holder) (start .pre .0) (start .pre .1 .0) (start .pre .1 .1))
 
 pub write-holder-spec : {M : Type 1} → statement M
 write-holder-spec =

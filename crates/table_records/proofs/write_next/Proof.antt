@@ -1,6 +1,6 @@
--- The word written is the next job in job j's record, by `laid-next`.
+-- The word written is the next job in job j's record, by `has-layout-next`.
 use borrow.Author.Needs.{needs}
-use Rattle.table_size.proofs.Written.{laid-next}
+use Rattle.table_size.proofs.Written.{has-layout-next}
 use Rattle.table_records.proofs.write_next.Statement.{statement}
 use Rattle.table_records.proofs.write_next.Tie as tie
 
@@ -21,7 +21,7 @@ returns c =
     let start = c .before .before .before .before .before .before in
     let args = start .args in
     rw (c .before .before .write .ensures, c .before .before .before .record-at .ensures)
-    (laid-next (args .t .now) (args .s) (args .j) (args .next) (start .pre .0) (start .pre .1 .0) (start .pre .1 .1))
+    (has-layout-next (args .t .now) (args .s) (args .j) (args .next) (start .pre .0) (start .pre .1 .0) (start .pre .1 .1))
 
 pub write-next-spec : {M : Type 1} → statement M
 write-next-spec =

@@ -1,6 +1,6 @@
--- The four words written are job j's record, by `laid-entry`.
+-- The four words written are job j's record, by `has-layout-entry`.
 use borrow.Author.Needs.{needs}
-use Rattle.table_size.proofs.Written.{laid-entry}
+use Rattle.table_size.proofs.Written.{has-layout-entry}
 use Rattle.table_records.proofs.write_record.Statement.{statement}
 use Rattle.table_records.proofs.write_record.Tie as tie
 
@@ -42,7 +42,7 @@ returns c =
     let a = start .args in
     let m = start .pre .1 .1 in
     rw (w4 .write4 .ensures, w3 .write3 .ensures, w2 .write2 .ensures, w1 .write .ensures, b .record-at .ensures)
-    (laid-entry (a .t .now) (a .s) (a .j) (a .r .first) (a .r .second) (a .r .holder) (a .r .next) (start .pre .0) (start .pre .1 .0) (m .first) (m .second) (m .holder) (m .next))
+    (has-layout-entry (a .t .now) (a .s) (a .j) (a .r .first) (a .r .second) (a .r .holder) (a .r .next) (start .pre .0) (start .pre .1 .0) (m .first) (m .second) (m .holder) (m .next))
 
 pub write-record-spec : {M : Type 1} → statement M
 write-record-spec =

@@ -1,7 +1,7 @@
 -- Word i is bytes 2i and 2i + 1, low byte first, and each byte is below 256.
 use borrow.Author.Needs.{needs}
 use native.Mathlib.Omega.{arith}
-use Rattle.spec_table.proofs.Sound.{word-at}
+use Rattle.spec_table.proofs.Places.{word-at}
 use Rattle.table_words.proofs.read.Statement.{statement}
 use Rattle.table_words.proofs.read.Tie as tie
 

@@ -1,6 +1,6 @@
 -- The reader stands before the first byte.
 use borrow.Author.Needs.{needs}
-use Rattle.counter_feed.proofs.Hearing.{begins}
+use Rattle.counter_feed.proofs.Consuming.{begins}
 use Rattle.counter_feed.proofs.Reader.new.Statement.{statement}
 use Rattle.counter_feed.proofs.Reader.new.Tie as tie
 

@@ -9,13 +9,13 @@ use Rattle.graph_lists.proofs.lists.list_by.Statement.{statement}
 use Rattle.graph_lists.proofs.lists.list_by.Tie as tie
 
 abbrev Inv-loop : tie.InvT-loop
-Inv-loop n key first₀ next₀ i₀ first next i = Listing (length first₀) (length next₀) n key i first next
+Inv-loop n key head₀ next₀ i₀ head next i = Listing (length head₀) (length next₀) n key i head next
 
 abbrev μ-loop : tie.MeasureT-loop
-μ-loop n key first₀ next₀ i₀ first next i = i
+μ-loop n key head₀ next₀ i₀ head next i = i
 
 loop-holds : tie.Need-loop-holds Inv-loop μ-loop
-loop-holds c = listing-start (c .args .n) (c .args .key .now) (c .args .first .now) (c .args .next .now) (c .pre)
+loop-holds c = listing-start (c .args .n) (c .args .key .now) (c .args .head .now) (c .args .next .now) (c .pre)
 
 mul-k : tie.Need-mul-k Inv-loop μ-loop
 mul-k c = omega (arith, c .before .loop .inv .number, c .before .before .pre .small)
@@ -30,7 +30,7 @@ mul-next : tie.Need-mul-next Inv-loop μ-loop
 mul-next c = omega (arith, c .shared-slice-known .given (c .before .before .loop .i))
 
 -- there is a first for the number's key
-key-small : (c : tie.After-slice-known Inv-loop μ-loop) → at (c .before .before .before .before .args .key .now) (c .before .before .before .loop .i) < length (c .before .before .before .before .args .first .now)
+key-small : (c : tie.After-slice-known Inv-loop μ-loop) → at (c .before .before .before .before .args .key .now) (c .before .before .before .loop .i) < length (c .before .before .before .before .args .head .now)
 key-small c =
     c .before .before .before .before .pre .below (c .before .before .before .loop .i) (omega arith) (c .before .before .before .loop .inv .number)
 
@@ -43,14 +43,14 @@ mul-next-2 c = mul-k (c .before .before)
 slice-write-next : tie.Need-slice-write-next Inv-loop μ-loop
 slice-write-next c = omega (arith, c .before .before .before .loop .inv .number, c .before .before .before .loop .inv .places, c .before .before .before .before .pre .places)
 
-cast-first : tie.Need-cast-first Inv-loop μ-loop
-cast-first c = omega (arith, c .before .before .before .loop .inv .number, c .before .before .before .before .pre .small)
+cast-head : tie.Need-cast-head Inv-loop μ-loop
+cast-head c = omega (arith, c .before .before .before .loop .inv .number, c .before .before .before .before .pre .small)
 
-mul-first : tie.Need-mul-first Inv-loop μ-loop
-mul-first c = mul-next (c .before)
+mul-head : tie.Need-mul-head Inv-loop μ-loop
+mul-head c = mul-next (c .before)
 
-slice-write-first : tie.Need-slice-write-first Inv-loop μ-loop
-slice-write-first c = slice-read-next c
+slice-write-head : tie.Need-slice-write-head Inv-loop μ-loop
+slice-write-head c = slice-read-next c
 
 sub-i : tie.Need-sub-i Inv-loop μ-loop
 sub-i c = search needs
@@ -84,9 +84,9 @@ list-by-spec =
     slice-read-next
     mul-next-2
     slice-write-next
-    cast-first
-    mul-first
-    slice-write-first
+    cast-head
+    mul-head
+    slice-write-head
     sub-i
     loop-less
     loop-again

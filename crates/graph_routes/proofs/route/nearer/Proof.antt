@@ -4,19 +4,19 @@ use native.Mathlib.Omega.{arith}
 use mathlib.Core.Path.{_≡_}
 use borrow.Author.Needs.{needs}
 use Rattle.spec_table.specs.Table.{mostBenches, mostJobs}
-use Rattle.spec_lists.proofs.Basics.{within-high}
+use Rattle.spec_lists.proofs.Tests.{within-high}
 use Rattle.graph_lists.specs.Arrays.{at}
-use Rattle.graph_lists.specs.Lists.{head}
+use Rattle.graph_lists.specs.LinkedLists.{onHead}
 use Rattle.graph_lists.proofs.Listing.{left, left-less}
 use Rattle.graph_routes.proofs.Routing.{Seeking, seeking-start, seeking-rises, seeking-turn, seeking-found, seeking-none}
 use Rattle.graph_routes.proofs.route.nearer.Statement.{statement}
 use Rattle.graph_routes.proofs.route.nearer.Tie as tie
 
 abbrev Inv-loop : tie.InvT-loop
-Inv-loop first next to dist x near a₀ a = Seeking first next to dist x a
+Inv-loop head next to dist x near a₀ a = Seeking head next to dist x a
 
 abbrev μ-loop : tie.MeasureT-loop
-μ-loop first next to dist x near a₀ a = left mostJobs a
+μ-loop head next to dist x near a₀ a = left mostJobs a
 
 -- x is a bench
 small : (c : tie.Start Inv-loop μ-loop) → c .args .x ≤ mostBenches
@@ -54,7 +54,7 @@ leads : (c : tie.In-loop Inv-loop μ-loop) → at (c .before .before .before .be
 leads c =
     let p = c .before .before .before .before in
     let a = c .before .loop .a in
-    within-high 1 mostBenches (at (p .args .to .now) a) (p .pre .0 .leads (p .args .x) a (p .pre .1 .0) (c .before .loop .inv .on a (head a (c .loop-test .taken))))
+    within-high 1 mostBenches (at (p .args .to .now) a) (p .pre .0 .leads (p .args .x) a (p .pre .1 .0) (c .before .loop .inv .on a (onHead a (c .loop-test .taken))))
 
 cast-if1 : tie.Need-cast-if1 Inv-loop μ-loop
 cast-if1 c = omega (arith, leads (c .before))

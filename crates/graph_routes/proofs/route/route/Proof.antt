@@ -5,22 +5,22 @@ use native.Mathlib.Omega.{arith}
 use lib.Dec.{T}
 use Rattle.spec_lists.specs.Lists.{within}
 use Rattle.spec_table.specs.Table.{mostBenches, mostJobs}
-use Rattle.spec_lists.proofs.Basics.{within-high}
+use Rattle.spec_lists.proofs.Tests.{within-high}
 use Rattle.table_size.specs.declared.Size.{Size}
 use Rattle.graph_lists.specs.Arrays.{at}
-use Rattle.graph_lists.proofs.Listing.{listed-ways}
+use Rattle.graph_lists.proofs.Listing.{listed-adjacency}
 use Rattle.graph_routes.proofs.Routing.{Nearest, Fallen, nearest, Routing, routing-start, routing-bench, routing-room, routing-turn, routing-end}
 use Rattle.graph_routes.proofs.route.route.Statement.{statement}
 use Rattle.graph_routes.proofs.route.route.Tie as tie
 
 abbrev Inv-loop : tie.InvT-loop
-Inv-loop from to first next dist x path₀ y₀ n₀ path y n = (s : Size) → Fallen s from to dist first next → Routing s from to dist x path y n
+Inv-loop from to head next dist x path₀ y₀ n₀ path y n = (s : Size) → Fallen s from to dist head next → Routing s from to dist x path y n
 
 abbrev μ-loop : tie.MeasureT-loop
-μ-loop from to first next dist x path₀ y₀ n₀ path y n = at dist y
+μ-loop from to head next dist x path₀ y₀ n₀ path y n = at dist y
 
 -- the distances fall along the arcs, and those are listed by the bench that they leave
-fallen : (c : tie.Start Inv-loop μ-loop) → let a = c .args in Fallen (a .s) (a .from .now) (a .to .now) (a .dist .now) (a .first .now) (a .next .now)
+fallen : (c : tie.Start Inv-loop μ-loop) → let a = c .args in Fallen (a .s) (a .from .now) (a .to .now) (a .dist .now) (a .head .now) (a .next .now)
 fallen c = record { limits = c .pre .0; falls = c .pre .1 .1 .1 .0; listed = c .pre .1 .1 .0 }
 
 loop-holds : tie.Need-loop-holds Inv-loop μ-loop
@@ -44,7 +44,7 @@ nearer-requires : tie.Need-nearer-requires Inv-loop μ-loop
 nearer-requires c κs =
     let p = c .before .before .before .pre in
     let l = c .before .before in
-    (listed-ways (p .0) (p .1 .0) (p .1 .1 .0), (bench l, (inv l) .numbered))
+    (listed-adjacency (p .0) (p .1 .0) (p .1 .1 .0), (bench l, (inv l) .numbered))
 
 -- the arc is the smallest that goes nearer ..
 arc : (c : tie.After-nearer Inv-loop μ-loop) → let a = c .before .before .before .before .args in Nearest (a .s .jobs) (a .from .now) (a .to .now) (a .dist .now) (c .before .before .before .loop .y) (c .nearer .result)

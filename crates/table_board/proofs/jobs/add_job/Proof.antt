@@ -3,7 +3,7 @@ use borrow.Author.Needs.{needs}
 use native.Mathlib.Omega.{arith}
 use mathlib.Core.Logic.{inl, inr, ⊎-elim}
 use lib.ListN.{getD}
-use Rattle.table_board.proofs.Boards.{Chosen, chosen-small, add-holds, name-small}
+use Rattle.table_board.proofs.RecordsAsBoard.{PlaceFor, chosen-small, add-holds, name-small}
 use Rattle.table_board.proofs.jobs.add_job.Statement.{statement}
 use Rattle.table_board.proofs.jobs.add_job.Tie as tie
 
@@ -14,7 +14,7 @@ shared-slice-read-second : tie.Need-shared-slice-read-second
 shared-slice-read-second c = search needs
 
 -- the word for the holder is chosen by the first bench
-place : (c : tie.Joined1) → let a = c .before .before .before .before .before .args in Chosen (getD (a .names .now) 0 0) (a .holder) (c .if1 .place)
+place : (c : tie.Joined1) → let a = c .before .before .before .before .before .args in PlaceFor (getD (a .names .now) 0 0) (a .holder) (c .if1 .place)
 place c = ⊎-elim (λ w. inl (w .0 .taken, w .1)) (λ w. inr (w .0 .left, w .1)) (c .if1 .came)
 
 write-record-requires : tie.Need-write-record-requires

@@ -1,6 +1,6 @@
 -- The holder that the board tells is the bench that the record's holder word tells.
 use borrow.Author.Needs.{needs}
-use Rattle.table_board.proofs.Boards.{holder-read}
+use Rattle.table_board.proofs.RecordsAsBoard.{holder-read}
 use Rattle.table_board.proofs.jobs.holder.Statement.{statement}
 use Rattle.table_board.proofs.jobs.holder.Tie as tie
 

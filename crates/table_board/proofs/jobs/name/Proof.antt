@@ -1,5 +1,5 @@
 -- A job names at most two benches, which are the first two of its record.
-use Rattle.table_board.proofs.Boards.{name-of, names-job, name-in, name-first, name-second}
+use Rattle.table_board.proofs.RecordsAsBoard.{name-of, names-job, name-in, name-first, name-second}
 use Rattle.table_board.proofs.jobs.name.Statement.{statement}
 use Rattle.table_board.proofs.jobs.name.Tie as tie
 

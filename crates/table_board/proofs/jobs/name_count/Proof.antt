@@ -5,7 +5,7 @@ use mathlib.Core.Bool.{cond}
 use lib.ListN.{length}
 use Rattle.spec_table.specs.Board.{namesOf}
 use Rattle.spec_table.specs.Table.{decode}
-use Rattle.table_board.proofs.Boards.{names-length}
+use Rattle.table_board.proofs.RecordsAsBoard.{names-length}
 use Rattle.table_board.proofs.jobs.name_count.Statement.{statement}
 use Rattle.table_board.proofs.jobs.name_count.Tie as tie
 

@@ -1,6 +1,6 @@
 -- Four zero words are no job's record.
 use borrow.Author.Needs.{needs}
-use Rattle.table_board.proofs.Boards.{remove-holds}
+use Rattle.table_board.proofs.RecordsAsBoard.{remove-holds}
 use Rattle.table_board.proofs.jobs.remove_job.Statement.{statement}
 use Rattle.table_board.proofs.jobs.remove_job.Tie as tie
 

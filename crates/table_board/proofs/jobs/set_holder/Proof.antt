@@ -2,10 +2,10 @@
 use borrow.Author.Needs.{needs}
 use Rattle.spec_table.specs.Board.{namesOf}
 use Rattle.spec_table.specs.Table.{decode}
-use Rattle.spec_lists.proofs.Basics.{member-in}
+use Rattle.spec_lists.proofs.NumberLists.{member-in}
 use Rattle.table_size.specs.Sizes.{JobIn}
 use mathlib.Core.Logic.{inl, inr, ⊎-elim}
-use Rattle.table_board.proofs.Boards.{names-job, Chosen, chosen-small, hand-word}
+use Rattle.table_board.proofs.RecordsAsBoard.{names-job, PlaceFor, chosen-small, hand-word}
 use Rattle.table_board.proofs.jobs.set_holder.Statement.{statement}
 use Rattle.table_board.proofs.jobs.set_holder.Tie as tie
 
@@ -19,7 +19,7 @@ read-record-requires : tie.Need-read-record-requires
 read-record-requires c κs = (c .before .before .pre .0 .size, job (c .before))
 
 -- the word for the holder is chosen by the record's first bench
-place : (c : tie.Joined1) → Chosen (c .before .before .read-record .result .first) (c .before .before .before .before .before .args .x) (c .if1 .place)
+place : (c : tie.Joined1) → PlaceFor (c .before .before .read-record .result .first) (c .before .before .before .before .before .args .x) (c .if1 .place)
 place c = ⊎-elim (λ w. inl (w .0 .taken, w .1)) (λ w. inr (w .0 .left, w .1)) (c .if1 .came)
 
 write-holder-requires : tie.Need-write-holder-requires

@@ -1,6 +1,6 @@
 -- A job stands exactly if its record's first bench is not 0.
 use borrow.Author.Needs.{needs}
-use Rattle.table_board.proofs.Boards.{stands-first}
+use Rattle.table_board.proofs.RecordsAsBoard.{stands-first}
 use Rattle.table_board.proofs.jobs.stands.Statement.{statement}
 use Rattle.table_board.proofs.jobs.stands.Tie as tie
 

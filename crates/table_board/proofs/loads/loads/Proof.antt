@@ -6,7 +6,7 @@ use mathlib.Core.Path.{_≡_, sym, _∙_}
 use lib.ListN.{length}
 use borrow.Author.Needs.{needs}
 use Rattle.spec_table.specs.Table.{mostBenches, decode}
-use Rattle.table_board.proofs.Counts.{Counted, count-start, count-turn, count-end, count-few, holders-long}
+use Rattle.table_board.proofs.LoadCounts.{Counted, count-start, count-turn, count-end, count-few, holders-long}
 use Rattle.table_board.proofs.loads.loads.Statement.{statement}
 use Rattle.table_board.proofs.loads.loads.Tie as tie
 

@@ -1,4 +1,4 @@
--- The bytes cleared are the words of the heads, by `laid-cleared`.
+-- The bytes cleared are the words of the heads, by `has-layout-cleared`.
 use Prim.Native.Nat.{ℕ, _+_, _*_, _-_}
 use native.Mathlib.Omega.{arith}
 use mathlib.Core.Path.{_≡_}
@@ -6,19 +6,19 @@ use mathlib.Core.List.{List, _++_}
 use lib.ListN.{length, take, drop, replicate, length-drop}
 use lib.Seq.{length-take-le, drop-drop}
 use borrow.Author.Needs.{needs}
-use Rattle.table_words.specs.Bytes.{laid}
+use Rattle.table_words.specs.Bytes.{layoutIn}
 use Rattle.table_size.specs.Sizes.{SizeOf}
-use Rattle.table_size.specs.Written.{Laid, cleared}
+use Rattle.table_size.specs.Written.{HasLayout, cleared}
 use Rattle.table_size.specs.declared.Size.{Size}
-use Rattle.table_size.proofs.Written.{laid-cleared}
+use Rattle.table_size.proofs.Written.{has-layout-cleared}
 use Rattle.table_header.proofs.heads.clear_heads.Statement.{statement}
 use Rattle.table_header.proofs.heads.clear_heads.Tie as tie
 
 -- zeros in the place of the k bytes from byte 8 on
-part : (t zeros : List ℕ) (s : Size) (k : ℕ) → SizeOf t s → k ≡ 2 * s .benches → zeros ≡ replicate (length (take k (drop 8 t))) 0 → Laid (take 8 t ++ (zeros ++ drop k (drop 8 t))) s (cleared (laid t))
+part : (t zeros : List ℕ) (s : Size) (k : ℕ) → SizeOf t s → k ≡ 2 * s .benches → zeros ≡ replicate (length (take k (drop 8 t))) 0 → HasLayout (take 8 t ++ (zeros ++ drop k (drop 8 t))) s (cleared (layoutIn t))
 part t zeros s k z q e =
     let n : length (take k (drop 8 t)) ≡ k = length-take-le k (drop 8 t) (omega (arith, z .long, length-drop 8 t)) in
-    rw (e, n, drop-drop k 8 t, q) (laid-cleared t s z)
+    rw (e, n, drop-drop k 8 t, q) (has-layout-cleared t s z)
 
 benches-requires : tie.Need-benches-requires
 benches-requires c κs = search needs

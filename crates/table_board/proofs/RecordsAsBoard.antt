@@ -1,0 +1,288 @@
+-- Records and the board that they hold.
+use Prim.Native.Nat.{ℕ, _≤_, _<_}
+use native.Mathlib.Omega.{arith}
+use mathlib.Core.Path.{_≡_, refl, sym, ap, _∙_, subst}
+use mathlib.Core.Logic.{_⊎_, inl, inr, _≢_}
+use mathlib.Core.Bool.{Bool, true, false, cond, not}
+use mathlib.Core.List.{List, [], _∷_, _++_}
+use lib.Dec.{T, eqb}
+use lib.ListN.{length, getD}
+use borrow.Author.Tests.{eq-eqb, ne-eqb}
+use Rattle.spec_lists.specs.Lists.{member, Each, In, empty, nth, update}
+use Rattle.spec_table.specs.Board.{Board, namesOf, holderOf, stands, put, heldBy, mayHold, namesFit}
+use Rattle.spec_table.specs.Table.{words, Entry, vacant, filled, holderIn, entryWords, positionOf, entryFor, boardOf, decode, paired, entryFits, Storable}
+use Rattle.spec_lists.proofs.Tests.{cond-le, T-eqb, within-low, within-high, within-both}
+use Rattle.spec_lists.proofs.Elements.{not-empty, two-elements, each-nth, in-getD, in-nth, nth-within, nth-map, map-update, update-same}
+use Rattle.spec_lists.proofs.NumberLists.{member-in}
+use Rattle.spec_table.proofs.Named.{fit-bench, changed-storable}
+use Rattle.spec_sharing.proofs.Paths.{named-may, holder-bench, stands-within, named-stands, named-bench}
+use Rattle.spec_sharing.proofs.Flip.{put-valid}
+use Rattle.spec_table.proofs.Layouts.{holds-entry, holder-entry}
+use Rattle.spec_table.proofs.Clauses.{vacant-words}
+use Rattle.spec_table.proofs.Sound.{namesIn, two-paired, entry-tests, layout-pairs, TwoBenches, two-benches, holder-within, holder-record}
+use Rattle.table_words.specs.Bytes.{layoutIn}
+use Rattle.table_size.specs.Sizes.{Limits, JobIn, SoundTable, SizeOf}
+use Rattle.table_size.specs.Written.{recordIn, withHolder, withEntry, HasLayout}
+use Rattle.table_records.specs.Records.{entryOf, RecordOf}
+use Rattle.table_size.proofs.Sizes.{board-job, board-bench}
+use Rattle.table_records.specs.declared.Record.{Record}
+use Rattle.table_board.specs.BoardView.{Position, NameOf, HoldsBoard, Holds, Fillable, HolderOf}
+use Rattle.table_size.specs.declared.Size.{Size}
+
+-- a sound table's records hold its board
+pub sound-holds-board : (t : List ℕ) (s : Size) → SoundTable t s → HoldsBoard t s
+sound-holds-board t s z = record { size = z .size; storable = z .storable }
+
+-- a standing job's number is one of 1 to J ..
+pub stands-job : (t : List ℕ) (s : Size) (j : ℕ) → SizeOf t s → T (stands (decode t) j) → JobIn s j
+stands-job t s j z p = board-job j z (stands-within (decode t) j p)
+
+-- .. so is one of a job that names a bench
+pub names-job : (t : List ℕ) (s : Size) (j x : ℕ) → SizeOf t s → In x (namesOf (decode t) j) → JobIn s j
+names-job t s j x z i = stands-job t s j z (named-stands (decode t) j x i)
+
+-- the k-th name is one
+pub name-in : (t : List ℕ) (j k : ℕ) → Position (namesOf (decode t) j) k → In (nth (namesOf (decode t) j) k 0) (namesOf (decode t) j)
+name-in t j k l = in-nth (namesOf (decode t) j) k 0 (l .least) (l .most)
+
+-- it is a bench
+pub name-of : (t : List ℕ) (s : Size) (j k x : ℕ) → HoldsBoard t s → Position (namesOf (decode t) j) k → x ≡ nth (namesOf (decode t) j) k 0 → NameOf t s j k x
+name-of t s j k x z l e =
+    let i : In x (namesOf (decode t) j) = rw e (name-in t j k l) in
+    record { value = e; named = i; bench = board-bench x (z .size) (named-bench (decode t) (z .storable .valid) j x i) }
+
+-- one record
+
+-- every record has two words for benches
+record-pair : (t : List ℕ) (j : ℕ) → length ((recordIn t j) .names) ≡ 2
+record-pair t j = each-nth (λ (e : Entry). length (e .names) ≡ 2) ((layoutIn t) .entries) j vacant refl (layout-pairs (words t))
+
+-- what the board says of job j is what its record says
+pub names-record : (t : List ℕ) (j : ℕ) → let e = nth ((layoutIn t) .entries) j vacant in namesOf (decode t) j ≡ cond (filled e) (e .names) []
+unfolding decode boardOf
+names-record t j = nth-map namesIn ((layoutIn t) .entries) j vacant
+
+-- a job that names a bench names those of its record
+named-record : (t : List ℕ) (j x : ℕ) → In x (namesOf (decode t) j) → namesOf (decode t) j ≡ (recordIn t j) .names
+named-record t j x i = go (filled (recordIn t j)) (names-record t j)
+  where
+    go : (z : Bool) → namesOf (decode t) j ≡ cond z ((recordIn t j) .names) [] → namesOf (decode t) j ≡ (recordIn t j) .names
+    go true q = q
+    go false q = absurd (rw q at i)
+
+-- the benches that a job of a board that is kept names are different ones of 1 to B
+names-fit : (t : List ℕ) (s : Size) (j : ℕ) → HoldsBoard t s → T (namesFit (s .benches) (namesOf (decode t) j))
+names-fit t s j k =
+    let b = decode t in
+    let f = each-nth (λ names. T (namesFit (b .benches) names)) (b .named) j [] tt (k .storable .valid .names) in
+    rw (k .size .board-benches) at f
+
+-- "A job number that is not standing has four zero words"
+zero-vacant : (e : Entry) → length (e .names) ≡ 2 → Each (λ w. w ≡ 0) (entryWords e) → e ≡ vacant
+zero-vacant e two z =
+    let n = two-elements (e .names) two in
+    let w : Each (λ w. w ≡ 0) ((n .0 ∷ n .1 ∷ []) ++ (e .holder ∷ e .next ∷ [])) = rw (n .2) at z in
+    let names : e .names ≡ 0 ∷ 0 ∷ [] = n .2 ∙ (λ i. w .0 i ∷ w .1 .0 i ∷ []) in
+    λ i. record { names = names i; holder = w .1 .1 .0 i; next = w .1 .1 .1 .0 i }
+
+-- a standing job's record: it is filled, and names two benches
+pub record Standing (benches : ℕ) (e : Entry) : Type 0 where
+  pub is-filled : filled e ≡ true
+  pub benches-two : TwoBenches benches e
+
+-- a record of a board that is kept: no job's, all words zero, or a standing job's
+pub holds-record : (t : List ℕ) (s : Size) (j : ℕ) → HoldsBoard t s → (nth ((layoutIn t) .entries) j vacant ≡ vacant) ⊎ Standing (s .benches) (nth ((layoutIn t) .entries) j vacant)
+holds-record t s j k = go (filled e) refl
+  where
+    b : Board
+    b = decode t
+
+    e : Entry
+    e = recordIn t j
+
+    fits : namesOf b j ≡ e .names → T (entryFits (s .benches) e)
+    fits named =
+        let fit = names-fit t s j k in
+        let stood : T (stands b j) = rw named (not-empty (e .names) (λ d. omega (arith, record-pair t j, ap length d))) in
+        let bench = holder-bench b (k .storable .valid) j stood in
+        let place = nth-within (e .names) (e .holder) 0 (λ d. omega (arith, within-low 1 (b .benches) (holderOf b j) bench, holder-record t j)) in
+        (entry-tests (s .benches) e) .1 (rw named at fit, within-both 1 (length (e .names)) (e .holder) (place .0) (place .1))
+
+    go : (z : Bool) → filled e ≡ z → (e ≡ vacant) ⊎ Standing (s .benches) e
+    go true q =
+        let named = names-record t j ∙ ap (λ z. cond z (e .names) []) q in
+        inr (record { is-filled = q; benches-two = two-benches (s .benches) e (record-pair t j) (fits named) })
+    go false q = inl (zero-vacant e (record-pair t j) (vacant-words e q))
+
+-- one job
+
+-- no job is held by a bench above B
+pub holder-most : (t : List ℕ) (s : Size) (j : ℕ) → HoldsBoard t s → holderOf (decode t) j ≤ s .benches
+holder-most t s j k = rw (holder-record t j) (go (holds-record t s j k))
+  where
+    go : (recordIn t j ≡ vacant) ⊎ Standing (s .benches) (recordIn t j) → holderIn (recordIn t j) ≤ s .benches
+    go (inl q) = rw q (omega arith)
+    go (inr r) = holder-within (s .benches) (recordIn t j) (r .benches-two) .1
+
+-- a job stands exactly if it has a holder
+pub stands-held : (t : List ℕ) (s : Size) (j : ℕ) → HoldsBoard t s → stands (decode t) j ≡ not (eqb (holderOf (decode t) j) 0)
+stands-held t s j k = rw (holder-record t j, names-record t j) (go (holds-record t s j k))
+  where
+    e : Entry
+    e = recordIn t j
+
+    go : (e ≡ vacant) ⊎ Standing (s .benches) e → not (empty (namesIn e)) ≡ not (eqb (holderIn e) 0)
+    go (inl q) = rw q refl
+    go (inr r) =
+        let b = holder-within (s .benches) e (r .benches-two) in
+        rw (ne-eqb (holderIn e) 0 (λ d. omega arith), r .is-filled, r .benches-two .names) refl
+
+-- a standing job names two benches, any other number none
+pub names-length : (t : List ℕ) (s : Size) (j : ℕ) → HoldsBoard t s → length (namesOf (decode t) j) ≡ cond (stands (decode t) j) 2 0
+names-length t s j k = two (namesOf (decode t) j) (each-nth (λ names. T (paired names)) ((decode t) .named) j [] tt (k .storable .pairs))
+  where
+    two : (names : List ℕ) → T (paired names) → length names ≡ cond (not (empty names)) 2 0
+    two [] p = refl
+    two (x ∷ names) p = T-eqb (length (x ∷ names)) 2 p
+
+-- so it names at most two
+pub names-most : (t : List ℕ) (s : Size) (j : ℕ) → HoldsBoard t s → length (namesOf (decode t) j) ≤ 2
+names-most t s j k = rw (names-length t s j k) (cond-le (stands (decode t) j) 2 0 2 (omega arith) (omega arith))
+
+-- a record written anew
+
+-- another record of job j is what it says of the job, put on the board ..
+written-board : (t u : List ℕ) (s : Size) (j : ℕ) (e : Entry) → HasLayout u s (withEntry (layoutIn t) j e) → decode u ≡ put (decode t) j (cond (filled e) (e .names) []) (holderIn e)
+unfolding decode boardOf
+written-board t u s j e l =
+    let es = (layoutIn t) .entries in
+    ap boardOf (l .layout)
+    ∙ (λ i. record { benches = (layoutIn t) .benches; named = map-update namesIn es j e i; holders = map-update holderIn es j e i })
+
+-- .. and the board is kept if a record can hold that
+written-holds : (t u : List ℕ) (s : Size) (j : ℕ) (e : Entry) (names : List ℕ) (h : ℕ) → HoldsBoard t s → HasLayout u s (withEntry (layoutIn t) j e) → cond (filled e) (e .names) [] ≡ names → holderIn e ≡ h → T (namesFit (s .benches) names) → T (mayHold names h) → T (paired names) → Holds u s (put (decode t) j names h)
+written-holds t u s j e names h k l n d fit may pair = record { holdsBoard = record { size = l .size; storable = rw board stored }; board = board }
+  where
+    b : Board
+    b = decode t
+
+    board : decode u ≡ put b j names h
+    board = written-board t u s j e l ∙ (λ i. put b j (n i) (d i))
+
+    stored : Storable (put b j names h)
+    stored =
+        changed-storable b (put b j names h) j names (k .storable) pair (put-valid b (k .storable .valid) j names h (rw (k .size .board-benches) fit) may) refl refl
+
+-- a record written anew is a job put on the board ..
+pub put-holds : (t u : List ℕ) (s : Size) (j : ℕ) (names : List ℕ) (h n : ℕ) → HoldsBoard t s → Fillable s j names h → HasLayout u s (withEntry (layoutIn t) j (entryFor names h n)) → Holds u s (put (decode t) j names h)
+put-holds t u s j names h n k f l =
+    let may = named-may names h (member-in h names (f .held)) in
+    written-holds t u s j (entryFor names h n) names h k l (holds-entry (s .benches) names h n (f .fit)) (holder-entry names h n may) (f .fit) may (two-paired names (f .pair))
+
+-- .. an emptied one a job taken away ..
+pub remove-holds : (t u : List ℕ) (s : Size) (j : ℕ) → HoldsBoard t s → JobIn s j → HasLayout u s (withEntry (layoutIn t) j vacant) → Holds u s (put (decode t) j [] 0)
+remove-holds t u s j k i l = written-holds t u s j vacant [] 0 k l refl refl tt tt tt
+
+-- .. and another holder word the same job held otherwise
+pub hand-holds : (t u : List ℕ) (s : Size) (j x : ℕ) → HoldsBoard t s → JobIn s j → T (member x (namesOf (decode t) j)) → let e = nth ((layoutIn t) .entries) j vacant in HasLayout u s (withEntry (layoutIn t) j (record { names = e .names; holder = positionOf x (e .names); next = e .next })) → Holds u s (heldBy (decode t) (update ((decode t) .holders) j x))
+hand-holds t u s j x k i m l = subst (Holds u s) same-names (put-holds t u s j (e .names) x (e .next) k fill (entry (e .names) (record-pair t j) l))
+  where
+    b : Board
+    b = decode t
+
+    e : Entry
+    e = nth ((layoutIn t) .entries) j vacant
+
+    named : namesOf b j ≡ e .names
+    named = named-record t j x (member-in x (namesOf b j) m)
+
+    fill : Fillable s j (e .names) x
+    fill = let fit = names-fit t s j k in record { job = i; pair = record-pair t j; fit = rw named at fit; held = rw named at m }
+
+    entry : (names : List ℕ) → length names ≡ 2 → HasLayout u s (withEntry (layoutIn t) j (record { names = names; holder = positionOf x names; next = e .next })) → HasLayout u s (withEntry (layoutIn t) j (entryFor names x (e .next)))
+    entry [] two l = absurd (omega arith)
+    entry (a ∷ names) two l = l
+
+    same-names : put b j (e .names) x ≡ heldBy b (update (b .holders) j x)
+    same-names =
+        let back : update (b .named) j (e .names) ≡ b .named = ap (update (b .named) j) (sym named) ∙ update-same (b .named) j [] in
+        λ i. record { benches = b .benches; named = back i; holders = update (b .holders) j x }
+
+-- as the code chooses the holder word of a job that h holds: p is 1 if the first bench a is h, else 2
+abbrev pub PlaceFor : ℕ → ℕ → ℕ → Type 0
+PlaceFor a h p = ((a ≡ h) × (p ≡ 1)) ⊎ ((a ≡ h → ⊥) × (p ≡ 2))
+
+-- it is a word
+pub chosen-small : (a h p : ℕ) → PlaceFor a h p → p < 65536
+chosen-small a h p (inl c) = omega (arith, c .1)
+chosen-small a h p (inr c) = omega (arith, c .1)
+
+-- and the holder's place
+chosen-place : (a b h p : ℕ) → PlaceFor a h p → In h (a ∷ b ∷ []) → p ≡ positionOf h (a ∷ b ∷ [])
+chosen-place a b h p (inl c) i = rw (c .1, eq-eqb a h (c .0)) refl
+chosen-place a b h p (inr c) (inl e) = absurd (c .0 (sym e))
+chosen-place a b h p (inr c) (inr (inl e)) = rw (c .1, ne-eqb a h (c .0), eq-eqb b h (sym e)) refl
+chosen-place a b h p (inr c) (inr (inr i)) = absurd i
+
+-- a job put on the board as the code writes its record
+pub add-holds : (t u : List ℕ) (s : Size) (j : ℕ) (names : List ℕ) (h p : ℕ) → HoldsBoard t s → Fillable s j names h → PlaceFor (getD names 0 0) h p → HasLayout u s (withEntry (layoutIn t) j (record { names = getD names 0 0 ∷ getD names 1 0 ∷ []; holder = p; next = 0 })) → Holds u s (put (decode t) j names h)
+add-holds t u s j names h p k f c l = put-holds t u s j names h 0 k f (subst (λ e. HasLayout u s (withEntry (layoutIn t) j e)) entry l)
+  where
+    entry : _≡_ {A = Entry} (record { names = getD names 0 0 ∷ getD names 1 0 ∷ []; holder = p; next = 0 }) (entryFor names h 0)
+    entry =
+        let n = two-elements names (f .pair) in
+        let i = member-in h names (f .held) in
+        let place = chosen-place (n .0) (n .1) h p (rw (n .2) at c) (rw (n .2) at i) in
+        rw (n .2) (λ k. record { names = n .0 ∷ n .1 ∷ []; holder = place k; next = 0 })
+
+-- its benches are words
+pub name-small : (s : Size) (j : ℕ) (names : List ℕ) (h i : ℕ) → Limits s → Fillable s j names h → i < 2 → getD names i 0 < 65536
+name-small s j names h i z f l =
+    let w = fit-bench (s .benches) names (getD names i 0) (f .fit) (in-getD names i 0 (omega (arith, f .pair))) in
+    omega (arith, within-high 1 (s .benches) (getD names i 0) w, z .benches-most)
+
+-- a record that was read
+
+-- the bench that the holder word tells holds the job
+pub holder-read : (t : List ℕ) (s : Size) (j x : ℕ) → HoldsBoard t s → x ≡ holderIn (recordIn t j) → HolderOf t s j x
+holder-read t s j x k e = let value = e ∙ sym (holder-record t j) in record { value = value; most = omega (arith, value, holder-most t s j k) }
+
+-- a job stands exactly if its record's first bench is not 0
+pub stands-first : (t : List ℕ) (s : Size) (j : ℕ) (r : Record) → HoldsBoard t s → RecordOf t j r → not (eqb (r .first) 0) ≡ stands (decode t) j
+stands-first t s j r k f = ap (λ (e : Entry). not (eqb (getD (e .names) 0 0) 0)) (f .entry) ∙ go (holds-record t s j k)
+  where
+    e : Entry
+    e = nth ((layoutIn t) .entries) j vacant
+
+    go : (e ≡ vacant) ⊎ Standing (s .benches) e → not (eqb (getD (e .names) 0 0) 0) ≡ stands (decode t) j
+    go (inl q) = rw (names-record t j, q) refl
+    go (inr r) =
+        let z = r .benches-two in
+        rw (names-record t j, r .is-filled, z .names, ne-eqb (z .first) 0 (λ d. omega (arith, z .first-bench))) refl
+
+-- the benches that a job names are its record's, if it names any
+names-read : (t : List ℕ) (j x : ℕ) (r : Record) → RecordOf t j r → In x (namesOf (decode t) j) → namesOf (decode t) j ≡ (entryOf r) .names
+names-read t j x r f i = named-record t j x i ∙ ap (λ (e : Entry). e .names) (sym (f .entry))
+
+-- the first-named ..
+pub name-first : (t : List ℕ) (j n : ℕ) (r : Record) → RecordOf t j r → 1 ≤ n → n ≤ length (namesOf (decode t) j) → n ≡ 1 → r .first ≡ nth (namesOf (decode t) j) n 0
+name-first t j n r f low high e =
+    let names = namesOf (decode t) j in
+    rw (names-read t j (nth names n 0) r f (in-nth names n 0 low high), e) refl
+
+-- .. and the second-named bench
+pub name-second : (t : List ℕ) (s : Size) (j n : ℕ) (r : Record) → HoldsBoard t s → RecordOf t j r → 1 ≤ n → n ≤ length (namesOf (decode t) j) → n ≢ 1 → r .second ≡ nth (namesOf (decode t) j) n 0
+name-second t s j n r k f low high d =
+    let names = namesOf (decode t) j in
+    let two : n ≡ 2 = omega (arith, names-most t s j k) in
+    rw (names-read t j (nth names n 0) r f (in-nth names n 0 low high), two) refl
+
+-- the holder word written anew gives the job to x
+pub hand-word : (t u : List ℕ) (s : Size) (j x p : ℕ) (r : Record) → HoldsBoard t s → JobIn s j → T (member x (namesOf (decode t) j)) → RecordOf t j r → PlaceFor (r .first) x p → HasLayout u s (withEntry (layoutIn t) j (withHolder (nth ((layoutIn t) .entries) j vacant) p)) → Holds u s (heldBy (decode t) (update ((decode t) .holders) j x))
+hand-word t u s j x p r k i m f c l = hand-holds t u s j x k i m (rw (sym place) l)
+  where
+    named : In x ((entryOf r) .names)
+    named = let n = member-in x (namesOf (decode t) j) m in subst (In x) (names-read t j x r f n) n
+
+    place : p ≡ positionOf x ((recordIn t j) .names)
+    place = chosen-place (r .first) (r .second) x p c named ∙ ap (λ (e : Entry). positionOf x (e .names)) (f .entry)
