@@ -1,5 +1,6 @@
 // What the calls answer.
 ghost use mathlib.Core.Path.{_≡_};
+ghost use mathlib.Core.List.{[], _∷_};
 ghost use lib.ListN.{drop};
 ghost use Rattle.spec_lists.specs.Lists.{nth};
 ghost use Rattle.spec_calls.specs.Answers.{inNumbers};
@@ -27,7 +28,7 @@ pub enum Answer {
     Stopped(u32),
 }
 
-// The values of an answer: the first `count` of them count.
+// Up to three numbers, of an answer or of a command: the first `count` of them count.
 pub struct Values {
     pub count: usize,
     pub first: usize,
@@ -46,6 +47,27 @@ impl Values {
             second,
             third,
         }
+    }
+
+    // Holds none.
+    pub fn none() -> Values
+        ensures { λ r. ⌜ valuesOf r ≡ [] ⌝ }
+    {
+        Values::new(0, 0, 0, 0)
+    }
+
+    // Holds one.
+    pub fn one(first: usize) -> Values
+        ensures { λ r. ⌜ valuesOf r ≡ first ∷ [] ⌝ }
+    {
+        Values::new(1, first, 0, 0)
+    }
+
+    // Holds two.
+    pub fn two(first: usize, second: usize) -> Values
+        ensures { λ r. ⌜ valuesOf r ≡ first ∷ second ∷ [] ⌝ }
+    {
+        Values::new(2, first, second, 0)
     }
 
     // Gives value k, counted from 1; `lent` where there is none.

@@ -5,6 +5,7 @@ ghost use Rattle.spec_counter.specs.Counter.{takeIn, closeJob, setTable, askTig
 ghost use Rattle.counter_answer_lines.specs.AnswerLines.{lineMost};
 ghost use Rattle.counter_state.specs.State.{Room, counterOf};
 ghost use Rattle.counter_perform.specs.Performed.{Performs};
+use board_answers::Values;
 use board_tally::Tally;
 use counter_state::Counter;
 use counter_state::Reply;
@@ -34,7 +35,7 @@ pub fn set_table(
             counter_state::write_answer(
                 Counter { length, tally },
                 b'B',
-                counter_state::two(benches, jobs),
+                Values::two(benches, jobs),
                 a,
                 out,
                 at,
@@ -59,7 +60,7 @@ pub fn take_in(
 {
     let length = c.length;
     let a = board_changes::arrival(&mut bytes[..length], job, first, second);
-    counter_state::write_answer(c.noted(a), b'A', counter_state::one(job), a, out, at)
+    counter_state::write_answer(c.noted(a), b'A', Values::one(job), a, out, at)
 }
 
 // Performs "D job", and prints "D job, bench that fell, moved".
@@ -70,7 +71,7 @@ pub fn close_job(c: Counter, job: usize, bytes: &mut [u8], out: &mut [u8], at: u
 {
     let length = c.length;
     let a = board_changes::closing(&mut bytes[..length], job);
-    counter_state::write_answer(c.noted(a), b'D', counter_state::one(job), a, out, at)
+    counter_state::write_answer(c.noted(a), b'D', Values::one(job), a, out, at)
 }
 
 // Performs "S height", and prints "S height, benches, inside jobs, then the benches".
@@ -82,7 +83,7 @@ pub fn ask_tight_set(c: Counter, height: usize, bytes: &[u8], out: &mut [u8], at
     let length = c.length;
     let mut list = counter_state::zero_list();
     let a = board_questions::tight_set(&bytes[..length], height, &mut list);
-    let next = counter_answer_lines::listing(out, at, b'S', counter_state::one(height), a, &list);
+    let next = counter_answer_lines::listing(out, at, b'S', Values::one(height), a, &list);
     Reply {
         counter: c,
         at: next,
@@ -97,5 +98,5 @@ pub fn ask_heaviest(c: Counter, bytes: &[u8], out: &mut [u8], at: usize) -> Repl
 {
     let length = c.length;
     let a = board_questions::heaviest(&bytes[..length]);
-    counter_state::write_answer(c, b'H', counter_state::none(), a, out, at)
+    counter_state::write_answer(c, b'H', Values::none(), a, out, at)
 }

@@ -1,4 +1,4 @@
--- What the counter program keeps, and a line that it tells, in the words of `Rattle.spec_counter.specs.Counter`.
+-- What the counter program keeps, and a line that it prints, in the words of `Rattle.spec_counter.specs.Counter`.
 use Prim.Native.Nat.{ℕ, _+_, _≤_}
 use mathlib.Core.Path.{_≡_}
 use mathlib.Core.List.{List}

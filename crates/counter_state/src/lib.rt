@@ -1,6 +1,6 @@
-// What the counter program keeps, and a line that it tells.
+// What the counter program keeps, and a line that it prints.
 ghost use mathlib.Core.Path.{_≡_};
-ghost use mathlib.Core.List.{List, [], _∷_};
+ghost use mathlib.Core.List.{List, []};
 ghost use Prim.Native.Nat.{ℕ, _+_, _≤_};
 ghost use lib.ListN.{length};
 ghost use Rattle.spec_calls.specs.Answers.{refusalNumber};
@@ -55,42 +55,6 @@ impl Counter {
             length: self.length,
             tally,
         }
-    }
-}
-
-// No number of a command.
-pub fn none() -> Values
-    ensures { λ r. ⌜ valuesOf r ≡ [] ⌝ }
-{
-    Values {
-        count: 0,
-        first: 0,
-        second: 0,
-        third: 0,
-    }
-}
-
-// One number of a command.
-pub fn one(n: usize) -> Values
-    ensures { λ r. ⌜ valuesOf r ≡ n ∷ [] ⌝ }
-{
-    Values {
-        count: 1,
-        first: n,
-        second: 0,
-        third: 0,
-    }
-}
-
-// Two numbers of a command.
-pub fn two(n: usize, m: usize) -> Values
-    ensures { λ r. ⌜ valuesOf r ≡ n ∷ m ∷ [] ⌝ }
-{
-    Values {
-        count: 2,
-        first: n,
-        second: m,
-        third: 0,
     }
 }
 

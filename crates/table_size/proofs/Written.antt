@@ -13,7 +13,7 @@ use Rattle.spec_table.proofs.Words.{words-append}
 use Rattle.spec_table.proofs.Places.{two-more, length-words, entryFrom, head-at, entry-at}
 use Rattle.table_words.specs.Bytes.{IsWord, setWord, layoutIn}
 use Rattle.table_size.specs.Sizes.{SizeOf, JobIn, BenchIn}
-use Rattle.table_size.specs.Written.{HeadOf, withNext, withHead, cleared, withEntry, withStanding, HasLayout}
+use Rattle.table_size.specs.Written.{withWord, HeadOf, withHead, cleared, withEntry, withStanding, HasLayout}
 use Rattle.table_size.specs.declared.Size.{Size}
 use Rattle.table_words.proofs.Bytes.{words-setWord, length-setWord, zero-bytes}
 use Rattle.table_size.proofs.Sizes.{size-kept, words-long, entries-long}
@@ -73,13 +73,6 @@ has-layout-head t s (suc i) j z b w =
 
 -- records
 
--- a record with another word at place k: 0 and 1 are the names, 2 the holder, 3 the next job
-abbrev withWord : ℕ → ℕ → Entry → Entry
-withWord zero w e = record { names = set (e .names) 0 w; holder = e .holder; next = e .next }
-withWord (suc zero) w e = record { names = set (e .names) 1 w; holder = e .holder; next = e .next }
-withWord (suc (suc zero)) w e = record { names = e .names; holder = w; next = e .next }
-withWord (suc (suc (suc k))) w e = withNext e w
-
 -- word k of the record at place i
 entriesIn-word : (ws : List ℕ) (i k w : ℕ) → k < 4 → 4 * i + 4 ≤ length ws → entriesIn (set ws (4 * i + k) w) ≡ set (entriesIn ws) i (withWord k w (getD (entriesIn ws) i vacant))
 entriesIn-word [] i k w p l = absurd (omega arith)
@@ -114,7 +107,7 @@ pub record-words : (t : List ℕ) (s : Size) (j : ℕ) → SizeOf t s → JobIn 
 record-words t s j z i = rw (sym (z .benches)) (entry-at (words t) j (i .least) (omega (arith, words-long t s z, z .benches, i .most)))
 
 -- word k of job j's record written ..
-has-layout-word : (t : List ℕ) (s : Size) (j k w : ℕ) → SizeOf t s → JobIn s j → k < 4 → w < 65536 → HasLayout (setWord t (s .benches + 4 * j + k) w) s (withEntry (layoutIn t) j (withWord k w (nth ((layoutIn t) .entries) j vacant)))
+pub has-layout-word : (t : List ℕ) (s : Size) (j k w : ℕ) → SizeOf t s → JobIn s j → k < 4 → w < 65536 → HasLayout (setWord t (s .benches + 4 * j + k) w) s (withEntry (layoutIn t) j (withWord k w (nth ((layoutIn t) .entries) j vacant)))
 has-layout-word t s j k w z i p small =
     let l : Layout = withEntry (layoutIn t) j (withWord k w (nth ((layoutIn t) .entries) j vacant)) in
     let e = layout-word (words t) j k w (i .least) p (omega (arith, words-long t s z, z .benches, i .most)) in
@@ -146,14 +139,6 @@ has-layout-entry t s j a b h n z i wa wb wh wn =
     let r2 = has-layout-again t1 s l j 2 h (withWord 1 b (withWord 0 a old)) r1 i m (omega arith) wh in
     let r3 = has-layout-again t2 s l j 3 n (withWord 2 h (withWord 1 b (withWord 0 a old))) r2 i m (omega arith) wn in
     subst (λ (e : Entry). HasLayout t3 s (withEntry l j (withWord 3 n (withWord 2 h (withWord 1 b (withWord 0 a e)))))) (record-words t s j z i) r3
-
--- the holder word alone ..
-pub has-layout-holder : (t : List ℕ) (s : Size) (j h : ℕ) → SizeOf t s → JobIn s j → h < 65536 → let e = nth ((layoutIn t) .entries) j vacant in HasLayout (setWord t (s .benches + 4 * j + 2) h) s (withEntry (layoutIn t) j (record { names = e .names; holder = h; next = e .next }))
-has-layout-holder t s j h z i w = has-layout-word t s j 2 h z i (omega arith) w
-
--- .. and the next word alone
-pub has-layout-next : (t : List ℕ) (s : Size) (j n : ℕ) → SizeOf t s → JobIn s j → n < 65536 → HasLayout (setWord t (s .benches + 4 * j + 3) n) s (withEntry (layoutIn t) j (withNext (nth ((layoutIn t) .entries) j vacant) n))
-has-layout-next t s j n z i w = has-layout-word t s j 3 n z i (omega arith) w
 
 -- the number of standing jobs
 

@@ -1,8 +1,8 @@
 -- The layout with one part of it written anew.
-use Prim.Native.Nat.{ℕ, _<_}
+use Prim.Native.Nat.{ℕ, zero, suc, _<_}
 use mathlib.Core.Path.{_≡_}
 use mathlib.Core.List.{List}
-use lib.ListN.{replicate}
+use lib.ListN.{set, replicate}
 use Rattle.table_size.specs.declared.Size.{Size}
 use Rattle.spec_lists.specs.Lists.{nth, update}
 use Rattle.table_size.specs.Sizes.{SizeOf}
@@ -17,6 +17,13 @@ recordIn t j = nth ((layoutIn t) .entries) j vacant
 pub record HeadOf (t : List ℕ) (x j : ℕ) : Type 0 where
   pub head : j ≡ nth ((layoutIn t) .heads) x 0
   pub small : j < 65536
+
+-- a record with another word at place k: 0 and 1 are the names, 2 the holder, 3 the next job
+abbrev pub withWord : ℕ → ℕ → Entry → Entry
+withWord zero w e = record { names = set (e .names) 0 w; holder = e .holder; next = e .next }
+withWord (suc zero) w e = record { names = set (e .names) 1 w; holder = e .holder; next = e .next }
+withWord (suc (suc zero)) w e = record { names = e .names; holder = w; next = e .next }
+withWord (suc (suc (suc k))) w e = record { names = e .names; holder = e .holder; next = w }
 
 -- a record with another holder word ..
 abbrev pub withHolder : Entry → ℕ → Entry
