@@ -82,21 +82,83 @@ fn print_ranges(rows: &[Row]) {
     }
 }
 
+/// What was to be reached at the largest size: the calls whose name begins so, which of their ratios, and the most it may be on any board.
+struct Target(&'static str, usize, f64);
+
+const RATIOS: [&str; 3] = ["of the plain one's time", "of the independent one's time", "form checks"];
+
+const TARGETS: [Target; 23] = [
+    Target("blanking", 0, 1.0),
+    Target("form check", 0, 1.3),
+    Target("level check", 0, 1.0),
+    Target("load", 0, 1.0),
+    Target("heaviest", 0, 1.0),
+    Target("tight set", 0, 1.0),
+    Target("arrival", 0, 1.0),
+    Target("closing", 0, 1.0),
+    Target("levelling", 0, 1.0),
+    Target("blanking", 1, 1.0),
+    Target("form check", 1, 1.0),
+    Target("level check", 1, 1.0),
+    Target("load", 1, 1.0),
+    Target("heaviest", 1, 1.0),
+    Target("tight set", 1, 1.0),
+    Target("arrival", 1, 1.0),
+    Target("closing", 1, 1.0),
+    Target("levelling", 1, 1.5),
+    Target("level check", 2, 3.0),
+    Target("tight set", 2, 3.0),
+    Target("arrival", 2, 4.0),
+    Target("closing", 2, 4.0),
+    Target("levelling", 2, 4.0),
+];
+
+impl Target {
+    /// The greatest ratio of its calls on the largest boards, and the board.
+    fn worst<'a>(&self, rows: &'a [Row]) -> (f64, &'a str) {
+        let its = rows.iter().filter(|row| row.sizes == SIZES[2] && name(row.call).starts_with(self.0));
+        its.map(|row| (row.ratios()[self.1], row.board.as_str())).fold((0.0, ""), |a, b| if a.0 < b.0 { b } else { a })
+    }
+}
+
+/// Each target, the missed ones first.
+fn print_targets(rows: &[Row]) {
+    head(
+        "What was to be reached at 500 benches and 4,000 jobs, on every board; missed ones first.",
+        "call | at most | reached | on | verdict",
+    );
+    for missed in [true, false] {
+        for target in &TARGETS {
+            let (worst, board) = target.worst(rows);
+            if (worst > target.2) == missed {
+                let verdict = if missed { "missed" } else { "met" };
+                println!("| {} | {:.1} {} | {worst:.2} | {board} | {verdict} |", target.0, target.2, RATIOS[target.1]);
+            }
+        }
+    }
+}
+
+/// Each call on each board at each size.
+fn rows() -> Vec<Row> {
+    let mut rows = vec![];
+    for (benches, jobs) in SIZES {
+        for (board, t, lists) in trials(benches, jobs) {
+            for calls in lists {
+                rows.push(measured(&board, &t, &calls));
+            }
+        }
+    }
+    rows
+}
+
 pub fn print() {
+    let rows = rows();
+    print_targets(&rows);
     head(
         "Each call, in µs. Moved: the jobs that change holder, the mean of the calls, or the paths that levelling turns. Form checks: how \
          many proved ones of the same board the proved call takes, levelling for each path.",
         "call | board | B | J | moved | proved | plain | proved / plain | independent | proved / independent | form checks",
     );
-    let mut rows = vec![];
-    for (benches, jobs) in SIZES {
-        for (board, t, lists) in trials(benches, jobs) {
-            for calls in lists {
-                let row = measured(&board, &t, &calls);
-                row.print();
-                rows.push(row);
-            }
-        }
-    }
+    rows.iter().for_each(Row::print);
     print_ranges(&rows);
 }
