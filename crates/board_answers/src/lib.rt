@@ -22,9 +22,9 @@ pub enum Answer {
     Sound,
     Level,
     NotLevel,
-    // Paths turned, and no improving path is left.
+    // Paths flipped, and no improving path is left.
     Levelled(u32),
-    // Paths turned, and one is left.
+    // Paths flipped, and one is left.
     Stopped(u32),
 }
 

@@ -94,7 +94,7 @@ module _ (r : Reader) (bytes line : List ℕ) (s : Stands r bytes line) where
           takes (subst Unended (sym l) (s .unended)) (omega (arith, e .0, s .held))
           (subst (λ (k : List ℕ). Consumes (placeOf r bytes line) (record { counter = counterOf (r .counter) bytes; line = k }) (byte ∷ []) []) (sym l) (consumes-past (counterOf (r .counter) bytes) (take (r .held) line) byte (s .unended) long d))
 
--- the first `used` bytes of a chunk are heard
+-- the first `used` bytes of a chunk are taken
 pub record Feeding (a : Place) (chunk out₀ bytes line out : List ℕ) (r : Reader) (used at : ℕ) : Type 0 where
   pub stands : Stands r bytes line
   pub long : length out ≡ length out₀
@@ -122,7 +122,7 @@ module _ {a : Place} {chunk out₀ bytes line out : List ℕ} {r : Reader} {used
         consumes = subst (λ (k : List ℕ). Consumes a b k (take (h .at) out')) more (subst (λ (k : List ℕ). Consumes a b (take used chunk ++ (getD chunk used 0 ∷ [])) k) (sym (n .wrote .written)) (consumes-then (f .consumes) (n .consumes)));
       }
 
-  -- all of the chunk is heard, or there is no room for another reply
+  -- all of the chunk is taken, or there is no room for another reply
   pub feeding-end : lineMost ≤ length out₀ → (length chunk ≤ used) ⊎ (length out < at + lineMost) → Feeds a chunk bytes line out (record { reader = r; used = used; written = at })
   feeding-end room w = record { stands = f .stands; some = some w; used = f .input; written = f .written; consumes = f .consumes }
     where

@@ -37,7 +37,7 @@ pub record Appended (line line' : List ℕ) (held byte n : ℕ) : Type 0 where
   pub more : held < length line → (n ≡ held + 1) × (take n line' ≡ take held line ++ (byte ∷ []))
   pub full : length line ≤ held → (n ≡ held) × (line' ≡ line)
 
--- from place a on these bytes were heard, and what the definition prints for them was written behind the first `at` bytes of the output
+-- from place a on these bytes were taken, and what the definition prints for them was written behind the first `at` bytes of the output
 pub record TakesByte (a : Place) (input bytes line out out' : List ℕ) (at : ℕ) (h : Consumed) : Type 0 where
   pub stands : Stands (h .reader) bytes line
   pub text : List ℕ
@@ -45,7 +45,7 @@ pub record TakesByte (a : Place) (input bytes line out out' : List ℕ) (at : �
   pub consumes : Consumes a (placeOf (h .reader) bytes line) input text
   pub short : h .at ≤ at + lineMost
 
--- from place a on the beginning of a chunk was heard, some of it if there is any, and what the definition prints for it stands at the
+-- from place a on the beginning of a chunk was taken, some of it if there is any, and what the definition prints for it stands at the
 -- output's beginning
 pub record Feeds (a : Place) (chunk bytes line out : List ℕ) (f : Fed) : Type 0 where
   pub stands : Stands (f .reader) bytes line
@@ -59,7 +59,7 @@ pub record Finishes (r : Reader) (out : List ℕ) (n : ℕ) : Type 0 where
   pub written : n ≤ length out
   pub ends : (bytes line : List ℕ) → Stands r bytes line → take n out ≡ outputFrom (placeOf r bytes line) []
 
--- calls of `feed` one after the other from place a to b: what each heard of its chunk, and what it wrote
+-- calls of `feed` one after the other from place a to b: what each took of its chunk, and what it wrote
 pub data Feedings (b : Place) : Place → List (List ℕ) → List (List ℕ) → Type 0 where
   over : Feedings b b [] []
   fed : {a : Place} {chunk bytes line out : List ℕ} {f : Fed} {inputs texts : List (List ℕ)} → Feeds a chunk bytes line out f → Feedings b (placeOf (f .reader) bytes line) inputs texts → Feedings b a (take (f .used) chunk ∷ inputs) (take (f .written) out ∷ texts)

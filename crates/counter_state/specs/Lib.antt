@@ -1,2 +1,2 @@
--- What the counter program's code keeps and tells.
+-- What the counter program keeps, and a line that it prints.
 pub mod State

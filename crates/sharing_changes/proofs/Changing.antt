@@ -1,4 +1,4 @@
--- Arrival and closing: the lighter bench, and what is left once the rule's path is turned and the chains are made anew.
+-- Arrival and closing: the lighter bench, and what is left once the rule's path is flipped and the chains are made anew.
 use Prim.Native.Nat.{ℕ, _+_, _-_, _<_, _≤_}
 use native.Mathlib.Omega.{arith}
 use mathlib.Core.Path.{_≡_, refl, sym, ap, subst, _∙_}
@@ -42,7 +42,7 @@ lighter-second holders x y e f l = rw (lt-ltb (load holders y) (load holders x) 
 pub lighter-first : (holders : List ℕ) (x y : ℕ) {m n : ℕ} → m ≡ load holders y → n ≡ load holders x → n ≤ m → x ≡ lightestNamed holders (x ∷ y ∷ [])
 lighter-first holders x y e f l = rw (le-ltb (load holders y) (load holders x) (omega arith)) refl
 
--- a path turned on the board b, which the table held: the choice is that on b
+-- a path flipped on the board b, which the table held: the choice is that on b
 flipped-on : {u v : List ℕ} {s : Size} {b : Board} {r : Flip} (choice : Board → Option BenchPath) (end : Option BenchPath → ℕ) → decode u ≡ b → Flipped u v s (choice (decode u)) (end (choice (decode u))) r → (decode v ≡ flippedBy b (choice b)) × (r .bench ≡ end (choice b)) × (r .jobs ≡ lengthOf (choice b))
 flipped-on {u} {v} {s} {b} {r} choice end e t =
     subst (λ (d : Board). (decode v ≡ flippedBy d (choice d)) × (r .bench ≡ end (choice d)) × (r .jobs ≡ lengthOf (choice d))) e (t .holds .board, t .bench, t .jobs)
@@ -99,7 +99,7 @@ strayed-once : {h x n : ℕ} → Strayed h x n → (h ≡ x → ⊥) → n ≡ 1
 strayed-once (inl w) d = absurd (d (w .0))
 strayed-once (inr w) d = w .1
 
--- bench x has just got job j, and a path is turned: its jobs are the others that change holder, and j if it does
+-- bench x has just got job j, and a path is flipped: its jobs are the others that change holder, and j if it does
 arrival-moved : (c : Board) → Valid c → (j x n : ℕ) → holderOf c j ≡ x → (o : Option BenchPath) → arrivalChoice c x ≡ o → Strayed (holderOf (flippedBy c o) j) x n → n + length ((afterArrival c j x o) .moved) ≡ lengthOf o
 arrival-moved c v j x n e none q d = omega (arith, strayed-not d e)
 arrival-moved c v j x n e (some p) q d =
@@ -121,12 +121,12 @@ pub record Handed (u : List ℕ) (j : ℕ) (c : Change) (h n : ℕ) (r : Flip) :
   pub rose : r .bench ≡ c .bench
   pub moved : n + length (c .moved) ≡ r .jobs
 
--- the board and the bench are those of the path that is turned
+-- the board and the bench are those of the path that is flipped
 handed-by : (u : List ℕ) (c : Board) (j x h n : ℕ) (o : Option BenchPath) (r : Flip) → decode u ≡ flippedBy c o → h ≡ holderOf (flippedBy c o) j → r .bench ≡ lastOf x o → n + length ((afterArrival c j x o) .moved) ≡ r .jobs → Handed u j (afterArrival c j x o) h n r
 handed-by u c j x h n none r b k e m = record { board = b; holder = k; rose = e; moved = m }
 handed-by u c j x h n (some p) r b k e m = record { board = b; holder = k; rose = e; moved = m }
 
--- the job is put on the board, and the path turned
+-- the job is put on the board, and the path flipped
 pub arrival-handed : {t u v : List ℕ} {s : Size} {j x y g h n : ℕ} {r : Flip} → SoundTable t s → MayArrive (decode t) j x y → g ≡ lightestNamed ((decode t) .holders) (x ∷ y ∷ []) → Holds u s (put (decode t) j (x ∷ y ∷ []) g) → Flipped u v s (arrivalChoice (decode u) g) (lastOf g (arrivalChoice (decode u) g)) r → HolderOf v s j h → Strayed h g n → Handed v j (arrive (decode t) j (x ∷ y ∷ [])) h n r
 unfolding arrive
 arrival-handed {t} {u} {v} {s} {j} {x} {y} {g} {h} {n} {r} z m e a f k d = rw (sym e) handed
@@ -170,13 +170,13 @@ pub closing-bench : {t : List ℕ} {s : Size} {j x : ℕ} → SoundTable t s →
 closing-bench {t} {s} {j} z p e =
     rw (e .value) (board-bench (holderOf (decode t) j) (z .size) (holder-bench (decode t) (z .storable .valid) j p))
 
--- the board, the bench and the jobs are those of the path that is turned
+-- the board, the bench and the jobs are those of the path that is flipped
 closes-by : (u w : List ℕ) (s : Size) (c : Board) (x : ℕ) (o : Option BenchPath) (r : Flip) → decode u ≡ flippedBy c o → r .bench ≡ startOf x o → r .jobs ≡ lengthOf o → ChainsRebuilt u w s → IsClosing w (afterClosing c x o) r
 closes-by u w s c x none r b e m d = record { bytes = d .bytes ∙ ap encode b; fell = e; moved = m }
 closes-by u w s c x (some p) r b e m d =
     record { bytes = d .bytes ∙ ap encode b; fell = e; moved = m ∙ sym (length-map (p .route) (λ (s : Step). s .job)) }
 
--- the job is taken off the board, the path turned, the chains made anew: the closing is done
+-- the job is taken off the board, the path flipped, the chains made anew: the closing is done
 pub closing-rebuilt : {t u v w : List ℕ} {s : Size} {j x : ℕ} {r : Flip} → HolderOf t s j x → Holds u s (put (decode t) j [] 0) → Flipped u v s (closingChoice (decode u) x) (startOf x (closingChoice (decode u) x)) r → ChainsRebuilt v w s → IsClosing w (close (decode t) j) r
 unfolding close
 closing-rebuilt {t} {u} {v} {w} {s} {j} {x} {r} e a f d =

@@ -1,5 +1,5 @@
 -- Levelling: where loads differ by less than two the board is level, the bench that the search finds starts the rule's path, and a loop that
--- turns such paths is levelling.
+-- flips such paths is levelling.
 use Prim.Native.Nat.{ℕ, _+_, _≤_, _<_}
 use native.Mathlib.Omega.{arith}
 use native.Mathlib.Decide.{ℕ-discrete, decLe}
@@ -38,7 +38,7 @@ use Rattle.table_board.proofs.RecordsAsBoard.{sound-holds-board}
 use Rattle.graph_search.proofs.Expanding.{bench-within}
 use Rattle.sharing_arcs.proofs.AsArcs.{loads-in, load-at, arcs-reach, steps-reach}
 
--- a bench that starts an improving path has one that an arrival there would turn
+-- a bench that starts an improving path has one that an arrival there would flip
 starts-choice : (b : Board) → Valid b → (x : ℕ) → StartsOne b x → (p : BenchPath) × (arrivalChoice b x ≡ some p)
 starts-choice b v x (y, r, d) = go (arrivalChoice b x) refl
   where
@@ -119,7 +119,7 @@ module _ {t : List ℕ} {s : Size} {loads : List ℕ} (k : HoldsBoard t s) (l : 
       pub next-found : NextStart (decode t) s from to loads x
       next-found = record { none = none-level; some = λ d. (a, l, f); from-long = a .from-long; to-long = a .to-long }
 
-      -- an arrival at the bench found would turn what levelling turns
+      -- an arrival at the bench found would flip what levelling flips
       found-choice : x ≢ 0 → (p : BenchPath) × (arrivalChoice (decode t) x ≡ some p) × (levellingChoice (decode t) ≡ some p)
       found-choice d =
           let v = k .storable .valid in
@@ -143,27 +143,27 @@ module _ {t : List ℕ} {s : Size} {from to loads : List ℕ} {x : ℕ} (k : Hol
   next-bench : x ≢ 0 → BenchIn s x
   next-bench d = let (a, l, f) = n .some d in board-bench x (k .size) (found-bench k l a f d)
 
-  -- .. and an arrival there would turn what levelling turns
+  -- .. and an arrival there would flip what levelling flips
   next-choice : x ≢ 0 → (p : BenchPath) × (arrivalChoice (decode t) x ≡ some p) × (levellingChoice (decode t) ≡ some p)
   next-choice d = let (a, l, f) = n .some d in found-choice k l a f d
 
--- levelling of the table t₀ has come to the table t: so many paths were turned, and x starts the next path, 0 where there is none
+-- levelling of the table t₀ has come to the table t: so many paths were flipped, and x starts the next path, 0 where there is none
 pub record Flipping (t₀ t : List ℕ) (s : Size) (allowance : ℕ) (from to loads : List ℕ) (paths x : ℕ) : Type 0 where
   pub holdsBoard : HoldsBoard t s
   pub next : NextStart (decode t) s from to loads x
   pub flipped : Flips paths (decode t₀) (decode t)
   pub allowed : paths ≤ allowance
 
--- at first no path was turned
+-- at first no path was flipped
 pub flipping-start : {t : List ℕ} {s : Size} {allowance : ℕ} {from to loads : List ℕ} {x : ℕ} → SoundTable t s → NextStart (decode t) s from to loads x → Flipping t t s allowance from to loads 0 x
 flipping-start {t} {s} z n = record { holdsBoard = sound-holds-board t s z; next = n; flipped = noFlip (decode t); allowed = omega arith }
 
 module _ {t₀ t : List ℕ} {s : Size} {allowance : ℕ} {from to loads : List ℕ} {paths x : ℕ} (i : Flipping t₀ t s allowance from to loads paths x) where
-  -- what turning the next path asks
+  -- what flipping the next path asks
   pub flipping-ready : x ≢ 0 → ArcsOf (decode t) s from to × Loaded (decode t) loads × BenchIn s x
   flipping-ready d = let (a, l, f) = i .next .some d in (a, l, next-bench (i .holdsBoard) (i .next) d)
 
-  -- one more path is turned
+  -- one more path is flipped
   pub flipping-turn : {u from' to' loads' : List ℕ} {x' : ℕ} → x ≢ 0 → paths < allowance → Holds u s (flippedBy (decode t) (arrivalChoice (decode t) x)) → NextStart (decode u) s from' to' loads' x' → Flipping t₀ u s allowance from' to' loads' (paths + 1) x'
   flipping-turn {u} d less c n =
       let (p, e, g) = next-choice (i .holdsBoard) (i .next) d in

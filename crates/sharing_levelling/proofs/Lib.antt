@@ -1,2 +1,2 @@
--- Paths turned one after the other.
+-- Paths flipped one after the other.
 pub mod Flipping

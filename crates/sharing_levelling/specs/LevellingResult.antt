@@ -25,7 +25,7 @@ pub record Levels (u : List ℕ) (l : Levelled) (r : Levelling) : Type 0 where
 abbrev pub LevellingOf : List ℕ → List ℕ → ℕ → Levelling → Type 0
 LevellingOf t u allowance r = Levels u (relevel allowance (decode t)) r
 
--- x is the first bench of the path that levelling turns next, 0 where the board is level; where there is one, the arrays are the board's arcs
+-- x is the first bench of the path that levelling flips next, 0 where the board is level; where there is one, the arrays are the board's arcs
 -- and loads. They have their lengths
 pub record NextStart (b : Board) (s : Size) (from to loads : List ℕ) (x : ℕ) : Type 0 where
   pub none : x ≡ 0 → T (level b)

@@ -11,7 +11,7 @@ use graph_lists::scratch;
 use table_board::loads;
 use table_size::Size;
 
-// What levelling reports: the paths turned, and whether no improving path is left.
+// What levelling reports: the paths flipped, and whether no improving path is left.
 pub struct Levelling {
     pub paths: u32,
     pub level: bool,

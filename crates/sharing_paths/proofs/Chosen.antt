@@ -1,4 +1,4 @@
--- The end bench by the rule's order and the first list to it, handed over, are the rule's path turned.
+-- The end bench by the rule's order and the first list to it, handed over, are the rule's path flipped.
 use Prim.Native.Nat.{ℕ, suc, _+_, _≤_, _<_}
 use native.Mathlib.Omega.{arith}
 use mathlib.Core.Path.{_≡_, refl, sym, ap, subst}
@@ -60,7 +60,7 @@ module _ (t : List ℕ) {u : List ℕ} {s : Size} {from to near : List ℕ} {y n
   along-far : at near y ≡ suc (length (pathOf .route))
   along-far = omega (arith, a .far, a .long, length-map (a .path) (λ (j : ℕ). stepBy j (at to j)))
 
-  -- .. and is turned, where it is the one chosen
+  -- .. and is flipped, where it is the one chosen
   flipped-some : (end : ℕ) (tell : Option BenchPath → ℕ) (o : Option BenchPath) → o ≡ some pathOf → end ≡ tell (some pathOf) → Flipped t u s o (tell o) (record { bench = end; jobs = n })
   unfolding flip
   flipped-some end tell o e f =

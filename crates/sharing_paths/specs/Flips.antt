@@ -1,4 +1,4 @@
--- A path found and turned.
+-- A path found and flipped.
 use Prim.Native.Nat.{ℕ, suc}
 use mathlib.Core.Path.{_≡_}
 use mathlib.Core.List.{List, map}
@@ -36,7 +36,7 @@ pub record Along (b : Board) (u : List ℕ) (s : Size) (from to near : List ℕ)
   pub follows : Follows (s .jobs) from to near x path
   pub board : Holds u s (handedBy b to path)
 
--- the board after the path was turned, if there is one
+-- the board after the path was flipped, if there is one
 abbrev pub flippedBy : Board → Option BenchPath → Board
 flippedBy b none = b
 flippedBy b (some p) = flip b p
@@ -56,7 +56,7 @@ abbrev pub startOf : ℕ → Option BenchPath → ℕ
 startOf x none = x
 startOf x (some p) = p .start
 
--- the path `choice` was turned, and r tells its end and its jobs
+-- the path `choice` was flipped, and r tells its end and its jobs
 pub record Flipped (t u : List ℕ) (s : Size) (choice : Option BenchPath) (end : ℕ) (r : Flip) : Type 0 where
   pub holds : Holds u s (flippedBy (decode t) choice)
   pub bench : r .bench ≡ end

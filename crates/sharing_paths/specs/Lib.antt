@@ -1,2 +1,2 @@
--- What turning a path does.
+-- What flipping a path does.
 pub mod Flips

@@ -1,4 +1,4 @@
-// The arrival's path, which levelling turns too.
+// The arrival's path, which levelling flips too.
 ghost use Prim.Native.Nat.{_+_};
 ghost use Rattle.spec_sharing.specs.Sharing.{arrivalChoice};
 ghost use Rattle.spec_table.specs.Table.{decode};

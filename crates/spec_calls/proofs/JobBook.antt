@@ -1,4 +1,4 @@
--- The job book and the overhang, in the words of 01.
+-- The job book and the excess, in the words of 01.
 use Prim.Native.Nat.{ℕ, _≤_}
 use mathlib.Core.Path.{_≡_, refl}
 use mathlib.Core.Logic.{_≢_}

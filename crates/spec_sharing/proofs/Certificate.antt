@@ -88,7 +88,7 @@ inside-held n set ((x ∷ names) ∷ named) fit (h ∷ holders) s =
         omega (arith, heldIn-counts n set h holders w k)
     go false e ih = omega (arith, heldIn-le n set h holders)
 
--- what is held in the set is not above the height times its benches and the overhang
+-- what is held in the set is not above the height times its benches and the excess
 held-height : (n : ℕ) (set holders : List ℕ) (h : ℕ) → heldIn n set holders ≤ h * size n set + excess n holders h
 held-height n set holders h =
     omega (arith, total-le n (loadIn set holders) (heightAt set holders h) (λ x l u. go (member x set) (load holders x)), total-heights n set holders h)
@@ -97,7 +97,7 @@ held-height n set holders h =
     go true k = omega arith
     go false k = omega arith
 
--- for every sharing, every set of benches and every height: inside jobs ≤ height × benches of the set + overhang above the height
+-- for every sharing, every set of benches and every height: inside jobs ≤ height × benches of the set + excess above the height
 pub certificate : (benches : ℕ) (named : List (List ℕ)) → Each (λ names. T (namesFit benches names)) named → (holders : List ℕ) → Shares named holders → (set : List ℕ) (h : ℕ) → inside set named ≤ h * length set + excess benches holders h
 certificate benches named fit holders s set h =
     omega (arith, inside-held benches set named fit holders s, held-height benches set holders h, mul-le-mul-left h (size-le benches set))
@@ -109,7 +109,7 @@ density-bounds benches named fit holders s set l =
     let flat = excess-none benches holders h (greatest-above benches (load holders)) in
     density-least (inside set named) (length set) h l (omega (arith, certificate benches named fit holders s set h))
 
--- a set of benches that proves a board's overhang above h: it has every bench above h and none below it, and no step leads out of it
+-- a set of benches that proves a board's excess above h: it has every bench above h and none below it, and no step leads out of it
 pub record Proves (b : Board) (set : List ℕ) (h : ℕ) : Type 0 where
   pub bench : (x : ℕ) → In x set → T (within 1 (b .benches) x)
   pub once : T (distinct set)
@@ -170,6 +170,6 @@ pub attained : (b : Board) → Valid b → (set : List ℕ) (h : ℕ) → Proves
 attained b v set h p =
     omega (arith, closed-inside b v set (p .bench) (p .closed), held-exact b set h p, ap (λ (k : ℕ). h * k) (size-once (b .benches) set (p .once) (p .bench)))
 
--- so no sharing of the same jobs has less overhang above h
+-- so no sharing of the same jobs has less excess above h
 pub proved-least : (b : Board) → Valid b → (set : List ℕ) (h : ℕ) → Proves b set h → (holders : List ℕ) → Shares (b .named) holders → excess (b .benches) (b .holders) h ≤ excess (b .benches) holders h
 proved-least b v set h p holders s = omega (arith, attained b v set h p, certificate (b .benches) (b .named) (v .names) holders s set h)

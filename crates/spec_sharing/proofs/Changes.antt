@@ -76,12 +76,12 @@ does b v j names c vc eb en m o =
 
 -- job j written anew
 module _ (b : Board) (v : Valid b) (j : ℕ) (names : List ℕ) (x : ℕ) (w : Valid (put b j names x)) where
-  -- no path is turned: no other job moves
+  -- no path is flipped: no other job moves
   does-put : (y : ℕ) → Changed b j names (record { board = put b j names x; bench = y; moved = [] })
   does-put y =
       does b v j names (record { board = put b j names x; bench = y; moved = [] }) w refl refl (λ i. (λ k. absurd k, λ d. d .1 (nth-update-other (b .holders) j i x 0 (d .0)))) tt
 
-  -- a path is turned: its jobs move, but for j
+  -- a path is flipped: its jobs move, but for j
   does-flip : (p : BenchPath) → IsPath (put b j names x) p → (y : ℕ) (m : List ℕ) → ((i : ℕ) → In i m ↔ ((i ≢ j) × In i (jobs p))) → T (distinct m) → Changed b j names (record { board = flip (put b j names x) p; bench = y; moved = m })
   unfolding flip
   does-flip p h y m g o = does b v j names (record { board = flip c p; bench = y; moved = m }) (flip-valid c w p h) refl refl (λ i. (there i, back i)) o
@@ -102,7 +102,7 @@ module _ (b : Board) (v : Valid b) (j : ℕ) (names : List ℕ) (x : ℕ) (w : V
           go (is-in k) = (g i) .1 (d .0, k)
           go (not-in f) = absurd (d .1 (flip-keeps c w p h i f ∙ kept i (d .0)))
 
--- turning a path hands one load more on from its first bench to its last
+-- flipping a path hands one load more on from its first bench to its last
 module _ (c : Board) (v : Valid c) (p : BenchPath) (h : IsPath c p) where
   more-flipped : (less : List ℕ) → OneMore (c .benches) less (c .holders) (p .start) → OneMore (c .benches) less ((flip c p) .holders) (last p)
   more-flipped less o =

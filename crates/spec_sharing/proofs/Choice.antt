@@ -291,16 +291,16 @@ pub levelling-none : (b : Board) → levellingChoice b ≡ none → improving b 
 unfolding levellingChoice
 levelling-none b = argmin-none (levellingKey b) (improving b)
 
--- the path that levelling turns improves
+-- the path that levelling flips improves
 pub choice-improves : (b : Board) (p : BenchPath) → levellingChoice b ≡ some p → IsPath b p × T (improves b p)
 choice-improves b p e = let h = improving-only b p (((levelling-choice b p) .0 e) .listed-is) in (h .0, h .2)
 
--- where it turns none the board is level ..
+-- where it flips none the board is level ..
 pub choice-level : (b : Board) → levellingChoice b ≡ none → T (level b)
 unfolding level
 choice-level b e = rw (levelling-none b e) tt
 
--- .. and on a level board it turns none
+-- .. and on a level board it flips none
 pub level-choice : (b : Board) → T (level b) → levellingChoice b ≡ none
 unfolding level levellingChoice
 level-choice b l = argmin-empty (levellingKey b) (improving b) l

@@ -1,4 +1,4 @@
--- Writing a job anew keeps a board valid. Turning a path does, too: the first bench's load falls by one and the last one's rises, and
+-- Writing a job anew keeps a board valid. Flipping a path does, too: the first bench's load falls by one and the last one's rises, and
 -- only the path's jobs change holder.
 use Prim.Native.Nat.{ℕ, zero, suc, _+_, _≤_}
 use native.Mathlib.Omega.{arith}
@@ -115,7 +115,7 @@ module _ (b : Board) (v : Valid b) (p : BenchPath) (h : IsPath b p) where
   unfolding flip
   flip-loads y = walk-loads b v (b .holders) refl (p .start) (p .route) (h .walk) path-jobs (λ i k. refl) y
 
-  -- the turned board is valid: each job of the path goes to a bench that it names
+  -- the flipped board is valid: each job of the path goes to a bench that it names
   pub flip-valid : Valid (flip b p)
   unfolding flip
   flip-valid = record { names = v .names; shares = handOver-shares (b .named) (b .holders) (p .route) (v .shares) may }

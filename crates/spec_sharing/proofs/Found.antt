@@ -149,8 +149,8 @@ module _ (b : Board) (v : Valid b) where
   level-starts =
       (λ l x t s. omega (arith, s .2, (level-reach b v) .0 l x (s .0) (s .1)), λ f. (level-exact b v) .1 (λ p h t. f (p .start) (improves-start b v p h t) (last p, path-reach b p h, improves-loads b p t)))
 
-  -- levelling turns what an arrival at z would, if z has the greatest load and then the lowest number among those that start one;
-  -- where no bench starts one the board is level, and it turns none (level-choice)
+  -- levelling flips what an arrival at z would, if z has the greatest load and then the lowest number among those that start one;
+  -- where no bench starts one the board is level, and it flips none (level-choice)
   pub levelling-found : (z : ℕ) (p : BenchPath) → arrivalChoice b z ≡ some p → ((w : ℕ) → T (within 1 (b .benches) w) → StartsOne b w → (load (b .holders) w < load (b .holders) z) ⊎ ((load (b .holders) z ≡ load (b .holders) w) × (z ≤ w))) → levellingChoice b ≡ some p
   levelling-found z p e first = (levelling-choice b p) .1 (record { listed-is = improving-every b v p (h .0) (h .2); before = before })
     where

@@ -39,7 +39,7 @@ flipped n b o =
       | some p ↦ let r = relevel n (flip b p) in record { paths = suc (r .paths); board = r .board }
     ]
 
--- no path turned
+-- no path flipped
 unflipped : (allowance : ℕ) (b : Board) → LevellingReport b b allowance 0
 unflipped allowance b = record { benches = refl; jobs = refl; flipped = noFlip b; allowed = omega arith }
 
@@ -61,7 +61,7 @@ levelling-does (suc n) b v = go (levellingChoice b) refl (λ p w. levelling-does
           done = λ h. i .done (omega arith);
         }
 
--- a loop turns one path after the others ..
+-- a loop flips one path after the others ..
 pub flips-more : (n : ℕ) (b c : Board) (p : BenchPath) → Flips n b c → levellingChoice c ≡ some p → Flips (suc n) b (flip c p)
 flips-more n b c p (noFlip _) e = flipThen 0 b (flip b p) p e (noFlip (flip b p))
 flips-more n b c p (flipThen m _ _ q f s) e = flipThen (suc m) b (flip c p) q f (flips-more m (flip b q) c p s e)
@@ -124,7 +124,7 @@ module _ (n : ℕ) (old new : ℕ → ℕ) (x z : ℕ) (loads : (y : ℕ) → ne
         ap waits rises,
       )
 
--- turning an improving path lowers it ..
+-- flipping an improving path lowers it ..
 pub flip-lowers-waits : (b : Board) → Valid b → (p : BenchPath) → IsPath b p → T (improves b p) → waiting (flip b p) < waiting b
 unfolding flip
 flip-lowers-waits b v p h t =
@@ -133,7 +133,7 @@ flip-lowers-waits b v p h t =
     let l = reach-bench b v (p .start) (last p) s (path-reach b p h) in
     waits-fall (b .benches) old (load ((flip b p) .holders)) (p .start) (last p) (flip-loads b v p h) (improves-loads b p t) s l
 
--- .. by one or more for each path turned
+-- .. by one or more for each path flipped
 pub flips-lower : (n : ℕ) (b c : Board) → Valid b → Flips n b c → n + waiting c ≤ waiting b
 flips-lower n b c v (noFlip _) = omega arith
 flips-lower n b c v (flipThen m _ _ p e s) =

@@ -1,4 +1,4 @@
--- Demand 2: level boards are those whose overhang is least above every height, and the tight set proves the heaviest load.
+-- Demand 2: level boards are those whose excess is least above every height, and the tight set proves the heaviest load.
 use Prim.Native.Nat.{ℕ, suc, _+_, _-_, _*_, _≤_}
 use native.Mathlib.Omega.{arith}
 use mathlib.Core.Path.{_≡_, refl, sym, ap}
@@ -24,7 +24,7 @@ use Rattle.spec_sharing.proofs.Certificate.{Proves, attained, proved-le
 use Rattle.spec_sharing.proofs.TightSet.{closure-proves}
 use Rattle.spec_sharing.proofs.Flip.{flip-loads, flip-valid}
 
--- on a level board the tight set of height h + 1 proves the overhang above h
+-- on a level board the tight set of height h + 1 proves the excess above h
 pub tight-proves : (b : Board) → Valid b → T (level b) → (h : ℕ) → Proves b (tightSet b (suc h)) h
 unfolding tightSet
 tight-proves b v l h =
@@ -35,7 +35,7 @@ tight-proves b v l h =
 pub level-least : (b : Board) → Valid b → T (level b) → LeastExcess b
 level-least b v l h = proved-least b v (tightSet b (suc h)) h (tight-proves b v l h)
 
--- (turning an improving path lowers the overhang just below its first bench's load)
+-- (flipping an improving path lowers the excess just below its first bench's load)
 pub flip-lowers : (b : Board) → Valid b → (p : BenchPath) → IsPath b p → T (improves b p) → suc (excess (b .benches) ((flip b p) .holders) (load (b .holders) (p .start) - 1)) ≡ excess (b .benches) (b .holders) (load (b .holders) (p .start) - 1)
 unfolding excess
 flip-lowers b v p h t =
@@ -97,14 +97,14 @@ standing-load b v l =
     let r = standing-held (b .benches) (b .named) (b .holders) (v .names) (v .shares) l in
     omega (arith, r .2, load-heaviest b (r .0) (r .1))
 
--- above one less than the heaviest load there is overhang
+-- above one less than the heaviest load there is excess
 heaviest-excess : (b : Board) (k : ℕ) → heaviest b ≡ suc k → 1 ≤ excess (b .benches) (b .holders) k
 unfolding heaviest
 heaviest-excess b k e =
     let r = greatest-reached (b .benches) (load (b .holders)) (omega (arith, e)) in
     omega (arith, e, r .3, excess-load (b .benches) (b .holders) k (r .0) (r .1) (r .2))
 
--- the heaviest load is no greater than that of any sharing, if the overhang is least
+-- the heaviest load is no greater than that of any sharing, if the excess is least
 least-heaviest : (b : Board) → LeastExcess b → (holders : List ℕ) → Shares (b .named) holders → heaviest b ≤ heaviest (heldBy b holders)
 unfolding heaviest
 least-heaviest b m holders s =

@@ -107,10 +107,10 @@ module _ (b : Board) (v : Valid b) (x : ℕ) where
       go (inl h) = omega (arith, down, bit-le (eqb x z))
       go (inr q) = omega (arith, bit-other x z (λ d. omega (arith, q .5, ap (load (b .holders)) d)), higher (q .0) (first .before (q .0) (q .2)), ap (load (b .holders)) (q .3))
 
--- a test that every bench above h passes, and that brings in no bench below h, proves the overhang above h
+-- a test that every bench above h passes, and that brings in no bench below h, proves the excess above h
 pub closure-least : (b : Board) → Valid b → (p : ℕ → Bool) (h : ℕ) → ((x : ℕ) → T (within 1 (b .benches) x) → h < load (b .holders) x → T (p x)) → ((x y : ℕ) → T (within 1 (b .benches) x) → T (within 1 (b .benches) y) → T (p x) → Reach (steps b) x y → h ≤ load (b .holders) y) → (hs : List ℕ) → Shares (b .named) hs → excess (b .benches) (b .holders) h ≤ excess (b .benches) hs h
 closure-least b v p h above full = proved-least b v (closureOf b p) h (closure-proves b p v h above full)
 
--- a change of one job that leaves the overhang least leaves the board level
+-- a change of one job that leaves the excess least leaves the board level
 pub does-level : (b : Board) (j : ℕ) (names : List ℕ) (c : Change) → Changed b j names c → ((h : ℕ) (hs : List ℕ) → Shares (update (b .named) j names) hs → excess (b .benches) ((c .board) .holders) h ≤ excess (b .benches) hs h) → T (level (c .board))
 does-level b j names c d m = least-level (c .board) (d .valid) (λ h hs s. rw (d .benches) (m h hs (subst (λ (l : List (List ℕ)). Shares l hs) (d .named) s)))

@@ -1,4 +1,4 @@
--- One load more: what it does to the loads and to the overhang.
+-- One load more: what it does to the loads and to the excess.
 use Prim.Native.Nat.{ℕ, suc, _+_, _-_, _≤_, _<_}
 use native.Mathlib.Omega.{arith}
 use mathlib.Core.Path.{_≡_, refl, sym, ap}
@@ -43,13 +43,13 @@ taken-one benches holders j l u t =
     one-more benches (update holders j 0) holders (nth holders j 0) t (λ y p q. omega (arith, count-update holders j 0 y l u, bit-other 0 y (λ d. omega arith)))
 
 module _ (benches : ℕ) (less more : List ℕ) (x : ℕ) (o : OneMore benches less more x) where
-  -- the overhang changes by what the raised load is above the height
+  -- the excess changes by what the raised load is above the height
   excess-one : (h : ℕ) → excess benches more h + (load less x - h) ≡ excess benches less h + (load more x - h)
   unfolding excess
   excess-one h =
       total-but-one benches (λ y. load more y - h) (λ y. load less y - h) x (o .positive) (o .bench) (λ y l u n. ap (λ (k : ℕ). k - h) (o .elsewhere y l u n))
 
-  -- the overhang above a height below the raised load rises by one ..
+  -- the excess above a height below the raised load rises by one ..
   pub excess-rises : (h : ℕ) → h < load more x → excess benches more h ≡ suc (excess benches less h)
   excess-rises h l = omega (arith, o .here, excess-one h)
 

@@ -184,7 +184,7 @@ module _ (b : Board) (p : ℕ → Bool) where
       let start = closure-keeps b (In x) (λ set i. in-round b set x t (inl i)) (b .benches) (kept b p) seed in
       reach-all (steps b) (λ z. In z (closureOf b p)) (closure-closed b v (b .benches) p (omega arith)) x y start w
 
-  -- if every bench above h passes and none below h comes in, they prove the overhang above h
+  -- if every bench above h passes and none below h comes in, they prove the excess above h
   pub closure-proves : Valid b → (h : ℕ) → ((x : ℕ) → T (within 1 (b .benches) x) → h < load (b .holders) x → T (p x)) → ((x y : ℕ) → T (within 1 (b .benches) x) → T (within 1 (b .benches) y) → T (p x) → Reach (steps b) x y → h ≤ load (b .holders) y) → Proves b (closureOf b p) h
   closure-proves v h above full =
       record {

@@ -1,4 +1,4 @@
-// The jobs of a board, by their records. A change leaves the chains as they were: see table_chains::settle.
+// The jobs of a board, by their records. A change leaves the chains as they were: see table_chains::rebuild_chains.
 ghost use mathlib.Core.Path.{_≡_};
 ghost use mathlib.Core.List.{[]};
 ghost use lib.Dec.{T};

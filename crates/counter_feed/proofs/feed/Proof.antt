@@ -1,4 +1,4 @@
--- The loop's invariant: the first `used` bytes of the chunk are heard. The measure is the bytes that are not.
+-- The loop's invariant: the first `used` bytes of the chunk are taken. The measure is the bytes that are not.
 use Prim.Native.Nat.{_+_, _-_, _≤_, _<_}
 use native.Mathlib.Omega.{arith}
 use mathlib.Core.Logic.{inl, inr}

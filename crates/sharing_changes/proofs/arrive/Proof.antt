@@ -1,4 +1,4 @@
--- The job is put on the board, the rule's path turned and the chains made anew. The holder before that tells whether the new job is one
+-- The job is put on the board, the rule's path flipped and the chains made anew. The holder before that tells whether the new job is one
 -- of the path's.
 use native.Mathlib.Omega.{arith}
 use mathlib.Core.Path.{refl}
@@ -42,7 +42,7 @@ holder-requires c κs =
 rebuild-chains-requires : tie.Need-rebuild-chains-requires
 rebuild-chains-requires c κs = search needs
 
--- the path is turned, and the new job's holder read
+-- the path is flipped, and the new job's holder read
 handed : (c : tie.After-row-known) → let told = c .before .before .before .before .before .before in let flipped = told .before .before .before .before .before in let args = flipped .before .before .before .before .before .before .before .before .before .before .args in Handed (flipped .improve-from .last .0) (args .j) (arrive (decode (args .t .now)) (args .j) (args .first ∷ args .second ∷ [])) (told .before .holder .result) (told .if1 .new-job-moved) (flipped .improve-from .result)
 handed c =
     let told = c .before .before .before .before .before .before in

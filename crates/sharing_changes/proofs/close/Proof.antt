@@ -1,4 +1,4 @@
--- The job is taken off the board, the rule's path turned and the chains made anew.
+-- The job is taken off the board, the rule's path flipped and the chains made anew.
 use borrow.Author.Needs.{needs}
 use Rattle.sharing_changes.proofs.Changing.{closing-job, closing-bench, closing-rebuilt}
 use Rattle.sharing_changes.proofs.close.Statement.{statement}

@@ -1,4 +1,4 @@
--- The arcs are the board's, the loads its benches', and the path is turned along them: the board stays as it was until then.
+-- The arcs are the board's, the loads its benches', and the path is flipped along them: the board stays as it was until then.
 use borrow.Author.Needs.{needs}
 use Rattle.graph_lists.proofs.Listing.{array-long}
 use Rattle.sharing_changes.proofs.improve_to.Statement.{statement}

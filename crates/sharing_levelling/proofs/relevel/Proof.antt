@@ -1,4 +1,4 @@
--- The loop turns one path after the other. Its invariant: x starts the next path, and the paths turned are levelling's. The measure is what
+-- The loop flips one path after the other. Its invariant: x starts the next path, and the paths flipped are levelling's. The measure is what
 -- is left of the allowance.
 use Prim.Native.Nat.{_-_, _<_}
 use native.Mathlib.Omega.{arith}
