@@ -20,7 +20,7 @@ use Rattle.counter_answer_lines.specs.AnswerLines.{lineMost, refusalText}
 use Rattle.counter_state.specs.State.{counterOf}
 use Rattle.counter_state.specs.declared.Counter.{Counter}
 use Rattle.counter_state.specs.declared.Reply.{Reply}
-use Rattle.counter_reply.specs.Replies.{Answers}
+use Rattle.counter_reply.specs.Replies.{RepliesTo}
 use Rattle.counter_feed.specs.Feeding.{keptMost, placeOf, Stands, Begins, Appended, TakesByte, Feeds, Finishes}
 use Rattle.counter_feed.specs.declared.Reader.{Reader}
 use Rattle.counter_feed.specs.declared.Consumed.{Consumed}
@@ -48,7 +48,7 @@ append-no-more line held byte h = record { long = refl; more = λ i. absurd (ome
 
 module _ (r : Reader) (bytes line : List ℕ) (s : Stands r bytes line) where
   -- a line feed: the line is replied to
-  pub takes-line : (byte : ℕ) (bytes' out out' : List ℕ) (at : ℕ) (p : Reply) → byte ≡ lineFeed → Answers (take (r .held) line) (counterOf (r .counter) bytes) bytes' out out' at p → TakesByte (placeOf r bytes line) (byte ∷ []) bytes' line out out' at (record { reader = record { counter = p .counter; held = 0 }; at = p .at })
+  pub takes-line : (byte : ℕ) (bytes' out out' : List ℕ) (at : ℕ) (p : Reply) → byte ≡ lineFeed → RepliesTo (take (r .held) line) (counterOf (r .counter) bytes) bytes' out out' at p → TakesByte (placeOf r bytes line) (byte ∷ []) bytes' line out out' at (record { reader = record { counter = p .counter; held = 0 }; at = p .at })
   takes-line byte bytes' out out' at p e a =
       let c = counterOf (r .counter) bytes in
       let l = take (r .held) line in

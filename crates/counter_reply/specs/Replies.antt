@@ -7,5 +7,5 @@ use Rattle.counter_state.specs.declared.Reply.{Reply}
 use Rattle.counter_perform.specs.Performed.{Replies}
 
 -- the reply to a line
-abbrev pub Answers : List ℕ → paper.Counter → List ℕ → List ℕ → List ℕ → ℕ → Reply → Type 0
-Answers line s = Replies (lineAfter s line) (lineText s line)
+abbrev pub RepliesTo : List ℕ → paper.Counter → List ℕ → List ℕ → List ℕ → ℕ → Reply → Type 0
+RepliesTo line s = Replies (lineAfter s line) (lineText s line)

@@ -5,7 +5,7 @@ ghost use Rattle.counter_commands.specs.Read.{commandOf};
 ghost use Rattle.counter_answer_lines.specs.AnswerLines.{lineMost};
 ghost use Rattle.counter_state.specs.State.{Room, counterOf};
 ghost use Rattle.counter_perform.specs.Performed.{Performs};
-ghost use Rattle.counter_reply.specs.Replies.{Answers};
+ghost use Rattle.counter_reply.specs.Replies.{RepliesTo};
 use counter_commands::Command;
 use counter_commands::Reading;
 use counter_state::Counter;
@@ -46,7 +46,7 @@ fn perform(c: Counter, command: Command, bytes: &mut [u8], out: &mut [u8], at: u
 pub fn to_line(c: Counter, line: &[u8], bytes: &mut [u8], out: &mut [u8], at: usize) -> Reply
     requires { ⌜ Room c (now bytes) ⌝ }
     requires { ⌜ at + lineMost ≤ length (now out) ⌝ }
-    ensures { λ r. ⌜ Answers (now (line .entry)) (counterOf c (now (bytes .entry))) (now (bytes .exit)) (now (out .entry)) (now (out .exit)) at r ⌝ }
+    ensures { λ r. ⌜ RepliesTo (now (line .entry)) (counterOf c (now (bytes .entry))) (now (bytes .exit)) (now (out .entry)) (now (out .exit)) at r ⌝ }
 {
     match counter_commands::read(line) {
         Reading::Unreadable => counter_state::refuse(c, Refusal::Unreadable, out, at),

@@ -16,7 +16,7 @@ use Rattle.graph_lists.specs.Arrays.{at, HasArc, Reached, here, step, Arcs, Loa
 use Rattle.graph_lists.specs.Keys.{KeysIn, LeastKey, Reversed, Wanted, QueuedIn, WantedIn}
 use Rattle.graph_lists.specs.LinkedLists.{LeastFrom, ListedBy, Adjacent, AdjacencyLists}
 use Rattle.graph_search.specs.BreadthFirst.{BreadthFirst}
-use Rattle.graph_start.specs.Start.{Between, AsHeavy, StartsLow, FirstStart, StartOf, Searching, Searched}
+use Rattle.graph_start.specs.PathStart.{Between, AsHeavy, StartsLow, FirstStart, StartOf, Searching, Searched}
 use Rattle.graph_start.specs.declared.Range.{Range}
 use Rattle.graph_lists.proofs.Listing.{array-at, least-some, listed-adjacency, adjacent-has-arc}
 use Rattle.graph_search.proofs.Expanding.{reached-same, queued-few, none-queued, none-stays, search-within}

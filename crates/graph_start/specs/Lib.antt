@@ -1,2 +1,2 @@
 -- What levelling's first bench is.
-pub mod Start
+pub mod PathStart

@@ -3,7 +3,7 @@
 ghost use Rattle.table_size.specs.Sizes.{Limits};
 ghost use Rattle.graph_lists.specs.Arrays.{HasArc, Arcs, LoadsIn};
 ghost use Rattle.graph_lists.specs.LinkedLists.{AdjacencyLists, Adjacent};
-ghost use Rattle.graph_start.specs.Start.{Between, AsHeavy, Searching, Searched, StartOf};
+ghost use Rattle.graph_start.specs.PathStart.{Between, AsHeavy, Searching, Searched, StartOf};
 use graph_lists::keys;
 use graph_lists::lists;
 use graph_lists::scratch;

@@ -21,11 +21,11 @@ use Rattle.table_size.specs.declared.Size.{Size}
 use Rattle.table_board.specs.BoardView.{HoldsBoard, Holds, Loaded}
 use Rattle.table_chains.specs.Chains.{ChainsRebuilt}
 use Rattle.graph_lists.specs.Arrays.{at, HasArc}
-use Rattle.graph_start.specs.Start.{Between, StartsLow, StartOf}
+use Rattle.graph_start.specs.PathStart.{Between, StartsLow, StartOf}
 use Rattle.graph_start.specs.declared.Range.{Range}
 use Rattle.sharing_arcs.specs.Arcs.{ArcsOf}
 use Rattle.sharing_paths.specs.Flips.{flippedBy}
-use Rattle.sharing_levelling.specs.LevellingResult.{Levels, LevellingOf, NextStart}
+use Rattle.sharing_levelling.specs.LevellingResult.{IsLevelling, LevellingOf, NextStart}
 use Rattle.sharing_levelling.specs.declared.Levelling.{Levelling}
 use Rattle.spec_lists.proofs.Tests.{tests-same, T-eqb, eqb-T, within-low, within-both}
 use Rattle.spec_sharing.proofs.Paths.{improvingFrom-every, loads-improve}
@@ -181,5 +181,5 @@ module _ {t₀ t : List ℕ} {s : Size} {allowance : ℕ} {from to loads : List 
       let b = decode t in
       let e = flips-relevel paths allowance (decode t₀) b (i .flipped) (i .allowed) (λ h. level-choice b (i .next .none (done h))) in
       let r : Levelling = record { paths = paths; level = eqb x 0 } in
-      subst (λ (m : Levelled). Levels u m r) (sym e)
+      subst (λ (m : Levelled). IsLevelling u m r) (sym e)
       (record { bytes = c .bytes; paths = refl; ended = zero-level (i .holdsBoard) (i .next) })

@@ -11,19 +11,19 @@ use Rattle.spec_table.specs.Table.{mostJobs, decode, encode}
 use Rattle.table_size.specs.declared.Size.{Size}
 use Rattle.table_board.specs.BoardView.{Loaded}
 use Rattle.graph_lists.specs.Arrays.{HasArc}
-use Rattle.graph_start.specs.Start.{StartOf}
+use Rattle.graph_start.specs.PathStart.{StartOf}
 use Rattle.sharing_arcs.specs.Arcs.{ArcsOf}
 use Rattle.sharing_levelling.specs.declared.Levelling.{Levelling}
 
 -- r and the table u are those of the levelling l
-pub record Levels (u : List ℕ) (l : Levelled) (r : Levelling) : Type 0 where
+pub record IsLevelling (u : List ℕ) (l : Levelled) (r : Levelling) : Type 0 where
   pub bytes : u ≡ encode (l .board)
   pub paths : r .paths ≡ l .paths
   pub ended : r .level ≡ level (l .board)
 
 -- levelling with this allowance
 abbrev pub LevellingOf : List ℕ → List ℕ → ℕ → Levelling → Type 0
-LevellingOf t u allowance r = Levels u (relevel allowance (decode t)) r
+LevellingOf t u allowance r = IsLevelling u (relevel allowance (decode t)) r
 
 -- x is the first bench of the path that levelling flips next, 0 where the board is level; where there is one, the arrays are the board's arcs
 -- and loads. They have their lengths

@@ -24,7 +24,7 @@ use Rattle.spec_calls.proofs.JobBook.{refused-enters, question-enters}
 use Rattle.spec_sharing.proofs.Levels.{level-least, level-demand2}
 use Rattle.spec_sharing.proofs.KeepsLevel.{arrival-keeps-level, closing-keeps-level}
 use Rattle.spec_sharing.proofs.Levelling.{level-rests}
-use Rattle.spec_calls.proofs.Outcomes.{Written, AcceptedArrival, AcceptedClosing, Relevelled, Left, by-call}
+use Rattle.spec_calls.proofs.Outcomes.{WritesBoard, AcceptedArrival, AcceptedClosing, Relevelled, Left, by-call}
 
 -- what a call leaves of a sound level table: such a table again, its jobs as the book has them, one load changed as the answer says
 record Carried (c : Call) (t : List ℕ) (o : Outcome) : Type 0 where
@@ -35,7 +35,7 @@ record Carried (c : Call) (t : List ℕ) (o : Outcome) : Type 0 where
   oneLoad : OneLoad c (o .answer) (decode t) (decode (o .table))
 
 -- it is enough to know the answer and the board that is written
-carried-as : (c : Call) (t : List ℕ) (o : Outcome) (a : Answer) (d : Board) → o .answer ≡ a → Written (o .table) d → T (level d) → d .benches ≡ (decode t) .benches → d .named ≡ entered c (isRefused a) ((decode t) .named) → OneLoad c a (decode t) d → Carried c t o
+carried-as : (c : Call) (t : List ℕ) (o : Outcome) (a : Answer) (d : Board) → o .answer ≡ a → WritesBoard (o .table) d → T (level d) → d .benches ≡ (decode t) .benches → d .named ≡ entered c (isRefused a) ((decode t) .named) → OneLoad c a (decode t) d → Carried c t o
 carried-as c t o a d e w l b n one =
     record {
       form = w .sound;
@@ -93,7 +93,7 @@ module _ (t : List ℕ) (s : T (sound t)) (l : T (level (decode t))) where
   carried-left : (c : Call) → Left t c (outcome c t) → Carried c t (outcome c t)
   carried-left c a =
       let o = outcome c t in
-      let w : Written (o .table) (decode t) = subst (λ (u : List ℕ). Written u (decode t)) (sym (a .table)) (record { sound = s; board = refl }) in
+      let w : WritesBoard (o .table) (decode t) = subst (λ (u : List ℕ). WritesBoard u (decode t)) (sym (a .table)) (record { sound = s; board = refl }) in
       carried-as c t o (o .answer) (decode t) refl w l refl (sym (idle-enters c (o .answer) ((decode t) .named) (a .idle))) (idle-load c (o .answer) (decode t) (decode t) (a .idle))
 
   carried : (c : Call) → Carried c t (outcome c t)

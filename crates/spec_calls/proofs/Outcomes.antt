@@ -28,13 +28,13 @@ use Rattle.spec_calls.proofs.Stops.{levelling-says-level}
 use Rattle.spec_sharing.proofs.Paths.{level-exact}
 
 -- a table that a change writes: sound, and of that board
-pub record Written (u : List ℕ) (b : Board) : Type 0 where
+pub record WritesBoard (u : List ℕ) (b : Board) : Type 0 where
   pub sound : T (sound u)
   pub board : decode u ≡ b
 
-written-as : {u : List ℕ} (b : Board) → Storable b → u ≡ encode b → Written u b
+written-as : {u : List ℕ} (b : Board) → Storable b → u ≡ encode b → WritesBoard u b
 written-as b s e =
-    subst (λ (u : List ℕ). Written u b) (sym e) (record { sound = encode-sound b s; board = decode-encode b s })
+    subst (λ (u : List ℕ). WritesBoard u b) (sym e) (record { sound = encode-sound b s; board = decode-encode b s })
 
 may-arrive : (b : Board) (j x y : ℕ) → Each (λ k. k .holds ≡ false) (conditions (arrival j x y) b) → MayArrive b j x y
 unfolding conditions
@@ -57,7 +57,7 @@ may-close b j e = not-false (stands b j) (e .1 .0)
 pub record AcceptedArrival (t : List ℕ) (j x y : ℕ) (c : Change) : Type 0 where
   pub may : MayArrive (decode t) j x y
   pub is : outcome (arrival j x y) t ≡ arrivalOutcome j c
-  pub writes : Written ((outcome (arrival j x y) t) .table) (c .board)
+  pub writes : WritesBoard ((outcome (arrival j x y) t) .table) (c .board)
   pub does : Changed (decode t) j (x ∷ y ∷ []) c
   pub rose : OneMore ((decode t) .benches) ((decode t) .holders) ((c .board) .holders) (c .bench)
 
@@ -82,7 +82,7 @@ arrival-accepted t s j x y n =
 pub record AcceptedClosing (t : List ℕ) (j : ℕ) (c : Change) : Type 0 where
   pub stood : T (stands (decode t) j)
   pub is : outcome (closing j) t ≡ closingOutcome c
-  pub writes : Written ((outcome (closing j) t) .table) (c .board)
+  pub writes : WritesBoard ((outcome (closing j) t) .table) (c .board)
   pub does : Changed (decode t) j [] c
   pub fell : OneMore ((decode t) .benches) ((c .board) .holders) ((decode t) .holders) (c .bench)
 
@@ -106,7 +106,7 @@ closing-accepted t s j n =
 -- what a levelling leaves of a sound table; nothing but its form refuses it
 pub record Relevelled (t : List ℕ) (allowance : ℕ) (r : Levelled) : Type 0 where
   pub is : outcome (levelling allowance) t ≡ levellingOutcome r
-  pub writes : Written ((outcome (levelling allowance) t) .table) (r .board)
+  pub writes : WritesBoard ((outcome (levelling allowance) t) .table) (r .board)
   pub does : Relevels allowance (decode t) r
 
 -- a levelling of any sound table

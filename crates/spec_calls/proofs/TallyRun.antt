@@ -21,7 +21,7 @@ use Rattle.spec_lists.proofs.Counting.{filter-update}
 use Rattle.spec_table.proofs.Places.{sized}
 use Rattle.spec_calls.proofs.Blanking.{standing-empty, blank-sound, blank-decodes}
 use Rattle.spec_sharing.proofs.Paths.{stands-within}
-use Rattle.spec_calls.proofs.Outcomes.{Written, AcceptedArrival, AcceptedClosing, levelling-quiet, by-call}
+use Rattle.spec_calls.proofs.Outcomes.{WritesBoard, AcceptedArrival, AcceptedClosing, levelling-quiet, by-call}
 use Rattle.spec_calls.proofs.Tally.{isChange, raised-new, other-noted}
 
 -- arrivals are closings and the jobs standing together
@@ -40,7 +40,7 @@ pub record Keeps (t : List ℕ) (o : Outcome) : Type 0 where
   pub balance : (y : Tally) → Balanced y (decode t) → (noted y (o .answer)) .refusal ≡ none → Balanced ((noted y (o .answer)) .tally) (decode (o .table))
 
 -- it is enough to know the answer and the board that is written
-keeps-as : (t : List ℕ) (o : Outcome) (a : Answer) (d : Board) → o .answer ≡ a → Written (o .table) d → ((y : Tally) → Balanced y (decode t) → (noted y a) .refusal ≡ none → Balanced ((noted y a) .tally) d) → Keeps t o
+keeps-as : (t : List ℕ) (o : Outcome) (a : Answer) (d : Board) → o .answer ≡ a → WritesBoard (o .table) d → ((y : Tally) → Balanced y (decode t) → (noted y a) .refusal ≡ none → Balanced ((noted y a) .tally) d) → Keeps t o
 keeps-as t o a d e w f =
     record {
       form = w .sound;
@@ -71,7 +71,7 @@ module _ (t : List ℕ) (s : T (sound t)) where
       omega (arith, ap (λ (u : Tally). u .arrivals) r, ap (λ (u : Tally). u .closings) r, ap bit (T→true (stands (decode t) j) (a .stood))))
 
   -- where nothing is counted, the same jobs stand
-  keeps-quiet : (o : Outcome) (a : Answer) (d : Board) → o .answer ≡ a → Written (o .table) d → isChange a ≡ false → d .named ≡ (decode t) .named → Keeps t o
+  keeps-quiet : (o : Outcome) (a : Answer) (d : Board) → o .answer ≡ a → WritesBoard (o .table) d → isChange a ≡ false → d .named ≡ (decode t) .named → Keeps t o
   keeps-quiet o a d e w q n =
       keeps-as t o a d e w
       (λ y b m. subst (λ (u : Tally). Balanced u d) (sym (ap (λ (n : Noted). n .tally) (other-noted y a q))) (b ∙ ap (λ (named : List (List ℕ)). y .closings + length (filter (λ l. not (empty l)) named)) (sym n)))
@@ -81,7 +81,7 @@ module _ (t : List ℕ) (s : T (sound t)) where
   keeps =
       by-call t s (λ c. Keeps t (outcome c t)) keeps-arrival keeps-closing
       (λ n a. let r = relevel n (decode t) in keeps-quiet (outcome (levelling n) t) ((levellingOutcome r) .answer) (r .board) (ap (λ o. o .answer) (a .is)) (a .writes) (levelling-quiet r) (a .does .report .jobs))
-      (λ c a. keeps-quiet (outcome c t) ((outcome c t) .answer) (decode t) refl (subst (λ (u : List ℕ). Written u (decode t)) (sym (a .table)) (record { sound = s; board = refl })) (a .quiet) refl)
+      (λ c a. keeps-quiet (outcome c t) ((outcome c t) .answer) (decode t) refl (subst (λ (u : List ℕ). WritesBoard u (decode t)) (sym (a .table)) (record { sound = s; board = refl })) (a .quiet) refl)
 
 -- along a whole run
 balanced : (t : List ℕ) (y : Tally) → T (sound t) → Balanced y (decode t) → (cs : List Call) (os : List Outcome) → Runs AsDefined t cs os → NoNine y os → Balanced (tallyAfter y os) (decode (tableAfter t os))

@@ -9,7 +9,7 @@ use mathlib.Core.Option.{Option, none, some}
 use lib.Dec.{eqb}
 use lib.ListN.{length, length-append}
 use Rattle.spec_counter.specs.Counter.{Counter, Command, lineFeed, pieces, onto, command, lineFor, done, after, unreadableLine, prints, counter}
-use Rattle.spec_counter.specs.Stream.{lineText, lineAfter, Place, beginning, Unended, outputFrom, Consumes, Run, ended, then, atEnd}
+use Rattle.spec_counter.specs.Stream.{lineText, lineAfter, Place, beginning, Unended, outputFrom, Consumes, ConsumesAll, ended, then, atEnd}
 use Rattle.spec_counter.proofs.Counter.{before-piece, long-unreadable}
 use Rattle.spec_counter.proofs.CounterRun.{unreadable-line}
 
@@ -83,13 +83,13 @@ goes-none a = record { whole = λ rest. refl }
 abbrev pub joint : List (List ℕ) → List ℕ
 joint ls = flatMap (λ l. l) ls
 
-run-consumes : {a b : Place} {inputs texts : List (List ℕ)} → Run b a inputs texts → Consumes a b (joint inputs) (joint texts)
+run-consumes : {a b : Place} {inputs texts : List (List ℕ)} → ConsumesAll b a inputs texts → Consumes a b (joint inputs) (joint texts)
 unfolding flatMap
 run-consumes {a} {b} ended = goes-none b
 run-consumes (then g r) = consumes-then g (run-consumes r)
 
 -- however the input is cut into pieces, what is printed for them and at the end is what the whole input prints
-pub however-cut : (b : Place) (inputs texts : List (List ℕ)) → Run b beginning inputs texts → Unended (b .line) → joint texts ++ atEnd (b .line) ≡ counter (joint inputs)
+pub however-cut : (b : Place) (inputs texts : List (List ℕ)) → ConsumesAll b beginning inputs texts → Unended (b .line) → joint texts ++ atEnd (b .line) ≡ counter (joint inputs)
 unfolding outputFrom counter
 however-cut b inputs texts r u =
     ap (λ (l : List ℕ). joint texts ++ l) (sym (output-end b u)) ∙ sym ((run-consumes r) .whole []) ∙ ap (λ (l : List ℕ). counter l) (append-nil (joint inputs))
