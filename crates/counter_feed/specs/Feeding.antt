@@ -1,4 +1,5 @@
--- What the counter program keeps of its input, and what a piece of input does, in the words of `Rattle.spec_counter.specs.Stream`.
+-- What the counter program keeps of its input, and what a piece of input does, in the words of
+-- `Rattle.spec_counter.specs.Stream`.
 use Prim.Native.Nat.{ℕ, _+_, _≤_, _<_}
 use mathlib.Core.Path.{_≡_}
 use mathlib.Core.List.{List, [], _∷_, _++_}
@@ -37,7 +38,8 @@ pub record Appended (line line' : List ℕ) (held byte n : ℕ) : Type 0 where
   pub more : held < length line → (n ≡ held + 1) × (take n line' ≡ take held line ++ (byte ∷ []))
   pub full : length line ≤ held → (n ≡ held) × (line' ≡ line)
 
--- from place a on these bytes were taken, and what the definition prints for them was written behind the first `at` bytes of the output
+-- from place a on these bytes were taken, and what the definition prints for them was written behind the first `at`
+-- bytes of the output
 pub record TakesByte (a : Place) (input bytes line out out' : List ℕ) (at : ℕ) (h : Consumed) : Type 0 where
   pub stands : Stands (h .reader) bytes line
   pub text : List ℕ
@@ -45,8 +47,8 @@ pub record TakesByte (a : Place) (input bytes line out out' : List ℕ) (at : �
   pub consumes : Consumes a (placeOf (h .reader) bytes line) input text
   pub short : h .at ≤ at + lineMost
 
--- from place a on the beginning of a chunk was taken, some of it if there is any, and what the definition prints for it stands at the
--- output's beginning
+-- from place a on the beginning of a chunk was taken, some of it if there is any, and what the definition prints for
+-- it stands at the output's beginning
 pub record Feeds (a : Place) (chunk bytes line out : List ℕ) (f : Fed) : Type 0 where
   pub stands : Stands (f .reader) bytes line
   pub some : 1 ≤ length chunk → 1 ≤ f .used
@@ -62,4 +64,7 @@ pub record Finishes (r : Reader) (out : List ℕ) (n : ℕ) : Type 0 where
 -- calls of `feed` one after the other from place a to b: what each took of its chunk, and what it wrote
 pub data Feedings (b : Place) : Place → List (List ℕ) → List (List ℕ) → Type 0 where
   over : Feedings b b [] []
-  fed : {a : Place} {chunk bytes line out : List ℕ} {f : Fed} {inputs texts : List (List ℕ)} → Feeds a chunk bytes line out f → Feedings b (placeOf (f .reader) bytes line) inputs texts → Feedings b a (take (f .used) chunk ∷ inputs) (take (f .written) out ∷ texts)
+  fed :
+      {a : Place} {chunk bytes line out : List ℕ} {f : Fed} {inputs texts : List (List ℕ)} →
+      Feeds a chunk bytes line out f → Feedings b (placeOf (f .reader) bytes line) inputs texts →
+      Feedings b a (take (f .used) chunk ∷ inputs) (take (f .written) out ∷ texts)

@@ -20,7 +20,8 @@ pub struct Consumed {
     pub at: usize,
 }
 
-// The reader behind a part of a chunk, how many of the chunk's bytes it took, and how many of the output's are written.
+// The reader behind a part of a chunk, how many of the chunk's bytes it took, and how many of the output's are
+// written.
 pub struct Fed {
     pub reader: Reader,
     pub used: usize,

@@ -1,4 +1,4 @@
-// The counter program between two file descriptors: it reads and writes, and `counting` does the rest.
+// The counter program between two file descriptors: it reads and writes, and `counter_feed` does the rest.
 ghost use mathlib.Core.Path.{_≡_};
 ghost use Prim.Native.Nat.{_≤_};
 ghost use lib.ListN.{length};
@@ -132,7 +132,8 @@ fn read_and_answer(
     }
 }
 
-// Reads to the end of the input, at most so many bytes at a time, and answers. The loop counts down from a number that no run uses up.
+// Reads to the end of the input, at most so many bytes at a time, and answers. The loop counts down from a number
+// that no run uses up.
 fn converse(
     input: i32,
     output: i32,

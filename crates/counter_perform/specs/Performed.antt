@@ -9,7 +9,8 @@ use Rattle.counter_answer_lines.specs.AnswerLines.{lineMost}
 use Rattle.counter_state.specs.State.{counterOf, Room}
 use Rattle.counter_state.specs.declared.Reply.{Reply}
 
--- the reply r left the program's bytes so, and wrote this text behind the first `at` bytes of the output; the state is `next`
+-- the reply r left the program's bytes so, and wrote this text behind the first `at` bytes of the output; the state
+-- is `next`
 pub record Replies (next : paper.Counter) (text : List ℕ) (bytes out out' : List ℕ) (at : ℕ) (r : Reply) : Type 0 where
   pub room : Room (r .counter) bytes
   pub state : counterOf (r .counter) bytes ≡ next

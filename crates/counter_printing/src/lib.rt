@@ -1,5 +1,5 @@
-// The counter program's lines, written into a lent buffer. The first `at` bytes are written already; a function returns how many are
-// after it.
+// The counter program's lines, written into a lent buffer. The first `at` bytes are written already; a function
+// returns how many are after it.
 ghost use mathlib.Core.List.{[], _∷_};
 ghost use Prim.Native.Nat.{_+_, _*_, _<_, _≤_};
 ghost use lib.ListN.{length, take};

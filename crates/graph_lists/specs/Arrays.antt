@@ -1,5 +1,5 @@
--- Arrays of numbers, the arcs that two of them give, and what arcs reach. An index is a bench or an arc, from 1 on; what stands at 0 does
--- not count.
+-- Arrays of numbers, the arcs that two of them give, and what arcs reach. An index is a bench or an arc, from 1 on;
+-- what stands at 0 does not count.
 use Prim.Native.Nat.{ℕ, _+_, _≤_, _<_}
 use mathlib.Core.Path.{_≡_}
 use mathlib.Core.Bool.{Bool, true, false}

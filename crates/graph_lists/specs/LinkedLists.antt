@@ -22,7 +22,8 @@ pub record Listable (n : ℕ) (key head next : List ℕ) : Type 0 where
   pub below : (i : ℕ) → 1 ≤ i → i ≤ n → at key i < length head
   pub blank : (k : ℕ) → at head k ≡ 0
 
--- 1 to n by their keys, which are below m: `head` has the least with each key, and `next` after each number the next with the same key
+-- 1 to n by their keys, which are below m: `head` has the least with each key, and `next` after each number the next
+-- with the same key
 pub record ListedBy (m n : ℕ) (key head next : List ℕ) : Type 0 where
   pub heads : (k : ℕ) → k < m → LeastFrom key n 1 k (at head k)
   pub later : (i : ℕ) → 1 ≤ i → i ≤ n → LeastFrom key n (suc i) (at key i) (at next i)
@@ -40,5 +41,7 @@ Adjacent head next to x y = (a : ℕ) × On next (at head x) a × (at to a ≡ y
 -- lists of arcs for benches, each rising, that lead to benches
 pub record AdjacencyLists (head next to : List ℕ) : Type 0 where
   pub heads : (x : ℕ) → T (within 1 mostBenches x) → at head x ≤ mostJobs
-  pub rise : (x a : ℕ) → T (within 1 mostBenches x) → On next (at head x) a → (at next a ≡ 0) ⊎ ((a < at next a) × (at next a ≤ mostJobs))
+  pub rise :
+      (x a : ℕ) → T (within 1 mostBenches x) → On next (at head x) a →
+      (at next a ≡ 0) ⊎ ((a < at next a) × (at next a ≤ mostJobs))
   pub leads : (x a : ℕ) → T (within 1 mostBenches x) → On next (at head x) a → T (within 1 mostBenches (at to a))

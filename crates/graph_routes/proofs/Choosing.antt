@@ -113,8 +113,8 @@ module _ {s : Size} {weights dist : List ℕ} {x : ℕ} where
     choose-other n = stays (λ e. n) (λ d c. absurd (n c))
 
     -- .. or not before the best, whose number is lower ..
-    pub choose-filter : best ≢ 0 → (Before weights dist y best → ⊥) → Sofar s weights dist x (y + 1) best
-    choose-filter d n = stays (λ e. absurd (d e)) (λ d c. let l = f .some d .below in not-before-ahead weights dist best y n (omega arith))
+    pub choose-same : best ≢ 0 → (Before weights dist y best → ⊥) → Sofar s weights dist x (y + 1) best
+    choose-same d n = stays (λ e. absurd (d e)) (λ d c. let l = f .some d .below in not-before-ahead weights dist best y n (omega arith))
 
     -- .. a candidate that is ahead of those seen is the new best ..
     takes : Candidate s weights dist x y → ((z : ℕ) → z < y → Candidate s weights dist x z → Ahead weights dist y z) → Sofar s weights dist x (y + 1) y

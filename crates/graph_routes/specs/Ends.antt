@@ -1,5 +1,5 @@
--- The choice of a path's other end, by weights: of two benches the one with the lower weight is the better. For an arrival's path they are
--- the loads, for a closing's the loads the other way round.
+-- The choice of a path's other end, by weights: of two benches the one with the lower weight is the better. For an
+-- arrival's path they are the loads, for a closing's the loads the other way round.
 use Prim.Native.Nat.{ℕ, _+_, _≤_, _<_}
 use mathlib.Core.Path.{_≡_}
 use mathlib.Core.Logic.{_⊎_, _≢_}
@@ -24,7 +24,9 @@ module _ (s : Size) (weights dist : List ℕ) (x : ℕ) where
   -- the candidate that comes first: by weight, distance and number
   pub record Best (y : ℕ) : Type 0 where
     pub is : Candidate s weights dist x y
-    pub first : (z : ℕ) → Candidate s weights dist x z → (at weights y < at weights z) ⊎ ((at weights y ≡ at weights z) × ((at dist y < at dist z) ⊎ ((at dist y ≡ at dist z) × (y ≤ z))))
+    pub first :
+        (z : ℕ) → Candidate s weights dist x z →
+        (at weights y < at weights z) ⊎ ((at weights y ≡ at weights z) × ((at dist y < at dist z) ⊎ ((at dist y ≡ at dist z) × (y ≤ z))))
 
   -- r is the best candidate, 0 where there is none
   pub record BestEnd (r : ℕ) : Type 0 where

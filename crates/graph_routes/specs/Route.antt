@@ -15,7 +15,9 @@ use Rattle.graph_lists.specs.LinkedLists.{On}
 -- r is the smallest arc from x to a bench that is one nearer, 0 where there is none
 pub record FirstNearer (head next to dist : List ℕ) (x r : ℕ) : Type 0 where
   pub none : r ≡ 0 → (a : ℕ) → On next (at head x) a → at dist x ≡ suc (at dist (at to a)) → ⊥
-  pub some : r ≢ 0 → On next (at head x) r × (at dist x ≡ suc (at dist (at to r))) × ((a : ℕ) → On next (at head x) a → at dist x ≡ suc (at dist (at to a)) → r ≤ a)
+  pub some :
+      r ≢ 0 →
+      On next (at head x) r × (at dist x ≡ suc (at dist (at to r))) × ((a : ℕ) → On next (at head x) a → at dist x ≡ suc (at dist (at to a)) → r ≤ a)
 
 -- from every numbered bench but those numbered 1 an arc leads to one that is one lower
 pub record Falls (s : Size) (from to dist : List ℕ) : Type 0 where

@@ -1,5 +1,5 @@
-// The other end of an improving path, by the rule's order: of the benches that a search found the one with the least weight, then the nearest,
-// then the lowest.
+// The other end of an improving path, by the rule's order: of the benches that a search found the one with the least
+// weight, then the nearest, then the lowest.
 ghost use Rattle.table_size.specs.Sizes.{Limits, BenchIn};
 ghost use Rattle.graph_lists.specs.Arrays.{Tells};
 ghost use Rattle.graph_lists.specs.Keys.{KeysIn};

@@ -1,5 +1,6 @@
-// Breadth-first search. What is found stands in a queue, in the order of finding; each found bench has a number in `dist`, which is
-// one more than its distance, and 0 means "not found". What earlier searches found stays, and is not searched again.
+// Breadth-first search. What is found stands in a queue, in the order of finding; each found bench has a number in
+// `dist`, which is one more than its distance, and 0 means "not found". What earlier searches found stays, and is not
+// searched again.
 ghost use Prim.Native.Nat.{suc, _≤_, _+_};
 ghost use mathlib.Core.Path.{_≡_};
 ghost use lib.Dec.{T};

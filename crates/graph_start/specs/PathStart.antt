@@ -20,13 +20,15 @@ pub record Between (s : Size) (loads : List ℕ) (r : Range) : Type 0 where
   pub most : (x : ℕ) → BenchIn s x → at loads x ≤ r .high
   pub few : r .high ≤ mostJobs
 
--- the benches of this load, from x on, all of 1 to n: x is the least, and `after` has the next ones; no load is above the number of jobs
+-- the benches of this load, from x on, all of 1 to n: x is the least, and `after` has the next ones; no load is above
+-- the number of jobs
 pub record AsHeavy (n : ℕ) (loads after : List ℕ) (load x : ℕ) : Type 0 where
   pub bench : (y : ℕ) → at loads y ≡ load → y ≤ n
   pub few : (y : ℕ) → T (within 1 mostBenches y) → at loads y ≤ mostJobs
   pub least : 2 ≤ load
   pub head : LeastFrom loads mostBenches 1 load x
-  pub later : (y : ℕ) → T (within 1 mostBenches y) → at loads y ≡ load → LeastFrom loads mostBenches (suc y) load (at after y)
+  pub later :
+      (y : ℕ) → T (within 1 mostBenches y) → at loads y ≡ load → LeastFrom loads mostBenches (suc y) load (at after y)
 
 module _ (Joined : ℕ → ℕ → Type 0) (loads : List ℕ) where
   -- x reaches a bench whose load is lower by two or more
@@ -37,15 +39,17 @@ module _ (Joined : ℕ → ℕ → Type 0) (loads : List ℕ) where
   pub record FirstStart (r : ℕ) : Type 0 where
     pub bench : T (within 1 mostBenches r)
     pub starts : StartsLow r
-    pub first : (w : ℕ) → T (within 1 mostBenches w) → StartsLow w → (at loads w < at loads r) ⊎ ((at loads r ≡ at loads w) × (r ≤ w))
+    pub first :
+        (w : ℕ) → T (within 1 mostBenches w) → StartsLow w →
+        (at loads w < at loads r) ⊎ ((at loads r ≡ at loads w) × (r ≤ w))
 
   -- r is that bench, 0 where there is none
   pub record StartOf (r : ℕ) : Type 0 where
     pub none : r ≡ 0 → (w : ℕ) → T (within 1 mostBenches w) → StartsLow w → ⊥
     pub some : r ≢ 0 → FirstStart r
 
-  -- the benches above this load were searched, and none of them starts an improving path: what is found is handed on by every arc, and has
-  -- at least the load less one
+  -- the benches above this load were searched, and none of them starts an improving path: what is found is handed on
+  -- by every arc, and has at least the load less one
   pub record Searching (n load found : ℕ) (queue dist : List ℕ) : Type 0 where
     pub queued : Queued found queue dist
     pub stays : WithinBenches n Joined dist

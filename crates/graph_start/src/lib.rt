@@ -1,5 +1,6 @@
-// The first bench of the path that levelling flips: of the benches that start an improving path the one with the greatest load, then the
-// lowest. Loads go down and numbers up; what a bench reached need not be searched again from a lighter one.
+// The first bench of the path that levelling flips: of the benches that start an improving path the one with the
+// greatest load, then the lowest. Loads go down and numbers up; what a bench reached need not be searched again from
+// a lighter one.
 ghost use Rattle.table_size.specs.Sizes.{Limits};
 ghost use Rattle.graph_lists.specs.Arrays.{HasArc, Arcs, LoadsIn};
 ghost use Rattle.graph_lists.specs.LinkedLists.{AdjacencyLists, Adjacent};

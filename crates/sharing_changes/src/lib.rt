@@ -16,7 +16,8 @@ use table_board::jobs;
 use table_board::loads;
 use table_size::Size;
 
-// What an arrival reports: the bench that holds the new job in the end, the bench whose load rose, and the other jobs that changed holder.
+// What an arrival reports: the bench that holds the new job in the end, the bench whose load rose, and the other jobs
+// that changed holder.
 pub struct Arrival {
     pub holder: usize,
     pub rose: usize,

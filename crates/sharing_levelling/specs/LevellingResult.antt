@@ -25,8 +25,8 @@ pub record IsLevelling (u : List ℕ) (l : Levelled) (r : Levelling) : Type 0 wh
 abbrev pub LevellingOf : List ℕ → List ℕ → ℕ → Levelling → Type 0
 LevellingOf t u allowance r = IsLevelling u (relevel allowance (decode t)) r
 
--- x is the first bench of the path that levelling flips next, 0 where the board is level; where there is one, the arrays are the board's arcs
--- and loads. They have their lengths
+-- x is the first bench of the path that levelling flips next, 0 where the board is level; where there is one, the
+-- arrays are the board's arcs and loads. They have their lengths
 pub record NextStart (b : Board) (s : Size) (from to loads : List ℕ) (x : ℕ) : Type 0 where
   pub none : x ≡ 0 → T (level b)
   pub some : x ≢ 0 → ArcsOf b s from to × Loaded b loads × StartOf (HasArc (s .jobs) from to) loads x

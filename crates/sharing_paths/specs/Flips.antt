@@ -28,7 +28,8 @@ Handable b s to path = Each (λ j. JobIn s j × T (member (at to j) (namesOf b j
 abbrev pub handedBy : Board → List ℕ → List ℕ → Board
 handedBy b to path = heldBy b (handOver (b .holders) (stepsBy to path))
 
--- n jobs that follow each other from x, each nearer by the smallest job that leads nearer, until the distance is 0, were handed over
+-- n jobs that follow each other from x, each nearer by the smallest job that leads nearer, until the distance is 0,
+-- were handed over
 pub record Along (b : Board) (u : List ℕ) (s : Size) (from to near : List ℕ) (x n : ℕ) : Type 0 where
   pub path : List ℕ
   pub long : length path ≡ n

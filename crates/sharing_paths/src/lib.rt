@@ -1,4 +1,5 @@
-// A path that was found is flipped. A change of holders leaves the chains as they were: see table_chains::rebuild_chains.
+// A path that was found is flipped. A change of holders leaves the chains as they were: see
+// table_chains::rebuild_chains.
 ghost use Prim.Native.Nat.{_+_, _≤_};
 ghost use mathlib.Core.Path.{_≡_};
 ghost use lib.ListN.{length, take};
@@ -14,7 +15,8 @@ use graph_routes::route;
 use table_board::jobs;
 use table_size::Size;
 
-// What flipping a path did: the path's other end, and how many jobs were handed over; where there is no path, the bench asked for, and 0.
+// What flipping a path did: the path's other end, and how many jobs were handed over; where there is no path, the
+// bench asked for, and 0.
 pub struct Flip {
     pub bench: usize,
     pub jobs: usize,

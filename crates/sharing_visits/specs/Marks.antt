@@ -27,8 +27,8 @@ OnChain head next j = (j ≡ 0) ⊎ ((x : ℕ) × T (within 1 mostBenches x) × 
 abbrev pub FromList : List ℕ → List ℕ → ℕ → ℕ → Type 0
 FromList next to j y = (i : ℕ) × On next j i × (at to i ≡ y)
 
--- the benches `Seeds` are marked, and what they bring in: no mark goes, each new one is at a bench that one of them reaches, and every
--- step from a newly marked bench leads to a marked one
+-- the benches `Seeds` are marked, and what they bring in: no mark goes, each new one is at a bench that one of them
+-- reaches, and every step from a newly marked bench leads to a marked one
 pub record ClosedOver (Joined : ℕ → ℕ → Type 0) (Seeds : ℕ → Type 0) (marks marks' : List Bool) : Type 0 where
   pub long : Marks marks'
   pub grows : (y : ℕ) → T (mark marks y) → T (mark marks' y)

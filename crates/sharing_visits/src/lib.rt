@@ -1,5 +1,5 @@
-// A bench in the set brings in its chain, and each job on that chain brings in its other bench: the bench visit and the chain walk call
-// each other. At each call the pair of unmarked benches and remaining chain falls.
+// A bench in the set brings in its chain, and each job on that chain brings in its other bench: the bench visit and
+// the chain walk call each other. At each call the pair of unmarked benches and remaining chain falls.
 ghost use mathlib.Core.Path.{_≡_};
 ghost use Prim.Native.Nat.{_≤_};
 ghost use lib.Dec.{T};

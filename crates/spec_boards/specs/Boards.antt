@@ -24,8 +24,8 @@ pub data Trial : Type 0 where
   calls : List ℕ → List Call → Trial
   program : List ℕ → Trial
 
--- what comes out: each answer in numbers; the bytes that the calls leave in their lists one after the other, or that the
--- program prints; the holders in the end
+-- what comes out: each answer in numbers; the bytes that the calls leave in their lists one after the other, or that
+-- the program prints; the holders in the end
 pub record Result : Type 0 where
   pub answers : List (List ℕ)
   pub bytes : List ℕ
@@ -103,7 +103,8 @@ boards =
     ∷ whenBlanked 33016 500 4001 (gives 1)
     ∷ whenBlanked 1008 500 0 (gives 1)
     -- ● Job J accepted; 0 and J + 1 give 3.
-    ∷ whenCalled (blankedTable 2 3) (arrival 3 1 2 ∷ arrival 0 1 2 ∷ arrival 4 1 2 ∷ closing 0 ∷ closing 4 ∷ closing 3 ∷ [])
+    ∷ whenCalled (blankedTable 2 3)
+    (arrival 3 1 2 ∷ arrival 0 1 2 ∷ arrival 4 1 2 ∷ closing 0 ∷ closing 4 ∷ closing 3 ∷ [])
     (says (1 ∷ 1 ∷ 0 ∷ []) ∷ gives 3 ∷ gives 3 ∷ gives 3 ∷ gives 3 ∷ says (1 ∷ 0 ∷ []) ∷ []) [] (0 ∷ 0 ∷ 0 ∷ [])
     -- ● Benches 2 and 2 give 4, also for a standing job.
     ∷ whenCalled (blankedTable 2 3) (arrival 1 2 2 ∷ arrival 1 1 2 ∷ arrival 1 2 2 ∷ [])
@@ -111,18 +112,21 @@ boards =
     -- ● The run above.
     ∷ whenRun (text "B 3 4\nA 1 1 2\nA 2 2 3\nA 3 1 2\nS 1\nD 2\nD 2\n")
     (text "B 3 4\nA 1 1 1 0\nA 2 2 2 0\nA 3 1 3 2\nS 1 3 3 1 2 3\nD 2 3 0\nR 6\n")
-    -- ● Jobs 1, 2, 3 all name benches 1, 2: holders 1, 2, 1; height 2 gives two benches, 1 and 2, with three inside jobs.
+    -- ● Jobs 1, 2, 3 all name benches 1, 2: holders 1, 2, 1; height 2 gives two benches, 1 and 2, with three inside
+    -- jobs.
     ∷ whenCalled (blankedTable 2 3) (threeArrivals ++ (tightSetOf 2 (9 ∷ 9 ∷ 9 ∷ 9 ∷ 9 ∷ []) ∷ []))
     (threeAnswers ++ (says (2 ∷ 3 ∷ []) ∷ [])) (1 ∷ 0 ∷ 2 ∷ 0 ∷ 9 ∷ []) (1 ∷ 2 ∷ 1 ∷ [])
     -- ● Closing job 2 then hands job 1 to bench 2; bench 1 fell, 1 moved.
     ∷ whenCalled (blankedTable 2 3) (threeArrivals ++ (closing 2 ∷ []))
     (threeAnswers ++ (says (1 ∷ 1 ∷ []) ∷ [])) [] (2 ∷ 0 ∷ 1 ∷ [])
     -- ● Jobs 1 to 4 name 1 and 2, 1 and 3, 1 and 4, 1 and 5: loads 1, 0, 1, 1, 1.
-    ∷ whenCalled (blankedTable 5 4) (arrival 1 1 2 ∷ arrival 2 1 3 ∷ arrival 3 1 4 ∷ arrival 4 1 5 ∷ map loadOf (range 1 5))
+    ∷ whenCalled (blankedTable 5 4)
+    (arrival 1 1 2 ∷ arrival 2 1 3 ∷ arrival 3 1 4 ∷ arrival 4 1 5 ∷ map loadOf (range 1 5))
     (says (1 ∷ 1 ∷ 0 ∷ []) ∷ says (3 ∷ 3 ∷ 0 ∷ []) ∷ says (4 ∷ 4 ∷ 0 ∷ []) ∷ says (5 ∷ 5 ∷ 0 ∷ [])
     ∷ says (1 ∷ []) ∷ says (0 ∷ []) ∷ says (1 ∷ []) ∷ says (1 ∷ []) ∷ says (1 ∷ []) ∷ []) [] (1 ∷ 3 ∷ 4 ∷ 5 ∷ [])
     -- ● Bench 1 holds three jobs, all naming 1, 2: allowance 0 is stopped with 0 paths; 1 is level with 1.
-    ∷ whenCalled heavyBench (levelling 0 ∷ levelling 1 ∷ []) (says (0 ∷ 0 ∷ []) ∷ says (1 ∷ 1 ∷ []) ∷ []) [] (2 ∷ 1 ∷ 1 ∷ [])
+    ∷ whenCalled heavyBench (levelling 0 ∷ levelling 1 ∷ [])
+    (says (0 ∷ 0 ∷ []) ∷ says (1 ∷ 1 ∷ []) ∷ []) [] (2 ∷ 1 ∷ 1 ∷ [])
     -- ● No jobs: heaviest 0, heights 0 and 1 give 7.
     ∷ whenCalled (blankedTable 2 3) (heaviestLoad ∷ tightSetOf 0 [] ∷ tightSetOf 1 [] ∷ [])
     (says (0 ∷ []) ∷ gives 7 ∷ gives 7 ∷ []) [] (0 ∷ 0 ∷ 0 ∷ [])

@@ -21,8 +21,9 @@ refusalNumber listTooShort = 8
 refusalNumber countFull = 9
 refusalNumber unreadable = 10
 
--- what a call answers. An arrival: the holder of the new job, the bench whose load rose, other jobs moved. A closing: the
--- bench whose load fell, jobs moved. A tight set: benches, inside jobs. A levelling: paths turned, and level or stopped
+-- what a call answers. An arrival: the holder of the new job, the bench whose load rose, other jobs moved. A closing:
+-- the bench whose load fell, jobs moved. A tight set: benches, inside jobs. A levelling: paths turned, and level or
+-- stopped
 pub data Answer : Type 0 where
   refused : Refusal → Answer
   blanked : Answer
@@ -80,7 +81,8 @@ pub record Condition : Type 0 where
 abbrev pub refuse : Refusal → Bool → Condition
 refuse r h = record { refusal = r; holds = h }
 
--- "Where several apply, the lowest number is returned": a call lists its conditions in their order, and the first that holds counts
+-- "Where several apply, the lowest number is returned": a call lists its conditions in their order, and the first
+-- that holds counts
 abbrev pub firstHolding : List Condition → Option Refusal
 firstHolding [] = none
 firstHolding (c ∷ cs) = let r = firstHolding cs in cond (c .holds) (some (c .refusal)) r

@@ -73,7 +73,8 @@ lentList levelCheck = []
 abbrev pub answering : List ℕ → Answer → Outcome
 answering t a = record { answer = a; table = t; list = [] }
 
--- "the bench that holds the new job in the end, the bench whose load rose, and the number of other jobs that changed holder"
+-- "the bench that holds the new job in the end, the bench whose load rose, and the number of other jobs that changed
+-- holder"
 unfoldable pub arrivalOutcome : ℕ → Change → Outcome
 arrivalOutcome j c =
     record {
@@ -96,8 +97,8 @@ levellingOutcome r =
       list = [];
     }
 
--- "the number of benches, the number of jobs with both benches inside, and the bench numbers, rising, as words in a lent
--- list of bytes; the list beyond them is untouched"
+-- "the number of benches, the number of jobs with both benches inside, and the bench numbers, rising, as words in a
+-- lent list of bytes; the list beyond them is untouched"
 unfoldable pub tightSetOutcome : List ℕ → Board → List ℕ → List ℕ → Outcome
 tightSetOutcome t b set list =
     record {
@@ -124,4 +125,5 @@ outcome c t = unless (formConditions t ++ conditions c (decode t)) t (lentList c
 -- blanking: 1 alone can refuse it, by the numbers given and the length; old bytes are not looked at
 unfoldable pub blanking : ℕ → ℕ → List ℕ → Outcome
 blanking benches jobs t =
-    unless (refuse sizes (not (sizesFit (length t) benches jobs)) ∷ []) t [] (answering (blankTable benches jobs) blanked)
+    unless (refuse sizes (not (sizesFit (length t) benches jobs)) ∷ []) t []
+    (answering (blankTable benches jobs) blanked)

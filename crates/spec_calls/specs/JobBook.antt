@@ -16,8 +16,9 @@ use Rattle.spec_calls.specs.Calls.{Call, outcome, arrival, closing, leve
 abbrev pub Book : Type 0
 Book = List (List ℕ)
 
--- "An accepted arrival writes its benches under its job number. An accepted closing empties its number. A refused call, a
--- levelling and a question change nothing in it." It is fed the call's numbers and whether it was refused, nothing else
+-- "An accepted arrival writes its benches under its job number. An accepted closing empties its number. A refused
+-- call, a levelling and a question change nothing in it." It is fed the call's numbers and whether it was refused,
+-- nothing else
 abbrev pub entered : Call → Bool → Book → Book
 entered (arrival j x y) false k = update k j (x ∷ y ∷ [])
 entered (arrival j x y) true k = k
@@ -53,9 +54,13 @@ tableAfter t (o ∷ os) = tableAfter (o .table) os
 -- "each accepted arrival or closing changes one bench's load by one", the one that its answer says
 abbrev pub OneLoad : Call → Answer → Board → Board → Type 0
 OneLoad (arrival j x y) a before after =
-    isRefused a ≡ false → (holder : ℕ) × (rose : ℕ) × (moved : ℕ) × (a ≡ arrived holder rose moved) × OneMore (before .benches) (before .holders) (after .holders) rose
+    isRefused a ≡ false →
+    (holder : ℕ) × (rose : ℕ) × (moved : ℕ) × (a ≡ arrived holder rose moved)
+    × OneMore (before .benches) (before .holders) (after .holders) rose
 OneLoad (closing j) a before after =
-    isRefused a ≡ false → (fell : ℕ) × (moved : ℕ) × (a ≡ closed fell moved) × OneMore (before .benches) (after .holders) (before .holders) fell
+    isRefused a ≡ false →
+    (fell : ℕ) × (moved : ℕ) × (a ≡ closed fell moved)
+    × OneMore (before .benches) (after .holders) (before .holders) fell
 OneLoad (levelling allowance) a before after = Unit {0}
 OneLoad (loadOf x) a before after = Unit {0}
 OneLoad heaviestLoad a before after = Unit {0}
@@ -80,10 +85,12 @@ Runs Does t (c ∷ cs) (o ∷ os) = Does c t o × Runs Does (o .table) cs os
 abbrev pub AsDefined : Call → List ℕ → Outcome → Type 0
 AsDefined c t o = o ≡ outcome c t
 
--- "For a blank table (one as blanking leaves it) it starts empty; for a level one it starts with the standing jobs of the
--- table handed in"
+-- "For a blank table (one as blanking leaves it) it starts empty; for a level one it starts with the standing jobs of
+-- the table handed in"
 pub data Start : List ℕ → Book → Type 0 where
-  fromBlank : (benches jobs : ℕ) → sizesFit (lengthFor benches jobs) benches jobs ≡ true → Start (blankTable benches jobs) (replicate jobs [])
+  fromBlank :
+      (benches jobs : ℕ) → sizesFit (lengthFor benches jobs) benches jobs ≡ true →
+      Start (blankTable benches jobs) (replicate jobs [])
   fromLevel : (t : List ℕ) → sound t ≡ true → level (decode t) ≡ true → Start t ((decode t) .named)
 
 -- what demand 3 claims of a whole list of calls cs with outcomes os, from a start t whose book is k
@@ -94,7 +101,9 @@ pub record Claim (t : List ℕ) (k : Book) (cs : List Call) (os : List Outcome) 
   -- the holder words are a sharing of the book's jobs
   pub shares : Shares (bookAfter k cs (refusedEach os)) ((decode (tableAfter t os)) .holders)
   -- above every height the overhang is least among all sharings of the book's jobs
-  pub least : (h : ℕ) (holders : List ℕ) → Shares (bookAfter k cs (refusedEach os)) holders → excess ((decode t) .benches) ((decode (tableAfter t os)) .holders) h ≤ excess ((decode t) .benches) holders h
+  pub least :
+      (h : ℕ) (holders : List ℕ) → Shares (bookAfter k cs (refusedEach os)) holders →
+      excess ((decode t) .benches) ((decode (tableAfter t os)) .holders) h ≤ excess ((decode t) .benches) holders h
   -- each accepted arrival or closing changes one bench's load by one
   pub oneLoad : OneLoadEach t cs os
   -- every call is answered as defined
@@ -103,5 +112,6 @@ pub record Claim (t : List ℕ) (k : Book) (cs : List Call) (os : List Outcome) 
 -- demand 3, for whatever does the calls, if each call meets its contract
 abbrev pub Demand3 : Type 1
 Demand3 =
-    (Does : Call → List ℕ → Outcome → Type 0) → ((c : Call) (t : List ℕ) (o : Outcome) → Does c t o → AsDefined c t o) →
+    (Does : Call → List ℕ → Outcome → Type 0) →
+    ((c : Call) (t : List ℕ) (o : Outcome) → Does c t o → AsDefined c t o) →
     (t : List ℕ) (k : Book) → Start t k → (cs : List Call) (os : List Outcome) → Runs Does t cs os → Claim t k cs os

@@ -43,7 +43,8 @@ value n (c ∷ l) = value (10 * n + (c - code "0")) l
 unfoldable pub number : List ℕ → Option ℕ
 number [] = none
 number (c ∷ l) =
-    cond (all digit (c ∷ l) && (empty l || not (eqb c (code "0"))) && leb (value 0 (c ∷ l)) 65535) (some (value 0 (c ∷ l))) none
+    cond (all digit (c ∷ l) && (empty l || not (eqb c (code "0"))) && leb (value 0 (c ∷ l)) 65535)
+    (some (value 0 (c ∷ l))) none
 
 -- a number and the numbers after it; none if one of them is not readable
 abbrev pub joined : Option ℕ → Option (List ℕ) → Option (List ℕ)
@@ -88,7 +89,8 @@ command line = let r = fieldsCommand (pieces space line) in cond (leb (length li
 -- the digits of a number; the fuel is the number
 abbrev pub digits : ℕ → ℕ → List ℕ
 digits zero n = (code "0" + n) ∷ []
-digits (suc k) n = elim (ltb n 10) [ true ↦ (code "0" + n) ∷ [] | false ↦ digits k (n / 10) ++ ((code "0" + n % 10) ∷ []) ]
+digits (suc k) n =
+    elim (ltb n 10) [ true ↦ (code "0" + n) ∷ [] | false ↦ digits k (n / 10) ++ ((code "0" + n % 10) ∷ []) ]
 
 -- a printed line: a letter and numbers, one space between
 unfoldable pub printed : ℕ → List ℕ → List ℕ
@@ -161,7 +163,8 @@ after askHeaviest s o = s
 abbrev pub unreadableLine : List ℕ
 unreadableLine = printed (code "R") (inNumbers (refused unreadable))
 
--- what is printed for the lines from a state on; the last piece of the input has no line feed, and is a line if it has a byte
+-- what is printed for the lines from a state on; the last piece of the input has no line feed, and is a line if it
+-- has a byte
 unfoldable pub prints : Counter → List (List ℕ) → List ℕ
 prints s [] = []
 prints s (piece ∷ []) = cond (empty piece) [] unreadableLine

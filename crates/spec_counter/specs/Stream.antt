@@ -40,7 +40,9 @@ pub record Consumes (a b : Place) (input text : List ℕ) : Type 0 where
 -- pieces of the input read one after the other from a to b, and what is printed for each
 pub data ConsumesAll (b : Place) : Place → List (List ℕ) → List (List ℕ) → Type 0 where
   ended : ConsumesAll b b [] []
-  then : {a c : Place} {input text : List ℕ} {inputs texts : List (List ℕ)} → Consumes a c input text → ConsumesAll b c inputs texts → ConsumesAll b a (input ∷ inputs) (text ∷ texts)
+  then :
+      {a c : Place} {input text : List ℕ} {inputs texts : List (List ℕ)} → Consumes a c input text →
+      ConsumesAll b c inputs texts → ConsumesAll b a (input ∷ inputs) (text ∷ texts)
 
 -- what is printed where the input ends: a line that has begun is one without a line feed
 abbrev pub atEnd : List ℕ → List ℕ

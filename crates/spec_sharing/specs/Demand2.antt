@@ -15,7 +15,8 @@ use Rattle.spec_sharing.specs.Sharing.{levellingChoice, tightSet, inside
 -- above every height the overhang is at most that of every other sharing of the same jobs
 abbrev pub LeastExcess : Board → Type 0
 LeastExcess b =
-    (h : ℕ) (holders : List ℕ) → Shares (b .named) holders → excess (b .benches) (b .holders) h ≤ excess (b .benches) holders h
+    (h : ℕ) (holders : List ℕ) → Shares (b .named) holders →
+    excess (b .benches) (b .holders) h ≤ excess (b .benches) holders h
 
 -- what demand 2 claims of a level board
 pub record Demand2 (b : Board) : Type 0 where
@@ -23,10 +24,14 @@ pub record Demand2 (b : Board) : Type 0 where
   pub orientation : Shares (b .named) (b .holders)
   -- .. and "the heaviest load is the least over all orientations" (000: the least maximum out-degree)
   pub noLower : (holders : List ℕ) → Shares (b .named) holders → heaviest b ≤ heaviest (heldBy b holders)
-  -- "its tight set proves it": where jobs stand, the tight set at the heaviest load has inside jobs for each bench, rounded up, just that many
-  pub tight : 1 ≤ standing b → let set = tightSet b (heaviest b) in density (inside set (b .named)) (length set) ≡ heaviest b
+  -- "its tight set proves it": where jobs stand, the tight set at the heaviest load has inside jobs for each bench,
+  -- rounded up, just that many
+  pub tight :
+      1 ≤ standing b → let set = tightSet b (heaviest b) in density (inside set (b .named)) (length set) ≡ heaviest b
   -- "inside jobs less (h − 1) × benches is the overhang above h − 1"; the sum says that nothing is cut off below 0
-  pub heights : (h : ℕ) → 1 ≤ h → h ≤ heaviest b → let set = tightSet b h in inside set (b .named) ≡ (h - 1) * length set + excess (b .benches) (b .holders) (h - 1)
+  pub heights :
+      (h : ℕ) → 1 ≤ h → h ≤ heaviest b →
+      let set = tightSet b h in inside set (b .named) ≡ (h - 1) * length set + excess (b .benches) (b .holders) (h - 1)
 
 -- the loads of benches 1 to B are the same but for bench x, whose load is one more in `more`
 pub record OneMore (benches : ℕ) (less more : List ℕ) (x : ℕ) : Type 0 where
@@ -40,8 +45,8 @@ abbrev pub handed : ℕ → Board → Board → ℕ
 handed j before after =
     total (length (before .named)) (λ i. bit (not (eqb i j) && not (eqb (holderOf after i) (holderOf before i))))
 
--- an arrival of job j for these benches reports "the bench that holds the new job in the end, the bench whose load rose, and the
--- number of other jobs that changed holder"
+-- an arrival of job j for these benches reports "the bench that holds the new job in the end, the bench whose load
+-- rose, and the number of other jobs that changed holder"
 pub record ArrivalReport (before after : Board) (j : ℕ) (names : List ℕ) (holder rose moved : ℕ) : Type 0 where
   pub benches : after .benches ≡ before .benches
   pub jobs : after .named ≡ update (before .named) j names
@@ -59,7 +64,8 @@ pub record ClosingReport (before after : Board) (j fell moved : ℕ) : Type 0 wh
 -- n paths are turned between two boards, each the one that the rule names
 pub data Flips : ℕ → Board → Board → Type 0 where
   noFlip : (b : Board) → Flips 0 b b
-  flipThen : (n : ℕ) (b c : Board) (p : BenchPath) → levellingChoice b ≡ some p → Flips n (flip b p) c → Flips (suc n) b c
+  flipThen :
+      (n : ℕ) (b c : Board) (p : BenchPath) → levellingChoice b ≡ some p → Flips n (flip b p) c → Flips (suc n) b c
 
 -- a levelling reports "the paths turned", within the allowance; no job and no named bench changes
 pub record LevellingReport (before after : Board) (allowance paths : ℕ) : Type 0 where

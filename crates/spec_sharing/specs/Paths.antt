@@ -16,7 +16,8 @@ pub record Step : Type 0 where
 abbrev pub stepBy : ℕ → ℕ → Step
 stepBy j y = record { job = j; to = y }
 
--- "each step is by a job held by the bench it leaves, to that job's other bench": the steps from bench x by the jobs from j on
+-- "each step is by a job held by the bench it leaves, to that job's other bench": the steps from bench x by the jobs
+-- from j on
 abbrev pub stepsFrom : ℕ → ℕ → List (List ℕ) → List ℕ → List Step
 stepsFrom j x [] holders = []
 stepsFrom j x (names ∷ named) [] = []
@@ -61,11 +62,13 @@ pub record IsPath (b : Board) (p : BenchPath) : Type 0 where
   pub walk : Walk (steps b) (p .start) (p .route)
   pub once : distinct (p .start ∷ map (λ s. s .to) (p .route)) ≡ true
 
--- the routes from x that come to no bench already seen: none, or a step and a route from there. The fuel is the number of benches
+-- the routes from x that come to no bench already seen: none, or a step and a route from there. The fuel is the
+-- number of benches
 abbrev pub routes : (ℕ → List Step) → ℕ → List ℕ → ℕ → List (List Step)
 routes out zero seen x = [] ∷ []
 routes out (suc k) seen x =
-    [] ∷ flatMap (λ s. map (λ r. s ∷ r) (routes out k (s .to ∷ seen) (s .to))) (filter (λ s. not (member (s .to) seen)) (out x))
+    [] ∷ flatMap (λ s. map (λ r. s ∷ r) (routes out k (s .to ∷ seen) (s .to)))
+    (filter (λ s. not (member (s .to) seen)) (out x))
 
 -- all paths from bench x
 unfoldable pub pathsFrom : Board → ℕ → List BenchPath

@@ -13,7 +13,8 @@ use Rattle.spec_sharing.specs.Paths.{BenchPath, steps, last, jobs, impro
 abbrev pub below : Board → ℕ → ℕ
 below b x = heaviest b - load (b .holders) x
 
--- "lowest last load, then fewest jobs, then lowest last bench, then the list of job numbers that is first in dictionary order"
+-- "lowest last load, then fewest jobs, then lowest last bench, then the list of job numbers that is first in
+-- dictionary order"
 abbrev pub arrivalKey : Board → BenchPath → List ℕ
 arrivalKey b p = load (b .holders) (last p) ∷ length (p .route) ∷ last p ∷ jobs p
 
@@ -37,7 +38,8 @@ closingChoice b x = argmin (closingKey b) (improvingTo b x)
 unfoldable pub levellingChoice : Board → Option BenchPath
 levellingChoice b = argmin (levellingKey b) (improving b)
 
--- an arrival's or closing's result: the board, the bench whose load changed, and the other jobs that changed holder, in path order
+-- an arrival's or closing's result: the board, the bench whose load changed, and the other jobs that changed holder,
+-- in path order
 pub record Change : Type 0 where
   pub board : Board
   pub bench : ℕ

@@ -1,5 +1,5 @@
--- The board as mathematics sees it: jobs that name benches, and who holds each. A job names a list of benches; how many is
--- the table's affair, and nothing here depends on it.
+-- The board as mathematics sees it: jobs that name benches, and who holds each. A job names a list of benches; how
+-- many is the table's affair, and nothing here depends on it.
 use Prim.Native.Nat.{ℕ, _-_}
 use mathlib.Core.Bool.{Bool, _&&_, not}
 use mathlib.Core.List.{List, [], _∷_}
@@ -7,8 +7,9 @@ use lib.Dec.{T, eqb}
 use lib.ListN.{length}
 use Rattle.spec_lists.specs.Lists.{within, count, member, distinct, total, greatest, filter, all, Each, empty, nth, update}
 
--- 000: an oriented multigraph; a bench is a vertex, a job an edge, its holder the vertex that the edge leaves. Benches are 1 to
--- `benches`; for each job number in order the benches that the job names, [] for no job; and the bench that holds it, 0 for no job
+-- 000: an oriented multigraph; a bench is a vertex, a job an edge, its holder the vertex that the edge leaves.
+-- Benches are 1 to `benches`; for each job number in order the benches that the job names, [] for no job; and the
+-- bench that holds it, 0 for no job
 pub record Board : Type 0 where
   pub benches : ℕ
   pub named : List (List ℕ)

@@ -1,4 +1,5 @@
--- 01, "The table": words, sizes, records, chains, the sound table; the board that a table holds, and the table of a board.
+-- 01, "The table": words, sizes, records, chains, the sound table; the board that a table holds, and the table of a
+-- board.
 use Prim.Native.Nat.{ℕ, zero, suc, _+_, _*_, _/_, _%_}
 use mathlib.Core.Bool.{Bool, cond, not, _&&_, _||_}
 use mathlib.Core.List.{List, [], _∷_, _++_, map, flatMap}
@@ -30,10 +31,12 @@ mostJobs = 4000
 abbrev pub lengthFor : ℕ → ℕ → ℕ
 lengthFor benches jobs = 2 * (4 + benches + 4 * jobs)
 
--- what refusal 1 denies: the byte length is even and 8 or more, B is 1 to 500, J is 1 to 4,000, and the length is theirs
+-- what refusal 1 denies: the byte length is even and 8 or more, B is 1 to 500, J is 1 to 4,000, and the length is
+-- theirs
 unfoldable pub sizesFit : ℕ → ℕ → ℕ → Bool
 sizesFit len benches jobs =
-    eqb (len % 2) 0 && leb 8 len && within 1 mostBenches benches && within 1 mostJobs jobs && eqb len (lengthFor benches jobs)
+    eqb (len % 2) 0 && leb 8 len && within 1 mostBenches benches && within 1 mostJobs jobs
+    && eqb len (lengthFor benches jobs)
 
 -- a job's record: "first bench, second bench, holder (1 first-named, 2 second-named), next job on the chain"
 pub record Entry : Type 0 where
@@ -83,8 +86,8 @@ layout ws =
       entries = entriesIn (drop (4 + benches) ws);
     }
 
--- the jobs on a chain from job j on: "Next 0 ends a chain". A number above J has no record and ends it too. The fuel is one
--- more than the jobs, so that a chain which returns to itself shows a job twice
+-- the jobs on a chain from job j on: "Next 0 ends a chain". A number above J has no record and ends it too. The fuel
+-- is one more than the jobs, so that a chain which returns to itself shows a job twice
 abbrev pub follow : List Entry → ℕ → ℕ → List ℕ
 follow es zero j = []
 follow es (suc k) zero = []
@@ -157,7 +160,8 @@ abbrev pub entryFor : List ℕ → ℕ → ℕ → Entry
 entryFor [] h n = vacant
 entryFor (x ∷ names) h n = record { names = x ∷ names; holder = positionOf h (x ∷ names); next = n }
 
--- the records of the jobs from i on: the next job on a chain is the lowest later one of the same holder, so chains rise
+-- the records of the jobs from i on: the next job on a chain is the lowest later one of the same holder, so chains
+-- rise
 abbrev pub entriesFrom : ℕ → List (List ℕ) → List ℕ → List Entry
 entriesFrom i [] holders = []
 entriesFrom i (names ∷ named) [] = []

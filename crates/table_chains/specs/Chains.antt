@@ -1,4 +1,5 @@
--- Chains made anew, as the code goes: from the last job down, each held job is pushed at the front of its holder's chain.
+-- Chains made anew, as the code goes: from the last job down, each held job is pushed at the front of its holder's
+-- chain.
 use Prim.Native.Nat.{ℕ, zero, suc, _≤_}
 use mathlib.Core.Path.{_≡_}
 use mathlib.Core.List.{List, _∷_}

@@ -5,7 +5,7 @@ use native.Mathlib.Omega.{arith}
 use mathlib.Core.Logic.{⊎-elim}
 use borrow.Author.Needs.{needs}
 use Rattle.table_size.specs.Sizes.{BenchIn}
-use Rattle.graph_routes.proofs.Choosing.{Sofar, choose-start, choose-other, choose-filter, choose-only, choose-better, choose-end}
+use Rattle.graph_routes.proofs.Choosing.{Sofar, choose-start, choose-other, choose-same, choose-only, choose-better, choose-end}
 use Rattle.graph_routes.proofs.ends.choose.Statement.{statement}
 use Rattle.graph_routes.proofs.ends.choose.Tie as tie
 
@@ -47,7 +47,7 @@ loop-again c =
     ⊎-elim
     (λ w. let y = rw (w .0 .taken) at test in rw (w .2) (⊎-elim (λ v. choose-only f y (v .taken)) (λ v. choose-better f y (v .0 .left) (rw (v .2 .taken) at (v .1 .ensures))) (w .1 .came)))
     (⊎-elim
-    (λ w. rw (w .4) (choose-filter f (w .1 .left) (rw (w .3 .left) at (w .2 .ensures))))
+    (λ w. rw (w .4) (choose-same f (w .1 .left) (rw (w .3 .left) at (w .2 .ensures))))
     (λ w. rw (w .1) (choose-other f (rw (w .0 .left) at test))))
     (c .if1 .came)
 
