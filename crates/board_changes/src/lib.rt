@@ -43,8 +43,7 @@ pub fn arrival(t: &mut [u8], job: usize, first: usize, second: usize) -> Answer
     ensures { λ r. ⌜ Leaves (outcome (arrival job first second) (now (t .entry))) r (now (t .exit)) [] ⌝ }
 {
     match table_form::check(t) {
-        Form::Sizes => Answer::Refused(Refusal::Sizes),
-        Form::Unsound => Answer::Refused(Refusal::Unsound),
+        Form::Refused(r) => Answer::Refused(r),
         Form::Sound(s) => arrival_on(t, s, job, first, second),
     }
 }
@@ -69,8 +68,7 @@ pub fn closing(t: &mut [u8], job: usize) -> Answer
     ensures { λ r. ⌜ Leaves (outcome (closing job) (now (t .entry))) r (now (t .exit)) [] ⌝ }
 {
     match table_form::check(t) {
-        Form::Sizes => Answer::Refused(Refusal::Sizes),
-        Form::Unsound => Answer::Refused(Refusal::Unsound),
+        Form::Refused(r) => Answer::Refused(r),
         Form::Sound(s) => closing_on(t, s, job),
     }
 }
@@ -80,8 +78,7 @@ pub fn levelling(t: &mut [u8], allowance: u32) -> Answer
     ensures { λ r. ⌜ Leaves (outcome (levelling allowance) (now (t .entry))) r (now (t .exit)) [] ⌝ }
 {
     match table_form::check(t) {
-        Form::Sizes => Answer::Refused(Refusal::Sizes),
-        Form::Unsound => Answer::Refused(Refusal::Unsound),
+        Form::Refused(r) => Answer::Refused(r),
         Form::Sound(s) => {
             let l = sharing_levelling::relevel(t, s, allowance);
             if l.level {

@@ -13,8 +13,7 @@ pub fn form_check(t: &[u8]) -> Answer
     ensures { λ r. ⌜ Leaves (outcome formCheck (now (t .entry))) r (now (t .entry)) [] ⌝ }
 {
     match table_form::check(t) {
-        Form::Sizes => Answer::Refused(Refusal::Sizes),
-        Form::Unsound => Answer::Refused(Refusal::Unsound),
+        Form::Refused(r) => Answer::Refused(r),
         Form::Sound(_) => Answer::Sound,
     }
 }
@@ -24,8 +23,7 @@ pub fn level_check(t: &[u8]) -> Answer
     ensures { λ r. ⌜ Leaves (outcome levelCheck (now (t .entry))) r (now (t .entry)) [] ⌝ }
 {
     match table_form::check(t) {
-        Form::Sizes => Answer::Refused(Refusal::Sizes),
-        Form::Unsound => Answer::Refused(Refusal::Unsound),
+        Form::Refused(r) => Answer::Refused(r),
         Form::Sound(s) => {
             if sharing_levelling::is_level(t, s) {
                 Answer::Level
@@ -41,8 +39,7 @@ pub fn load(t: &[u8], bench: usize) -> Answer
     ensures { λ r. ⌜ Leaves (outcome (loadOf bench) (now (t .entry))) r (now (t .entry)) [] ⌝ }
 {
     match table_form::check(t) {
-        Form::Sizes => Answer::Refused(Refusal::Sizes),
-        Form::Unsound => Answer::Refused(Refusal::Unsound),
+        Form::Refused(r) => Answer::Refused(r),
         Form::Sound(s) => {
             if s.has_bench(bench) {
                 Answer::Load(sharing_loads::load(t, s, bench))
@@ -58,8 +55,7 @@ pub fn heaviest(t: &[u8]) -> Answer
     ensures { λ r. ⌜ Leaves (outcome heaviestLoad (now (t .entry))) r (now (t .entry)) [] ⌝ }
 {
     match table_form::check(t) {
-        Form::Sizes => Answer::Refused(Refusal::Sizes),
-        Form::Unsound => Answer::Refused(Refusal::Unsound),
+        Form::Refused(r) => Answer::Refused(r),
         Form::Sound(s) => Answer::Heaviest(sharing_loads::heaviest(t, s)),
     }
 }
@@ -90,8 +86,7 @@ pub fn tight_set(t: &[u8], height: usize, list: &mut [u8]) -> Answer
     ensures { λ r. ⌜ Leaves (outcome (tightSetOf height (now (list .entry))) (now (t .entry))) r (now (t .entry)) (now (list .exit)) ⌝ }
 {
     match table_form::check(t) {
-        Form::Sizes => Answer::Refused(Refusal::Sizes),
-        Form::Unsound => Answer::Refused(Refusal::Unsound),
+        Form::Refused(r) => Answer::Refused(r),
         Form::Sound(s) => tight_set_on(t, s, height, list),
     }
 }

@@ -63,6 +63,15 @@ none-holds (c ∷ cs) e = go (c .holds) refl e (λ d. none-holds cs d)
     go true h d ih = absurd (Option·some-ne-none (c .refusal) d)
     go false h d ih = (h, ih d)
 
+-- conditions that come after one that holds do not count
+pub first-stays : (cs ds : List Condition) (r : Refusal) → firstHolding cs ≡ some r → firstHolding (cs ++ ds) ≡ some r
+first-stays [] ds r e = absurd (Option·none-ne-some r e)
+first-stays (c ∷ cs) ds r e = go (c .holds) e (λ d. first-stays cs ds r d)
+  where
+    go : (z : Bool) → cond z (some (c .refusal)) (firstHolding cs) ≡ some r → (firstHolding cs ≡ some r → firstHolding (cs ++ ds) ≡ some r) → cond z (some (c .refusal)) (firstHolding (cs ++ ds)) ≡ some r
+    go true d ih = d
+    go false d ih = ih d
+
 -- an accepted call's answer is no refusal
 pub accepted-answers : (c : Call) (t : List ℕ) (b : Board) → isRefused ((accepted c t b) .answer) ≡ false
 unfolding accepted arrivalOutcome closingOutcome levellingOutcome tightSetOutcome
@@ -82,6 +91,11 @@ accepted-answers levelCheck t b = go (level b)
     go : (z : Bool) → isRefused (cond z levelYes levelNo) ≡ false
     go true = refl
     go false = refl
+
+-- a table that 1 or 2 refuses is refused so by every call
+pub form-stops : (c : Call) (t : List ℕ) (r : Refusal) → firstHolding (formConditions t) ≡ some r → (outcome c t) .answer ≡ refused r
+unfolding outcome
+form-stops c t r e = rw (first-stays (formConditions t) (conditions c (decode t)) r e)
 
 -- a refused call names the first condition that holds, and leaves every lent byte
 pub record RefusedBy (r : Refusal) (c : Call) (t : List ℕ) : Type 0 where

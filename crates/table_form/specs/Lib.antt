@@ -1,3 +1,3 @@
--- What the form check promises (`View`), and how its walks go (`Walks`).
+-- What the form check promises (`FormCheck`), and how its walks go (`ChainWalks`).
 pub mod FormCheck
 pub mod ChainWalks

@@ -1,22 +1,21 @@
-// The form check: refusal 1, refusal 2, or sound, for any bytes. One pass over the records (`kinds`), one walk along the chains.
+// The form check, of any bytes: refusal 1, refusal 2, or sound. One pass over the records, one walk along the chains.
 ghost use mathlib.Core.Path.{_≡_};
 ghost use Rattle.spec_lists.specs.Lists.{nth};
 ghost use Rattle.spec_table.specs.Table.{formed};
 ghost use Rattle.table_words.specs.Bytes.{layoutIn};
 ghost use Rattle.table_size.specs.Sizes.{SizeOf, BenchIn};
 ghost use Rattle.table_form.specs.ChainWalks.{walked, allWalked};
-ghost use Rattle.table_form.specs.FormCheck.{Answered};
+ghost use Rattle.table_form.specs.FormCheck.{FormOf};
 use table_header::heads;
 use table_record_form::Seen;
+use table_refusals::Refusal;
 use table_size::Size;
 use table_size::Sizing;
 
 // What the form check answers.
 pub enum Form {
-    // Refusal 1.
-    Sizes,
-    // Refusal 2.
-    Unsound,
+    // Refusal 1 or 2.
+    Refused(Refusal),
     Sound(Size),
 }
 
@@ -81,15 +80,15 @@ fn is_formed(t: &[u8], s: Size) -> bool
 
 // Checks any bytes: refusal 1, refusal 2, or sound.
 pub fn check(t: &[u8]) -> Form
-    ensures { λ r. ⌜ Answered (now (t .entry)) r ⌝ }
+    ensures { λ r. ⌜ FormOf (now (t .entry)) r ⌝ }
 {
     match Size::of(t) {
-        Sizing::Misfit => Form::Sizes,
+        Sizing::Misfit => Form::Refused(Refusal::Sizes),
         Sizing::Fit(s) => {
             if is_formed(t, s) {
                 Form::Sound(s)
             } else {
-                Form::Unsound
+                Form::Refused(Refusal::Unsound)
             }
         }
     }

@@ -5,6 +5,7 @@ ghost use Rattle.table_size.specs.Sizes.{SoundTable};
 use libc::STDOUT_FILENO;
 use table_board::loads;
 use table_form::Form;
+use table_refusals::Refusal;
 use table_size::Size;
 
 fn heaviest(loads: &[u16; Size::MOST_BENCHES + 1]) -> u16 {
@@ -30,14 +31,19 @@ fn print_sound(t: &[u8], s: Size)
     io::write_all(STDOUT_FILENO, b"\n");
 }
 
+// Prints a refusal twice: as the form check's answer, and in place of the heaviest load.
+fn print_refused(r: Refusal) {
+    let number = r.number() as u64;
+    io::write_all(STDOUT_FILENO, b" ");
+    io::print_decimal(STDOUT_FILENO, number);
+    io::write_all(STDOUT_FILENO, b" ");
+    io::print_decimal(STDOUT_FILENO, number);
+    io::write_all(STDOUT_FILENO, b"\n");
+}
+
 fn print_table(t: &[u8]) {
     match table_form::check(t) {
-        Form::Sizes => {
-            io::write_all(STDOUT_FILENO, b" 1 1\n");
-        }
-        Form::Unsound => {
-            io::write_all(STDOUT_FILENO, b" 2 2\n");
-        }
+        Form::Refused(r) => print_refused(r),
         Form::Sound(s) => print_sound(t, s),
     }
 }

@@ -1,6 +1,6 @@
--- The form check's answer is refusal 1, refusal 2, or that the table is sound, which is all that a closing on it asks for.
+-- The form check's answer is a refusal, or that the table is sound, which is all that a closing on it asks for.
 use Rattle.spec_calls.specs.Calls.{closing}
-use Rattle.board_answers.proofs.Formal.{sizes-refused, unsound-refused}
+use Rattle.board_answers.proofs.Formal.{form-refused}
 use borrow.Author.Needs.{needs}
 use Rattle.board_changes.proofs.closing.Statement.{statement}
 use Rattle.board_changes.proofs.closing.Tie as tie
@@ -8,11 +8,8 @@ use Rattle.board_changes.proofs.closing.Tie as tie
 check-requires : tie.Need-check-requires
 check-requires c κs = search needs
 
-enum-told : tie.Need-enum-told
-enum-told c = search needs
-
-enum-told-2 : tie.Need-enum-told-2
-enum-told-2 c = search needs
+enum-known-r : tie.Need-enum-known-r
+enum-known-r c = search needs
 
 enum-known-s : tie.Need-enum-known-s
 enum-known-s c = search needs
@@ -25,34 +22,23 @@ same-length : tie.Need-same-length
 same-length c = search needs
 
 returns : tie.Need-returns
-returns c =
-    sizes-refused (closing _) _ (rw (c .enum-told .given .1) at (c .before .before .check .ensures .says))
+returns c = form-refused _ (closing _) _ (rw (c .before .r .given .1) at (c .before .before .before .check .ensures .says))
 
 same-length-2 : tie.Need-same-length-2
 same-length-2 c = search needs
 
 returns-2 : tie.Need-returns-2
-returns-2 c =
-    unsound-refused (closing _) _ (rw (c .enum-told2 .given .1) at (c .before .before .check .ensures .says))
-
-same-length-3 : tie.Need-same-length-3
-same-length-3 c = search needs
-
-returns-3 : tie.Need-returns-3
-returns-3 c = c .before .before .closing-on .ensures
+returns-2 c = c .before .before .closing-on .ensures
 
 pub closing-spec : {M : Type 1} → statement M
 closing-spec =
     tie.close
     (tie.spec
     check-requires
-    enum-told
-    enum-told-2
+    enum-known-r
     enum-known-s
     closing-on-requires
     same-length
     returns
     same-length-2
-    returns-2
-    same-length-3
-    returns-3)
+    returns-2)

@@ -1,8 +1,8 @@
--- The form check's answer is refusal 1, refusal 2, or that the table is sound and can be levelled.
+-- The form check's answer is a refusal, or that the table is sound and can be levelled.
 use mathlib.Core.Bool.{true, false}
 use Rattle.spec_calls.specs.Calls.{levelling}
 use Rattle.table_size.specs.Sizes.{SoundTable}
-use Rattle.board_answers.proofs.Formal.{sizes-refused, unsound-refused}
+use Rattle.board_answers.proofs.Formal.{form-refused}
 use Rattle.board_changes.proofs.ChangeOutcomes.{levelling-left}
 use borrow.Author.Needs.{needs}
 use Rattle.board_changes.proofs.levelling.Statement.{statement}
@@ -11,11 +11,8 @@ use Rattle.board_changes.proofs.levelling.Tie as tie
 check-requires : tie.Need-check-requires
 check-requires c κs = search needs
 
-enum-told : tie.Need-enum-told
-enum-told c = search needs
-
-enum-told-2 : tie.Need-enum-told-2
-enum-told-2 c = search needs
+enum-known-r : tie.Need-enum-known-r
+enum-known-r c = search needs
 
 enum-known-s : tie.Need-enum-known-s
 enum-known-s c = search needs
@@ -31,30 +28,22 @@ same-length : tie.Need-same-length
 same-length c = search needs
 
 returns : tie.Need-returns
-returns c =
-    sizes-refused (levelling _) _ (rw (c .enum-told .given .1) at (c .before .before .check .ensures .says))
+returns c = form-refused _ (levelling _) _ (rw (c .before .r .given .1) at (c .before .before .before .check .ensures .says))
 
 same-length-2 : tie.Need-same-length-2
 same-length-2 c = search needs
 
 returns-2 : tie.Need-returns-2
 returns-2 c =
-    unsound-refused (levelling _) _ (rw (c .enum-told2 .given .1) at (c .before .before .check .ensures .says))
+    let done = c .before .before .before in
+    let sound = done .before .before .before in
+    levelling-left (checked sound) (sound .before .before .before .before .before .args .allowance) true (done .relevel .ensures) (c .if1 .taken)
 
 same-length-3 : tie.Need-same-length-3
 same-length-3 c = search needs
 
 returns-3 : tie.Need-returns-3
 returns-3 c =
-    let done = c .before .before .before in
-    let sound = done .before .before .before in
-    levelling-left (checked sound) (sound .before .before .before .before .before .args .allowance) true (done .relevel .ensures) (c .if1 .taken)
-
-same-length-4 : tie.Need-same-length-4
-same-length-4 c = search needs
-
-returns-4 : tie.Need-returns-4
-returns-4 c =
     let done = c .before .before .before in
     let sound = done .before .before .before in
     levelling-left (checked sound) (sound .before .before .before .before .before .args .allowance) false (done .relevel .ensures) (c .if1 .left)
@@ -64,8 +53,7 @@ levelling-spec =
     tie.close
     (tie.spec
     check-requires
-    enum-told
-    enum-told-2
+    enum-known-r
     enum-known-s
     relevel-requires
     same-length
@@ -73,6 +61,4 @@ levelling-spec =
     same-length-2
     returns-2
     same-length-3
-    returns-3
-    same-length-4
-    returns-4)
+    returns-3)

@@ -1,7 +1,7 @@
 -- The heaviest load of a sound table.
 use Rattle.spec_calls.specs.Calls.{heaviestLoad}
 use Rattle.table_size.specs.Sizes.{SoundTable}
-use Rattle.board_answers.proofs.Formal.{sizes-refused, unsound-refused}
+use Rattle.board_answers.proofs.Formal.{form-refused}
 use Rattle.board_questions.proofs.Asking.{heaviest-told}
 use borrow.Author.Needs.{needs}
 use Rattle.board_questions.proofs.heaviest.Statement.{statement}
@@ -10,41 +10,26 @@ use Rattle.board_questions.proofs.heaviest.Tie as tie
 check-requires : tie.Need-check-requires
 check-requires c κs = search needs
 
-enum-told : tie.Need-enum-told
-enum-told c = search needs
-
-enum-told-2 : tie.Need-enum-told-2
-enum-told-2 c = search needs
+enum-known-r : tie.Need-enum-known-r
+enum-known-r c = search needs
 
 enum-known-s : tie.Need-enum-known-s
 enum-known-s c = search needs
 
 -- the table is sound
-sound-table : (c : tie.After-known-told) → SoundTable (c .before .before .before .before .before .args .t .now) (c .before .s .given .0 .0)
+sound-table : (c : tie.After-known-told2) → SoundTable (c .before .before .before .before .before .args .t .now) (c .before .s .given .0 .0)
 sound-table c = rw (c .before .s .given .1) at (c .before .before .before .check .ensures .says)
 
 heaviest-requires : tie.Need-heaviest-requires
 heaviest-requires c κs = sound-table c
 
 returns : tie.Need-returns
-returns c = sizes-refused heaviestLoad _ (rw (c .enum-told .given .1) at (c .before .before .check .ensures .says))
+returns c = form-refused _ heaviestLoad _ (rw (c .before .r .given .1) at (c .before .before .before .check .ensures .says))
 
 returns-2 : tie.Need-returns-2
-returns-2 c =
-    unsound-refused heaviestLoad _ (rw (c .enum-told2 .given .1) at (c .before .before .check .ensures .says))
-
-returns-3 : tie.Need-returns-3
-returns-3 c = heaviest-told (sound-table (c .before)) (c .heaviest .result) (c .heaviest .ensures)
+returns-2 c = heaviest-told (sound-table (c .before)) (c .heaviest .result) (c .heaviest .ensures)
 
 pub heaviest-spec : {M : Type 1} → statement M
 heaviest-spec =
     tie.close
-    (tie.spec
-    check-requires
-    enum-told
-    enum-told-2
-    enum-known-s
-    heaviest-requires
-    returns
-    returns-2
-    returns-3)
+    (tie.spec check-requires enum-known-r enum-known-s heaviest-requires returns returns-2)

@@ -4,7 +4,7 @@ use mathlib.Core.Bool.{true, false}
 use Rattle.spec_calls.specs.Calls.{levelCheck}
 use Rattle.table_size.specs.Sizes.{SoundTable}
 use Rattle.table_board.proofs.RecordsAsBoard.{sound-holds-board}
-use Rattle.board_answers.proofs.Formal.{sizes-refused, unsound-refused}
+use Rattle.board_answers.proofs.Formal.{form-refused}
 use Rattle.board_questions.proofs.Asking.{level-told}
 use borrow.Author.Needs.{needs}
 use Rattle.board_questions.proofs.level_check.Statement.{statement}
@@ -13,45 +13,36 @@ use Rattle.board_questions.proofs.level_check.Tie as tie
 check-requires : tie.Need-check-requires
 check-requires c κs = search needs
 
-enum-told : tie.Need-enum-told
-enum-told c = search needs
-
-enum-told-2 : tie.Need-enum-told-2
-enum-told-2 c = search needs
+enum-known-r : tie.Need-enum-known-r
+enum-known-r c = search needs
 
 enum-known-s : tie.Need-enum-known-s
 enum-known-s c = search needs
 
 -- the table is sound
-sound-table : (c : tie.After-known-told) → SoundTable (c .before .before .before .before .before .args .t .now) (c .before .s .given .0 .0)
+sound-table : (c : tie.After-known-told2) → SoundTable (c .before .before .before .before .before .args .t .now) (c .before .s .given .0 .0)
 sound-table c = rw (c .before .s .given .1) at (c .before .before .before .check .ensures .says)
 
 is-level-requires : tie.Need-is-level-requires
 is-level-requires c κs = sound-holds-board _ _ (sound-table c)
 
 returns : tie.Need-returns
-returns c = sizes-refused levelCheck _ (rw (c .enum-told .given .1) at (c .before .before .check .ensures .says))
+returns c = form-refused _ levelCheck _ (rw (c .before .r .given .1) at (c .before .before .before .check .ensures .says))
 
 returns-2 : tie.Need-returns-2
-returns-2 c =
-    unsound-refused levelCheck _ (rw (c .enum-told2 .given .1) at (c .before .before .check .ensures .says))
+returns-2 c = level-told (sound-table (c .before .before)) true (sym (c .if1 .taken) ∙ c .before .is-level .ensures)
 
 returns-3 : tie.Need-returns-3
-returns-3 c = level-told (sound-table (c .before .before)) true (sym (c .if1 .taken) ∙ c .before .is-level .ensures)
-
-returns-4 : tie.Need-returns-4
-returns-4 c = level-told (sound-table (c .before .before)) false (sym (c .if1 .left) ∙ c .before .is-level .ensures)
+returns-3 c = level-told (sound-table (c .before .before)) false (sym (c .if1 .left) ∙ c .before .is-level .ensures)
 
 pub level-check-spec : {M : Type 1} → statement M
 level-check-spec =
     tie.close
     (tie.spec
     check-requires
-    enum-told
-    enum-told-2
+    enum-known-r
     enum-known-s
     is-level-requires
     returns
     returns-2
-    returns-3
-    returns-4)
+    returns-3)

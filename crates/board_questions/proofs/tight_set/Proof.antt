@@ -1,6 +1,6 @@
 -- The tight set of a sound table.
 use Rattle.spec_calls.specs.Calls.{tightSetOf}
-use Rattle.board_answers.proofs.Formal.{sizes-refused, unsound-refused}
+use Rattle.board_answers.proofs.Formal.{form-refused}
 use borrow.Author.Needs.{needs}
 use Rattle.board_questions.proofs.tight_set.Statement.{statement}
 use Rattle.board_questions.proofs.tight_set.Tie as tie
@@ -8,11 +8,8 @@ use Rattle.board_questions.proofs.tight_set.Tie as tie
 check-requires : tie.Need-check-requires
 check-requires c κs = search needs
 
-enum-told : tie.Need-enum-told
-enum-told c = search needs
-
-enum-told-2 : tie.Need-enum-told-2
-enum-told-2 c = search needs
+enum-known-r : tie.Need-enum-known-r
+enum-known-r c = search needs
 
 enum-known-s : tie.Need-enum-known-s
 enum-known-s c = search needs
@@ -21,28 +18,22 @@ tight-set-on-requires : tie.Need-tight-set-on-requires
 tight-set-on-requires c κs = rw (c .before .before .s .given .1) at (c .before .before .before .before .check .ensures .says)
 
 returns : tie.Need-returns
-returns c = sizes-refused (tightSetOf _ _) _ (rw (c .enum-told .given .1) at (c .before .before .check .ensures .says))
-
-returns-2 : tie.Need-returns-2
-returns-2 c =
-    unsound-refused (tightSetOf _ _) _ (rw (c .enum-told2 .given .1) at (c .before .before .check .ensures .says))
+returns c = form-refused _ (tightSetOf _ _) _ (rw (c .before .r .given .1) at (c .before .before .before .check .ensures .says))
 
 same-length : tie.Need-same-length
 same-length c = search needs
 
-returns-3 : tie.Need-returns-3
-returns-3 c = c .before .before .tight-set-on .ensures
+returns-2 : tie.Need-returns-2
+returns-2 c = c .before .before .tight-set-on .ensures
 
 pub tight-set-spec : {M : Type 1} → statement M
 tight-set-spec =
     tie.close
     (tie.spec
     check-requires
-    enum-told
-    enum-told-2
+    enum-known-r
     enum-known-s
     tight-set-on-requires
     returns
-    returns-2
     same-length
-    returns-3)
+    returns-2)

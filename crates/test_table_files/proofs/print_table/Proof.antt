@@ -6,23 +6,11 @@ use Rattle.test_table_files.proofs.print_table.Tie as tie
 check-requires : tie.Need-check-requires
 check-requires c κs = search needs
 
-enum-told : tie.Need-enum-told
-enum-told c = search needs
+enum-known-r : tie.Need-enum-known-r
+enum-known-r c = search needs
 
-slice-aggregate-write-all : tie.Need-slice-aggregate-write-all
-slice-aggregate-write-all c = search needs
-
-write-all-requires : tie.Need-write-all-requires
-write-all-requires c κs = search needs
-
-enum-told-2 : tie.Need-enum-told-2
-enum-told-2 c = search needs
-
-slice-aggregate-write-all-2 : tie.Need-slice-aggregate-write-all-2
-slice-aggregate-write-all-2 c = search needs
-
-write-all-requires-2 : tie.Need-write-all-requires-2
-write-all-requires-2 c κs = search needs
+print-refused-requires : tie.Need-print-refused-requires
+print-refused-requires c κs = search needs
 
 enum-known-s : tie.Need-enum-known-s
 enum-known-s c = search needs
@@ -36,22 +24,14 @@ returns c = search needs
 returns-2 : tie.Need-returns-2
 returns-2 c = search needs
 
-returns-3 : tie.Need-returns-3
-returns-3 c = search needs
-
 pub print-table-spec : {M : Type 1} → statement M
 print-table-spec =
     tie.close
     (tie.spec
     check-requires
-    enum-told
-    slice-aggregate-write-all
-    write-all-requires
-    enum-told-2
-    slice-aggregate-write-all-2
-    write-all-requires-2
+    enum-known-r
+    print-refused-requires
     enum-known-s
     print-sound-requires
     returns
-    returns-2
-    returns-3)
+    returns-2)
