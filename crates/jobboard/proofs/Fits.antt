@@ -5,12 +5,12 @@ use mathlib.Core.Path.{_≡_, refl, sym, ap, subst, _∙_}
 use mathlib.Core.Bool.{Bool, true, false, cond, not, _&&_}
 use mathlib.Core.List.{List, [], _∷_}
 use lib.Dec.{T, eqb}
-use lib.ListN.{length, drop}
-use Rattle.spec_lists.specs.Lists.{bit, member, range, all, empty, Each}
+use lib.ListN.{length}
+use Rattle.spec_lists.specs.Lists.{bit, member, range, all, empty}
 use Rattle.spec_table.specs.Board.{Board, holderOf, namesOf, stands, load, heaviest}
 use Rattle.spec_table.specs.Table.{mostBenches, mostJobs, sound, decode}
 use Rattle.spec_sharing.specs.Sharing.{Levelled, arrive, close, relevel, level, tightSet, inside}
-use Rattle.spec_calls.specs.Answers.{Answer, Outcome, isRefused, inNumbers, refused, blanked, arrived, closed, loadIs, heaviestIs, tightSetIs, isSound, levelYes, levelNo, levelled, stopped}
+use Rattle.spec_calls.specs.Answers.{Answer, Outcome, isRefused, refused, blanked, arrived, closed, loadIs, heaviestIs, tightSetIs, isSound, levelYes, levelNo, levelled, stopped}
 use Rattle.spec_calls.specs.Calls.{Call, arrival, closing, levelling, loadOf, heaviestLoad, tightSetOf, formCheck, levelCheck, accepted, outcome, arrivalOutcome, closingOutcome, levellingOutcome, tightSetOutcome}
 use Rattle.spec_sharing.specs.Demand2.{handed}
 use Rattle.spec_lists.proofs.Tests.{true→T, false→not, not-false, within-high}
@@ -25,6 +25,7 @@ use Rattle.spec_calls.proofs.Refusals.{accepted-by}
 use Rattle.spec_calls.proofs.Outcomes.{arrival-accepted, levelling-accepted}
 use Rattle.spec_calls.proofs.Results.{arrival-result, closing-result}
 use Rattle.spec_calls.proofs.Questions.{heaviest-answered, tight-says}
+use Rattle.jobboard_report.specs.Report.{Fitting}
 
 -- a call that is not refused was lent a sound table
 accepted-sound : (c : Call) (t : List ℕ) → isRefused ((outcome c t) .answer) ≡ false → T (sound t)
@@ -117,12 +118,8 @@ tight-fits t h list benches inside e =
     let a = tight-says t s h list benches inside e in
     (omega (arith, a .benches, tight-most (decode t) h, benches-small t s), omega (arith, a .insideJobs, inside-most (tightSet (decode t) h) ((decode t) .named), jobs-small t s))
 
--- every number fits 32 bits
-abbrev pub Fitting : List ℕ → Type 0
-Fitting l = Each (λ n. n < 4294967296) l
-
 -- a refusal has no values
-unless-refused : (a : Answer) → (isRefused a ≡ false → Fitting (drop 1 (inNumbers a))) → Fitting (drop 1 (inNumbers a))
+unless-refused : (a : Answer) → (isRefused a ≡ false → Fitting a) → Fitting a
 unless-refused (refused r) f = tt
 unless-refused blanked f = tt
 unless-refused (arrived holder rose moved) f = f refl
@@ -148,7 +145,7 @@ Bounded formCheck = Unit {0}
 Bounded levelCheck = Unit {0}
 
 -- the values of an accepted call
-accepted-fits : (c : Call) (t : List ℕ) → Bounded c → T (sound t) → outcome c t ≡ accepted c t (decode t) → Fitting (drop 1 (inNumbers ((accepted c t (decode t)) .answer)))
+accepted-fits : (c : Call) (t : List ℕ) → Bounded c → T (sound t) → outcome c t ≡ accepted c t (decode t) → Fitting ((accepted c t (decode t)) .answer)
 unfolding accepted arrivalOutcome closingOutcome levellingOutcome tightSetOutcome
 accepted-fits (arrival j x y) t b s e =
     let d = arrive (decode t) j (x ∷ y ∷ []) in
@@ -166,7 +163,7 @@ accepted-fits (levelling allowance) t b s e = go (level (r .board))
     small : r .paths < 4294967296
     small = omega (arith, b, (levelling-accepted t s allowance) .does .report .allowed)
 
-    go : (z : Bool) → Fitting (drop 1 (inNumbers (cond z (levelled (r .paths)) (stopped (r .paths)))))
+    go : (z : Bool) → Fitting (cond z (levelled (r .paths)) (stopped (r .paths)))
     go true = (small, (omega arith, tt))
     go false = (small, (omega arith, tt))
 accepted-fits (loadOf x) t b s e = (omega (arith, load-fits t x (load ((decode t) .holders) x) (ap (λ o. o .answer) e)), tt)
@@ -178,14 +175,14 @@ accepted-fits (tightSetOf h list) t b s e =
 accepted-fits formCheck t b s e = tt
 accepted-fits levelCheck t b s e = go (level (decode t))
   where
-    go : (z : Bool) → Fitting (drop 1 (inNumbers (cond z levelYes levelNo)))
+    go : (z : Bool) → Fitting (cond z levelYes levelNo)
     go true = (omega arith, tt)
     go false = (omega arith, tt)
 
 -- the values of any call's answer fit 32 bits
-pub values-fit : (c : Call) (t : List ℕ) → Bounded c → Fitting (drop 1 (inNumbers ((outcome c t) .answer)))
+pub values-fit : (c : Call) (t : List ℕ) → Bounded c → Fitting ((outcome c t) .answer)
 values-fit c t b =
     unless-refused ((outcome c t) .answer)
     (λ n.
     let e = (accepted-by c t n) .1 in
-    subst (λ (o : Outcome). Fitting (drop 1 (inNumbers (o .answer)))) (sym e) (accepted-fits c t b (accepted-sound c t n) e))
+    subst (λ (o : Outcome). Fitting (o .answer)) (sym e) (accepted-fits c t b (accepted-sound c t n) e))

@@ -34,12 +34,12 @@ pub extern "C" fn jobboard_arrival(
 ) -> u32
     ensures { λ r. ⌜ Reported (outcome (arrival job first second) (now (table .entry))) r (now (table .exit)) [] (now (holder .entry) ∷ now (rose .entry) ∷ now (moved .entry) ∷ []) (now (holder .exit) ∷ now (rose .exit) ∷ now (moved .exit) ∷ []) ⌝ }
 {
-    let a = board_changes::arrival(table, job as usize, first as usize, second as usize);
-    let v = a.values();
-    *holder = v.get(1, *holder as usize) as u32;
-    *rose = v.get(2, *rose as usize) as u32;
-    *moved = v.get(3, *moved as usize) as u32;
-    a.number()
+    jobboard_report::three(
+        board_changes::arrival(table, job as usize, first as usize, second as usize),
+        holder,
+        rose,
+        moved,
+    )
 }
 
 // Closes a standing job. Results: the bench whose load fell, the jobs moved.
@@ -52,11 +52,7 @@ pub extern "C" fn jobboard_closing(
 ) -> u32
     ensures { λ r. ⌜ Reported (outcome (closing job) (now (table .entry))) r (now (table .exit)) [] (now (fell .entry) ∷ now (moved .entry) ∷ []) (now (fell .exit) ∷ now (moved .exit) ∷ []) ⌝ }
 {
-    let a = board_changes::closing(table, job as usize);
-    let v = a.values();
-    *fell = v.get(1, *fell as usize) as u32;
-    *moved = v.get(2, *moved as usize) as u32;
-    a.number()
+    jobboard_report::two(board_changes::closing(table, job as usize), fell, moved)
 }
 
 // Levels within an allowance of paths. Results: the paths turned, and 1 for level or 0 for stopped.
@@ -69,11 +65,7 @@ pub extern "C" fn jobboard_levelling(
 ) -> u32
     ensures { λ r. ⌜ Reported (outcome (levelling allowance) (now (table .entry))) r (now (table .exit)) [] (now (paths .entry) ∷ now (level .entry) ∷ []) (now (paths .exit) ∷ now (level .exit) ∷ []) ⌝ }
 {
-    let a = board_changes::levelling(table, allowance);
-    let v = a.values();
-    *paths = v.get(1, *paths as usize) as u32;
-    *level = v.get(2, *level as usize) as u32;
-    a.number()
+    jobboard_report::two(board_changes::levelling(table, allowance), paths, level)
 }
 
 // Checks whether no path improves. Result: 1 for yes, 0 for no.
@@ -81,10 +73,7 @@ pub extern "C" fn jobboard_levelling(
 pub extern "C" fn jobboard_level_check(table: &[u8], level: &mut u32) -> u32
     ensures { λ r. ⌜ Reported (outcome levelCheck (now (table .entry))) r (now (table .entry)) [] (now (level .entry) ∷ []) (now (level .exit) ∷ []) ⌝ }
 {
-    let a = board_questions::level_check(table);
-    let v = a.values();
-    *level = v.get(1, *level as usize) as u32;
-    a.number()
+    jobboard_report::one(board_questions::level_check(table), level)
 }
 
 // Reports the load of a bench.
@@ -92,10 +81,7 @@ pub extern "C" fn jobboard_level_check(table: &[u8], level: &mut u32) -> u32
 pub extern "C" fn jobboard_load(table: &[u8], bench: u32, load: &mut u32) -> u32
     ensures { λ r. ⌜ Reported (outcome (loadOf bench) (now (table .entry))) r (now (table .entry)) [] (now (load .entry) ∷ []) (now (load .exit) ∷ []) ⌝ }
 {
-    let a = board_questions::load(table, bench as usize);
-    let v = a.values();
-    *load = v.get(1, *load as usize) as u32;
-    a.number()
+    jobboard_report::one(board_questions::load(table, bench as usize), load)
 }
 
 // Reports the heaviest load.
@@ -103,10 +89,7 @@ pub extern "C" fn jobboard_load(table: &[u8], bench: u32, load: &mut u32) -> u32
 pub extern "C" fn jobboard_heaviest(table: &[u8], load: &mut u32) -> u32
     ensures { λ r. ⌜ Reported (outcome heaviestLoad (now (table .entry))) r (now (table .entry)) [] (now (load .entry) ∷ []) (now (load .exit) ∷ []) ⌝ }
 {
-    let a = board_questions::heaviest(table);
-    let v = a.values();
-    *load = v.get(1, *load as usize) as u32;
-    a.number()
+    jobboard_report::one(board_questions::heaviest(table), load)
 }
 
 // Writes the tight set of a height: its benches, rising, as words at the list's beginning. Results: benches in the
@@ -121,9 +104,9 @@ pub extern "C" fn jobboard_tight_set(
 ) -> u32
     ensures { λ r. ⌜ Reported (outcome (tightSetOf height (now (list .entry))) (now (table .entry))) r (now (table .entry)) (now (list .exit)) (now (benches .entry) ∷ now (jobs .entry) ∷ []) (now (benches .exit) ∷ now (jobs .exit) ∷ []) ⌝ }
 {
-    let a = board_questions::tight_set(table, height as usize, list);
-    let v = a.values();
-    *benches = v.get(1, *benches as usize) as u32;
-    *jobs = v.get(2, *jobs as usize) as u32;
-    a.number()
+    jobboard_report::two(
+        board_questions::tight_set(table, height as usize, list),
+        benches,
+        jobs,
+    )
 }

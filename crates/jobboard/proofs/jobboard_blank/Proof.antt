@@ -1,5 +1,5 @@
 -- No values: the number tells all.
-use mathlib.Core.Path.{refl}
+use Rattle.jobboard_report.proofs.InPlace.{delivered-none}
 use Rattle.jobboard.proofs.Reports.{reported}
 use borrow.Author.Needs.{needs}
 use Rattle.jobboard.proofs.jobboard_blank.Statement.{statement}
@@ -15,7 +15,7 @@ same-length : tie.Need-same-length
 same-length c = search needs
 
 returns : tie.Need-returns
-returns c = reported (c .before .before .before .blank .ensures) (c .number .ensures) refl
+returns c = reported (c .before .before .before .blank .ensures) (delivered-none (c .number .ensures))
 
 pub jobboard-blank-spec : {M : Type 1} → statement M
 jobboard-blank-spec = tie.close (tie.spec blank-requires number-requires same-length returns)

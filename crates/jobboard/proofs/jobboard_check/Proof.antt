@@ -1,5 +1,5 @@
 -- No values: the number tells all.
-use mathlib.Core.Path.{refl}
+use Rattle.jobboard_report.proofs.InPlace.{delivered-none}
 use Rattle.jobboard.proofs.Reports.{reported}
 use borrow.Author.Needs.{needs}
 use Rattle.jobboard.proofs.jobboard_check.Statement.{statement}
@@ -12,7 +12,7 @@ number-requires : tie.Need-number-requires
 number-requires c κs = search needs
 
 returns : tie.Need-returns
-returns c = reported (c .before .form-check .ensures) (c .number .ensures) refl
+returns c = reported (c .before .form-check .ensures) (delivered-none (c .number .ensures))
 
 pub jobboard-check-spec : {M : Type 1} → statement M
 jobboard-check-spec = tie.close (tie.spec form-check-requires number-requires returns)

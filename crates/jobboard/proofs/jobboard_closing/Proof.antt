@@ -1,8 +1,5 @@
 -- The bench that fell and the moved jobs.
-use Rattle.spec_calls.specs.Calls.{closing}
-use Rattle.board_answers.specs.Answered.{valuesOf}
-use Rattle.jobboard.proofs.Fits.{Fitting, values-fit}
-use Rattle.jobboard.proofs.Reports.{done, got, got-fits, fitting, reported-values}
+use Rattle.jobboard.proofs.Reports.{answer-fits, reported}
 use borrow.Author.Needs.{needs}
 use Rattle.jobboard.proofs.jobboard_closing.Statement.{statement}
 use Rattle.jobboard.proofs.jobboard_closing.Tie as tie
@@ -10,56 +7,14 @@ use Rattle.jobboard.proofs.jobboard_closing.Tie as tie
 closing-requires : tie.Need-closing-requires
 closing-requires c κs = search needs
 
-values-requires : tie.Need-values-requires
-values-requires c κs = search needs
-
--- the values fit the lent numbers
-fits : (c : tie.After-values) → Fitting (valuesOf (c .values .result))
-fits c =
-    let called = c .before .before .before in
-    let args = called .before .before .before .args in
-    fitting (called .closing .ensures) (c .values .result) (c .values .ensures) (values-fit (closing (args .job)) (args .table .now) tt)
-
-get-requires : tie.Need-get-requires
-get-requires c κs = search needs
-
-cast-fell : tie.Need-cast-fell
-cast-fell c =
-    let told = c .before .before in
-    got-fits (told .values .result) 1 (fits told) (c .before .row-known .given) (c .get .ensures)
-
-get-requires-2 : tie.Need-get-requires-2
-get-requires-2 c κs = search needs
-
-cast-moved : tie.Need-cast-moved
-cast-moved c =
-    let told = c .before .before .before .before in
-    got-fits (told .values .result) 2 (fits told) (c .before .row-known2 .given) (c .get2 .ensures)
-
-number-requires : tie.Need-number-requires
-number-requires c κs = search needs
+two-requires : tie.Need-two-requires
+two-requires c κs = answer-fits _ _ (c .before .before .before .before .closing .ensures) tt
 
 same-length : tie.Need-same-length
 same-length c = search needs
 
 returns : tie.Need-returns
-returns c =
-    let second = c .before in
-    let first = second .before .before in
-    let told = first .before .before in
-    reported-values (told .before .before .before .closing .ensures) (told .values .result) (c .number .ensures) (told .values .ensures)
-    (got (first .get .ensures) (got (second .get2 .ensures) done))
+returns c = reported (c .before .before .before .before .before .closing .ensures) (c .two .ensures)
 
 pub jobboard-closing-spec : {M : Type 1} → statement M
-jobboard-closing-spec =
-    tie.close
-    (tie.spec
-    closing-requires
-    values-requires
-    get-requires
-    cast-fell
-    get-requires-2
-    cast-moved
-    number-requires
-    same-length
-    returns)
+jobboard-closing-spec = tie.close (tie.spec closing-requires two-requires same-length returns)

@@ -1,8 +1,5 @@
 -- The heaviest load.
-use Rattle.spec_calls.specs.Calls.{heaviestLoad}
-use Rattle.board_answers.specs.Answered.{valuesOf}
-use Rattle.jobboard.proofs.Fits.{Fitting, values-fit}
-use Rattle.jobboard.proofs.Reports.{done, got, got-fits, fitting, reported-values}
+use Rattle.jobboard.proofs.Reports.{answer-fits, reported}
 use borrow.Author.Needs.{needs}
 use Rattle.jobboard.proofs.jobboard_heaviest.Statement.{statement}
 use Rattle.jobboard.proofs.jobboard_heaviest.Tie as tie
@@ -10,35 +7,11 @@ use Rattle.jobboard.proofs.jobboard_heaviest.Tie as tie
 heaviest-requires : tie.Need-heaviest-requires
 heaviest-requires c κs = search needs
 
-values-requires : tie.Need-values-requires
-values-requires c κs = search needs
-
--- the values fit the lent numbers
-fits : (c : tie.After-values) → Fitting (valuesOf (c .values .result))
-fits c =
-    let called = c .before in
-    let args = called .before .before .args in
-    fitting (called .heaviest .ensures) (c .values .result) (c .values .ensures) (values-fit heaviestLoad (args .table .now) tt)
-
-get-requires : tie.Need-get-requires
-get-requires c κs = search needs
-
-cast-load : tie.Need-cast-load
-cast-load c =
-    let told = c .before .before in
-    got-fits (told .values .result) 1 (fits told) (c .before .row-known .given) (c .get .ensures)
-
-number-requires : tie.Need-number-requires
-number-requires c κs = search needs
+one-requires : tie.Need-one-requires
+one-requires c κs = answer-fits _ _ (c .before .heaviest .ensures) tt
 
 returns : tie.Need-returns
-returns c =
-    let first = c .before in
-    let told = first .before .before in
-    reported-values (told .before .heaviest .ensures) (told .values .result) (c .number .ensures) (told .values .ensures)
-    (got (first .get .ensures) done)
+returns c = reported (c .before .before .heaviest .ensures) (c .one .ensures)
 
 pub jobboard-heaviest-spec : {M : Type 1} → statement M
-jobboard-heaviest-spec =
-    tie.close
-    (tie.spec heaviest-requires values-requires get-requires cast-load number-requires returns)
+jobboard-heaviest-spec = tie.close (tie.spec heaviest-requires one-requires returns)

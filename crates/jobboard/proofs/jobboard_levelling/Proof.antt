@@ -1,8 +1,5 @@
 -- The turned paths, which are within the allowance, and whether the board is level.
-use Rattle.spec_calls.specs.Calls.{levelling}
-use Rattle.board_answers.specs.Answered.{valuesOf}
-use Rattle.jobboard.proofs.Fits.{Fitting, values-fit}
-use Rattle.jobboard.proofs.Reports.{done, got, got-fits, fitting, reported-values}
+use Rattle.jobboard.proofs.Reports.{answer-fits, reported}
 use borrow.Author.Needs.{needs}
 use Rattle.jobboard.proofs.jobboard_levelling.Statement.{statement}
 use Rattle.jobboard.proofs.jobboard_levelling.Tie as tie
@@ -10,56 +7,16 @@ use Rattle.jobboard.proofs.jobboard_levelling.Tie as tie
 levelling-requires : tie.Need-levelling-requires
 levelling-requires c κs = search needs
 
-values-requires : tie.Need-values-requires
-values-requires c κs = search needs
-
--- the values fit the lent numbers
-fits : (c : tie.After-values) → Fitting (valuesOf (c .values .result))
-fits c =
-    let called = c .before .before .before in
-    let args = called .before .before .before .args in
-    fitting (called .levelling .ensures) (c .values .result) (c .values .ensures) (values-fit (levelling (args .allowance)) (args .table .now) (called .before .before .before .fits .allowance .fits))
-
-get-requires : tie.Need-get-requires
-get-requires c κs = search needs
-
-cast-paths : tie.Need-cast-paths
-cast-paths c =
-    let told = c .before .before in
-    got-fits (told .values .result) 1 (fits told) (c .before .row-known .given) (c .get .ensures)
-
-get-requires-2 : tie.Need-get-requires-2
-get-requires-2 c κs = search needs
-
-cast-level : tie.Need-cast-level
-cast-level c =
-    let told = c .before .before .before .before in
-    got-fits (told .values .result) 2 (fits told) (c .before .row-known2 .given) (c .get2 .ensures)
-
-number-requires : tie.Need-number-requires
-number-requires c κs = search needs
+two-requires : tie.Need-two-requires
+two-requires c κs =
+    let called = c .before .before .before .before in
+    answer-fits _ _ (called .levelling .ensures) (called .before .before .before .fits .allowance .fits)
 
 same-length : tie.Need-same-length
 same-length c = search needs
 
 returns : tie.Need-returns
-returns c =
-    let second = c .before in
-    let first = second .before .before in
-    let told = first .before .before in
-    reported-values (told .before .before .before .levelling .ensures) (told .values .result) (c .number .ensures) (told .values .ensures)
-    (got (first .get .ensures) (got (second .get2 .ensures) done))
+returns c = reported (c .before .before .before .before .before .levelling .ensures) (c .two .ensures)
 
 pub jobboard-levelling-spec : {M : Type 1} → statement M
-jobboard-levelling-spec =
-    tie.close
-    (tie.spec
-    levelling-requires
-    values-requires
-    get-requires
-    cast-paths
-    get-requires-2
-    cast-level
-    number-requires
-    same-length
-    returns)
+jobboard-levelling-spec = tie.close (tie.spec levelling-requires two-requires same-length returns)

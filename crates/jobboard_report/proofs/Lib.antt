@@ -1,0 +1,2 @@
+-- Values in place of the lent numbers.
+pub mod InPlace

@@ -1,0 +1,2 @@
+-- An answer in lent numbers.
+pub mod Report

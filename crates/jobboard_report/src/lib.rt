@@ -1,0 +1,45 @@
+// Answers for C programs: an answer's values go into the numbers that the program lends, and its number is returned. A lent number for
+// which there is no value stays; a refusal has no values.
+ghost use mathlib.Core.Path.{_≡_};
+ghost use mathlib.Core.List.{[], _∷_};
+ghost use lib.ListN.{drop};
+ghost use Rattle.spec_lists.specs.Lists.{nth};
+ghost use Rattle.spec_calls.specs.Answers.{inNumbers};
+ghost use Rattle.board_answers.specs.Answered.{answerOf};
+ghost use Rattle.jobboard_report.specs.Report.{Fitting, Delivered};
+use board_answers::Answer;
+
+// Writes value k, counted from 1, into the lent number, which stays where there is none.
+fn write(a: Answer, k: usize, lent: &mut u32)
+    requires { ⌜ Fitting (answerOf a) ⌝ }
+    ensures { λ _. ⌜ now (lent .exit) ≡ nth (drop 1 (inNumbers (answerOf a))) k (now (lent .entry)) ⌝ }
+{
+    *lent = a.values().get(k, *lent as usize) as u32;
+}
+
+// Reports the number and the first value.
+pub fn one(a: Answer, first: &mut u32) -> u32
+    requires { ⌜ Fitting (answerOf a) ⌝ }
+    ensures { λ r. ⌜ Delivered (answerOf a) r (now (first .entry) ∷ []) (now (first .exit) ∷ []) ⌝ }
+{
+    write(a, 1, first);
+    a.number()
+}
+
+// Reports the number and the first two values.
+pub fn two(a: Answer, first: &mut u32, second: &mut u32) -> u32
+    requires { ⌜ Fitting (answerOf a) ⌝ }
+    ensures { λ r. ⌜ Delivered (answerOf a) r (now (first .entry) ∷ now (second .entry) ∷ []) (now (first .exit) ∷ now (second .exit) ∷ []) ⌝ }
+{
+    write(a, 2, second);
+    one(a, first)
+}
+
+// Reports the number and the first three values.
+pub fn three(a: Answer, first: &mut u32, second: &mut u32, third: &mut u32) -> u32
+    requires { ⌜ Fitting (answerOf a) ⌝ }
+    ensures { λ r. ⌜ Delivered (answerOf a) r (now (first .entry) ∷ now (second .entry) ∷ now (third .entry) ∷ []) (now (first .exit) ∷ now (second .exit) ∷ now (third .exit) ∷ []) ⌝ }
+{
+    write(a, 3, third);
+    two(a, first, second)
+}
