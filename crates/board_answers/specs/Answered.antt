@@ -1,4 +1,5 @@
--- Each case of the answers as document 01's refusal or answer; its number and values are `Rattle.spec_calls.specs.Answers.inNumbers`.
+-- Each case of the answers as document 01's refusal or answer; its number and values are
+-- `Rattle.spec_calls.specs.Answers.inNumbers`.
 use mathlib.Core.Path.{_≡_}
 use mathlib.Core.List.{List, [], _∷_}
 use Prim.Native.Nat.{ℕ}

@@ -6,8 +6,8 @@ use Rattle.spec_calls.specs.Answers.{Outcome}
 use Rattle.board_answers.specs.Answered.{returned}
 use Rattle.jobboard_report.specs.Report.{results}
 
--- the call returned r, left these bytes of the table and of the lent list ([] for none), and made `left` of the lent numbers, as the
--- outcome o says
+-- the call returned r, left these bytes of the table and of the lent list ([] for none), and made `left` of the lent
+-- numbers, as the outcome o says
 pub record Reported (o : Outcome) (r : ℕ) (table list lent left : List ℕ) : Type 0 where
   pub number : r ≡ returned (o .answer)
   pub bytes : table ≡ o .table

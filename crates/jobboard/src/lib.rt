@@ -1,5 +1,5 @@
-// The calls for C programs, over numbers and the table's bytes; a slice is passed as a pointer and its length in bytes. Each returns the
-// refusal's number, or 0. Results go through lent numbers, which a refused call leaves alone.
+// The calls for C programs, over numbers and the table's bytes; a slice is passed as a pointer and its length in
+// bytes. Each returns the refusal's number, or 0. Results go through lent numbers, which a refused call leaves alone.
 ghost use mathlib.Core.List.{[], _∷_};
 ghost use Rattle.spec_calls.specs.Calls.{outcome, blanking, arrival, closing, levelling, loadOf, heaviestLoad, tightSetOf, formCheck, levelCheck};
 ghost use Rattle.jobboard.specs.Desk.{Reported};

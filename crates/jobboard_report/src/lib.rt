@@ -1,5 +1,5 @@
-// Answers for C programs: an answer's values go into the numbers that the program lends, and its number is returned. A lent number for
-// which there is no value stays; a refusal has no values.
+// Answers for C programs: an answer's values go into the numbers that the program lends, and its number is returned.
+// A lent number for which there is no value stays; a refusal has no values.
 ghost use mathlib.Core.Path.{_≡_};
 ghost use mathlib.Core.List.{[], _∷_};
 ghost use lib.ListN.{drop};

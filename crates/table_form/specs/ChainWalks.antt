@@ -13,8 +13,8 @@ abbrev pub onlyIf : Bool → Seen → Seen
 onlyIf true r = r
 onlyIf false r = Broken
 
--- what is left of a number of jobs after those on bench x's chain from job j on; broken if the chain has more, or a job that x
--- does not hold
+-- what is left of a number of jobs after those on bench x's chain from job j on; broken if the chain has more, or a
+-- job that x does not hold
 abbrev pub walked : List Entry → ℕ → ℕ → ℕ → Seen
 walked es x zero zero = Jobs 0
 walked es x zero (suc i) = Broken

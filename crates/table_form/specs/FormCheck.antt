@@ -30,7 +30,8 @@ formIf false (Fit s) = Refused Unsound
 unfoldable pub formIn : List ℕ → Form
 formIn t = formIf (sound t) (sizeIn t)
 
--- what each answer says of the table: the first of 1 and 2 that holds, as every call on a table tests first, or that it is sound
+-- what each answer says of the table: the first of 1 and 2 that holds, as every call on a table tests first, or that
+-- it is sound
 abbrev pub Checked : List ℕ → Form → Type 0
 Checked t (Refused r) = firstHolding (formConditions t) ≡ some (refusalOf r)
 Checked t (Sound s) = SoundTable t s
