@@ -63,7 +63,8 @@ pub fn heaviest(t: &[u8]) -> Answer
 // Lists the tight set on a sound table, or refuses with 7 or 8, in this order.
 fn tight_set_on(t: &[u8], s: Size, height: usize, list: &mut [u8]) -> Answer
     requires { ⌜ SoundTable (now t) s ⌝ }
-    ensures { λ r. ⌜ Leaves (outcome (tightSetOf height (now (list .entry))) (now (t .entry))) r (now (t .entry)) (now (list .exit)) ⌝ }
+    ensures { λ r. ⌜ Leaves (outcome (tightSetOf height (now (list .entry))) (now (t .entry))) r (now (t .entry))
+        (now (list .exit)) ⌝ }
 {
     if height == 0 {
         return Answer::Refused(Refusal::Height);
@@ -83,7 +84,8 @@ fn tight_set_on(t: &[u8], s: Size, height: usize, list: &mut [u8]) -> Answer
 
 // Lists the tight set of a height: its benches, rising, as words at the list's beginning.
 pub fn tight_set(t: &[u8], height: usize, list: &mut [u8]) -> Answer
-    ensures { λ r. ⌜ Leaves (outcome (tightSetOf height (now (list .entry))) (now (t .entry))) r (now (t .entry)) (now (list .exit)) ⌝ }
+    ensures { λ r. ⌜ Leaves (outcome (tightSetOf height (now (list .entry))) (now (t .entry))) r (now (t .entry))
+        (now (list .exit)) ⌝ }
 {
     match table_form::check(t) {
         Form::Refused(r) => Answer::Refused(r),

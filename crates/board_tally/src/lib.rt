@@ -109,7 +109,8 @@ impl Tally {
 
 // Raises the lent tally in place.
 pub fn note_in_place(t: &mut Tally, a: Answer) -> Note
-    ensures { λ r. ⌜ NotedAs (noted (tallyOf (now (t .entry))) (answerOf a)) (record { tally = now (t .exit); note = r }) ⌝ }
+    ensures { λ r. ⌜ NotedAs (noted (tallyOf (now (t .entry))) (answerOf a))
+        (record { tally = now (t .exit); note = r }) ⌝ }
 {
     let n = (*t).note(a);
     *t = n.tally;

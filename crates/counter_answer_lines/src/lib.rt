@@ -28,7 +28,8 @@ pub fn refusal(out: &mut [u8], at: usize, number: usize) -> usize
 // Prints a letter, numbers of the command and the answer's values.
 fn beginning(out: &mut [u8], at: usize, letter: u8, repeated: Values, a: Answer) -> usize
     requires { ⌜ at + lineMost ≤ length (now out) ⌝ }
-    ensures { λ r. ⌜ Wrote (now (out .entry)) (now (out .exit)) at r (letter ∷ spaced (valuesOf repeated ++ drop 1 (inNumbers (answerOf a)))) ⌝ }
+    ensures { λ r. ⌜ Wrote (now (out .entry)) (now (out .exit)) at r
+        (letter ∷ spaced (valuesOf repeated ++ drop 1 (inNumbers (answerOf a)))) ⌝ }
     ensures short { λ r. ⌜ r ≤ at + 1 + fieldMost * 6 ⌝ }
 {
     let v = a.values();
@@ -40,7 +41,8 @@ fn beginning(out: &mut [u8], at: usize, letter: u8, repeated: Values, a: Answer)
 // Prints an answer's line without a list.
 pub fn answer(out: &mut [u8], at: usize, letter: u8, repeated: Values, a: Answer) -> usize
     requires { ⌜ at + lineMost ≤ length (now out) ⌝ }
-    ensures { λ r. ⌜ Wrote (now (out .entry)) (now (out .exit)) at r (answerText letter (valuesOf repeated) (answerOf a) []) ⌝ }
+    ensures { λ r. ⌜ Wrote (now (out .entry)) (now (out .exit)) at r
+        (answerText letter (valuesOf repeated) (answerOf a) []) ⌝ }
     ensures short { λ r. ⌜ r ≤ at + lineMost ⌝ }
 {
     let number = a.number();
@@ -63,7 +65,9 @@ pub fn listing(
     requires { ⌜ at + lineMost ≤ length (now out) ⌝ }
     requires { ⌜ 2 * nth (inNumbers (answerOf a)) 2 0 ≤ length (now list) ⌝ }
     requires { ⌜ length (now list) ≤ 2 * mostBenches ⌝ }
-    ensures { λ r. ⌜ Wrote (now (out .entry)) (now (out .exit)) at r (answerText letter (valuesOf repeated) (answerOf a) (take (nth (inNumbers (answerOf a)) 2 0) (words (now (list .entry))))) ⌝ }
+    ensures { λ r. ⌜ Wrote (now (out .entry)) (now (out .exit)) at r
+        (answerText letter (valuesOf repeated) (answerOf a) (take (nth (inNumbers (answerOf a)) 2 0) (words (now (list .entry)))))
+        ⌝ }
     ensures short { λ r. ⌜ r ≤ at + lineMost ⌝ }
 {
     if a.number() != 0 {

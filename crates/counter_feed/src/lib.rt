@@ -66,7 +66,8 @@ fn take_byte(
 ) -> Consumed
     requires { ⌜ Stands r (now bytes) (now line) ⌝ }
     requires { ⌜ at + lineMost ≤ length (now out) ⌝ }
-    ensures { λ h. ⌜ TakesByte (placeOf r (now (bytes .entry)) (now (line .entry))) (byte ∷ []) (now (bytes .exit)) (now (line .exit)) (now (out .entry)) (now (out .exit)) at h ⌝ }
+    ensures { λ h. ⌜ TakesByte (placeOf r (now (bytes .entry)) (now (line .entry))) (byte ∷ []) (now (bytes .exit))
+        (now (line .exit)) (now (out .entry)) (now (out .exit)) at h ⌝ }
 {
     let counter = r.counter;
     let held = r.held;
@@ -95,7 +96,8 @@ fn take_byte(
 pub fn feed(r: Reader, chunk: &[u8], bytes: &mut [u8], line: &mut [u8], out: &mut [u8]) -> Fed
     requires { ⌜ Stands r (now bytes) (now line) ⌝ }
     requires { ⌜ lineMost ≤ length (now out) ⌝ }
-    ensures { λ f. ⌜ Feeds (placeOf r (now (bytes .entry)) (now (line .entry))) (now (chunk .entry)) (now (bytes .exit)) (now (line .exit)) (now (out .exit)) f ⌝ }
+    ensures { λ f. ⌜ Feeds (placeOf r (now (bytes .entry)) (now (line .entry))) (now (chunk .entry))
+        (now (bytes .exit)) (now (line .exit)) (now (out .exit)) f ⌝ }
 {
     let mut reader = r;
     let mut used = 0;

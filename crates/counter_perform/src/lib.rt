@@ -24,7 +24,8 @@ pub fn set_table(
 ) -> Reply
     requires { ⌜ Room c (now bytes) ⌝ }
     requires { ⌜ at + lineMost ≤ length (now out) ⌝ }
-    ensures { λ r. ⌜ Performs (setTable benches jobs) (counterOf c (now (bytes .entry))) (now (bytes .exit)) (now (out .entry)) (now (out .exit)) at r ⌝ }
+    ensures { λ r. ⌜ Performs (setTable benches jobs) (counterOf c (now (bytes .entry))) (now (bytes .exit))
+        (now (out .entry)) (now (out .exit)) at r ⌝ }
 {
     match Size::new(benches, jobs) {
         Sizing::Misfit => counter_state::refuse(c, Refusal::Sizes, out, at),
@@ -56,7 +57,8 @@ pub fn take_in(
 ) -> Reply
     requires { ⌜ Room c (now bytes) ⌝ }
     requires { ⌜ at + lineMost ≤ length (now out) ⌝ }
-    ensures { λ r. ⌜ Performs (takeIn job first second) (counterOf c (now (bytes .entry))) (now (bytes .exit)) (now (out .entry)) (now (out .exit)) at r ⌝ }
+    ensures { λ r. ⌜ Performs (takeIn job first second) (counterOf c (now (bytes .entry))) (now (bytes .exit))
+        (now (out .entry)) (now (out .exit)) at r ⌝ }
 {
     let length = c.length;
     let a = board_changes::arrival(&mut bytes[..length], job, first, second);
@@ -67,7 +69,8 @@ pub fn take_in(
 pub fn close_job(c: Counter, job: usize, bytes: &mut [u8], out: &mut [u8], at: usize) -> Reply
     requires { ⌜ Room c (now bytes) ⌝ }
     requires { ⌜ at + lineMost ≤ length (now out) ⌝ }
-    ensures { λ r. ⌜ Performs (closeJob job) (counterOf c (now (bytes .entry))) (now (bytes .exit)) (now (out .entry)) (now (out .exit)) at r ⌝ }
+    ensures { λ r. ⌜ Performs (closeJob job) (counterOf c (now (bytes .entry))) (now (bytes .exit)) (now (out .entry))
+        (now (out .exit)) at r ⌝ }
 {
     let length = c.length;
     let a = board_changes::closing(&mut bytes[..length], job);
@@ -78,7 +81,8 @@ pub fn close_job(c: Counter, job: usize, bytes: &mut [u8], out: &mut [u8], at: u
 pub fn ask_tight_set(c: Counter, height: usize, bytes: &[u8], out: &mut [u8], at: usize) -> Reply
     requires { ⌜ Room c (now bytes) ⌝ }
     requires { ⌜ at + lineMost ≤ length (now out) ⌝ }
-    ensures { λ r. ⌜ Performs (askTightSet height) (counterOf c (now (bytes .entry))) (now (bytes .entry)) (now (out .entry)) (now (out .exit)) at r ⌝ }
+    ensures { λ r. ⌜ Performs (askTightSet height) (counterOf c (now (bytes .entry))) (now (bytes .entry))
+        (now (out .entry)) (now (out .exit)) at r ⌝ }
 {
     let length = c.length;
     let mut list = counter_state::zero_list();
@@ -94,7 +98,8 @@ pub fn ask_tight_set(c: Counter, height: usize, bytes: &[u8], out: &mut [u8], at
 pub fn ask_heaviest(c: Counter, bytes: &[u8], out: &mut [u8], at: usize) -> Reply
     requires { ⌜ Room c (now bytes) ⌝ }
     requires { ⌜ at + lineMost ≤ length (now out) ⌝ }
-    ensures { λ r. ⌜ Performs askHeaviest (counterOf c (now (bytes .entry))) (now (bytes .entry)) (now (out .entry)) (now (out .exit)) at r ⌝ }
+    ensures { λ r. ⌜ Performs askHeaviest (counterOf c (now (bytes .entry))) (now (bytes .entry)) (now (out .entry))
+        (now (out .exit)) at r ⌝ }
 {
     let length = c.length;
     let a = board_questions::heaviest(&bytes[..length]);

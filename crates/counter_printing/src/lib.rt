@@ -65,7 +65,8 @@ pub fn values(out: &mut [u8], at: usize, v: Values) -> usize
 pub fn listed(out: &mut [u8], at: usize, list: &[u8], count: usize) -> usize
     requires { ⌜ 2 * count ≤ length (now list) ⌝ }
     requires { ⌜ at + fieldMost * count ≤ length (now out) ⌝ }
-    ensures { λ r. ⌜ Wrote (now (out .entry)) (now (out .exit)) at r (spaced (take count (words (now (list .entry))))) ⌝ }
+    ensures { λ r. ⌜ Wrote (now (out .entry)) (now (out .exit)) at r (spaced (take count (words (now (list .entry)))))
+        ⌝ }
     ensures short { λ r. ⌜ r ≤ at + fieldMost * count ⌝ }
 {
     let mut next = at;

@@ -16,7 +16,8 @@ use table_refusals::Refusal;
 fn perform(c: Counter, command: Command, bytes: &mut [u8], out: &mut [u8], at: usize) -> Reply
     requires { ⌜ Room c (now bytes) ⌝ }
     requires { ⌜ at + lineMost ≤ length (now out) ⌝ }
-    ensures { λ r. ⌜ Performs (commandOf command) (counterOf c (now (bytes .entry))) (now (bytes .exit)) (now (out .entry)) (now (out .exit)) at r ⌝ }
+    ensures { λ r. ⌜ Performs (commandOf command) (counterOf c (now (bytes .entry))) (now (bytes .exit))
+        (now (out .entry)) (now (out .exit)) at r ⌝ }
 {
     match command {
         Command::SetTable(benches, jobs) => counter_perform::set_table(
@@ -46,7 +47,8 @@ fn perform(c: Counter, command: Command, bytes: &mut [u8], out: &mut [u8], at: u
 pub fn to_line(c: Counter, line: &[u8], bytes: &mut [u8], out: &mut [u8], at: usize) -> Reply
     requires { ⌜ Room c (now bytes) ⌝ }
     requires { ⌜ at + lineMost ≤ length (now out) ⌝ }
-    ensures { λ r. ⌜ RepliesTo (now (line .entry)) (counterOf c (now (bytes .entry))) (now (bytes .exit)) (now (out .entry)) (now (out .exit)) at r ⌝ }
+    ensures { λ r. ⌜ RepliesTo (now (line .entry)) (counterOf c (now (bytes .entry))) (now (bytes .exit))
+        (now (out .entry)) (now (out .exit)) at r ⌝ }
 {
     match counter_commands::read(line) {
         Reading::Unreadable => counter_state::refuse(c, Refusal::Unreadable, out, at),

@@ -68,7 +68,8 @@ pub fn zero_list() -> [u8; LIST_BYTES]
 // Prints a refusal's line; the state stays.
 pub fn refuse(c: Counter, why: Refusal, out: &mut [u8], at: usize) -> Reply
     requires { ⌜ at + lineMost ≤ length (now out) ⌝ }
-    ensures { λ r. ⌜ AnswerPrinted (c .length) (tallyOf (c .tally)) (refusalText (refusalNumber (refusalOf why))) (now (out .entry)) (now (out .exit)) at r ⌝ }
+    ensures { λ r. ⌜ AnswerPrinted (c .length) (tallyOf (c .tally)) (refusalText (refusalNumber (refusalOf why)))
+        (now (out .entry)) (now (out .exit)) at r ⌝ }
 {
     let next = counter_answer_lines::refusal(out, at, why.number() as usize);
     Reply {
@@ -87,7 +88,8 @@ pub fn write_answer(
     at: usize,
 ) -> Reply
     requires { ⌜ at + lineMost ≤ length (now out) ⌝ }
-    ensures { λ r. ⌜ AnswerPrinted (c .length) (tallyOf (c .tally)) (answerText letter (valuesOf repeated) (answerOf a) []) (now (out .entry)) (now (out .exit)) at r ⌝ }
+    ensures { λ r. ⌜ AnswerPrinted (c .length) (tallyOf (c .tally))
+        (answerText letter (valuesOf repeated) (answerOf a) []) (now (out .entry)) (now (out .exit)) at r ⌝ }
 {
     let next = counter_answer_lines::answer(out, at, letter, repeated, a);
     Reply {

@@ -27,7 +27,8 @@ fn discover(
 ) -> usize
     requires { ⌜ y ≤ mostBenches ⌝ }
     requires { ⌜ found ≤ mostBenches ⌝ }
-    ensures { λ r. ⌜ Discovered y k found (now (queue .entry)) (now (dist .entry)) r (now (queue .exit)) (now (dist .exit)) ⌝ }
+    ensures { λ r. ⌜ Discovered y k found (now (queue .entry)) (now (dist .entry)) r (now (queue .exit))
+        (now (dist .exit)) ⌝ }
 {
     if dist[y] != 0 {
         return found;
@@ -50,7 +51,9 @@ fn expand(
     requires { ⌜ AdjacencyLists (now head) (now next) (now to) ⌝ }
     requires { ⌜ T (within 1 mostBenches x) ⌝ }
     requires { ⌜ Queued found (now queue) (now dist) ⌝ }
-    ensures { λ r. ⌜ Expanded (Adjacent (now (head .entry)) (now (next .entry)) (now (to .entry)) x) (suc (at (now (dist .entry)) x)) found (now (queue .entry)) (now (dist .entry)) r (now (queue .exit)) (now (dist .exit)) ⌝ }
+    ensures { λ r. ⌜ Expanded (Adjacent (now (head .entry)) (now (next .entry)) (now (to .entry)) x)
+        (suc (at (now (dist .entry)) x)) found (now (queue .entry)) (now (dist .entry)) r (now (queue .exit))
+        (now (dist .exit)) ⌝ }
 {
     let k = dist[x] + 1;
     let mut found = found;
@@ -81,7 +84,8 @@ pub fn breadth_first(
     requires { ⌜ T (within 1 benches v) ⌝ }
     requires { ⌜ Queued found (now queue) (now dist) ⌝ }
     requires { ⌜ WithinBenches benches (Adjacent (now head) (now next) (now to)) (now dist) ⌝ }
-    ensures { λ r. ⌜ BreadthFirst (Adjacent (now (head .entry)) (now (next .entry)) (now (to .entry))) (Wanted (now (key .entry)) limit) v found (now (dist .entry)) r (now (queue .exit)) (now (dist .exit)) ⌝ }
+    ensures { λ r. ⌜ BreadthFirst (Adjacent (now (head .entry)) (now (next .entry)) (now (to .entry)))
+        (Wanted (now (key .entry)) limit) v found (now (dist .entry)) r (now (queue .exit)) (now (dist .exit)) ⌝ }
 {
     let mut end = discover(v, 1, found, queue, dist);
     let mut done = found;
@@ -122,7 +126,8 @@ pub fn distances_along(
     requires { ⌜ ListedBy (mostBenches + 1) (s .jobs) (now from) (now head) (now next) ⌝ }
     requires { ⌜ BenchIn s v ⌝ }
     requires { ⌜ now dist ≡ replicate (mostBenches + 1) 0 ⌝ }
-    ensures { λ _. ⌜ Distances s (now (from .entry)) (now (to .entry)) (Wanted (now (key .entry)) limit) v (now (dist .exit)) ⌝ }
+    ensures { λ _. ⌜ Distances s (now (from .entry)) (now (to .entry)) (Wanted (now (key .entry)) limit) v
+        (now (dist .exit)) ⌝ }
 {
     let mut queue = scratch::benches();
     breadth_first(
@@ -153,7 +158,8 @@ pub fn distances(
     requires { ⌜ Arcs s (now from) (now to) ⌝ }
     requires { ⌜ BenchIn s v ⌝ }
     requires { ⌜ now dist ≡ replicate (mostBenches + 1) 0 ⌝ }
-    ensures { λ _. ⌜ Distances s (now (from .entry)) (now (to .entry)) (Wanted (now (key .entry)) limit) v (now (dist .exit)) ⌝ }
+    ensures { λ _. ⌜ Distances s (now (from .entry)) (now (to .entry)) (Wanted (now (key .entry)) limit) v
+        (now (dist .exit)) ⌝ }
 {
     let mut head = scratch::benches();
     let mut next = scratch::jobs();

@@ -52,8 +52,10 @@ fn start_among(
 ) -> Search
     requires { ⌜ AdjacencyLists (now head) (now next) (now to) ⌝ }
     requires { ⌜ AsHeavy benches (now loads) (now after) load x ⌝ }
-    requires { ⌜ Searching (Adjacent (now head) (now next) (now to)) (now loads) benches load found (now queue) (now dist) ⌝ }
-    ensures { λ r. ⌜ Searched (Adjacent (now (head .entry)) (now (next .entry)) (now (to .entry))) (now (loads .entry)) benches load r (now (queue .exit)) (now (dist .exit)) ⌝ }
+    requires { ⌜ Searching (Adjacent (now head) (now next) (now to)) (now loads) benches load found (now queue)
+        (now dist) ⌝ }
+    ensures { λ r. ⌜ Searched (Adjacent (now (head .entry)) (now (next .entry)) (now (to .entry)))
+        (now (loads .entry)) benches load r (now (queue .exit)) (now (dist .exit)) ⌝ }
 {
     let mut found = found;
     let mut x = x;

@@ -32,7 +32,9 @@ pub extern "C" fn jobboard_arrival(
     rose: &mut u32,
     moved: &mut u32,
 ) -> u32
-    ensures { λ r. ⌜ Reported (outcome (arrival job first second) (now (table .entry))) r (now (table .exit)) [] (now (holder .entry) ∷ now (rose .entry) ∷ now (moved .entry) ∷ []) (now (holder .exit) ∷ now (rose .exit) ∷ now (moved .exit) ∷ []) ⌝ }
+    ensures { λ r. ⌜ Reported (outcome (arrival job first second) (now (table .entry))) r (now (table .exit)) []
+        (now (holder .entry) ∷ now (rose .entry) ∷ now (moved .entry) ∷ [])
+        (now (holder .exit) ∷ now (rose .exit) ∷ now (moved .exit) ∷ []) ⌝ }
 {
     jobboard_report::three(
         board_changes::arrival(table, job as usize, first as usize, second as usize),
@@ -50,7 +52,8 @@ pub extern "C" fn jobboard_closing(
     fell: &mut u32,
     moved: &mut u32,
 ) -> u32
-    ensures { λ r. ⌜ Reported (outcome (closing job) (now (table .entry))) r (now (table .exit)) [] (now (fell .entry) ∷ now (moved .entry) ∷ []) (now (fell .exit) ∷ now (moved .exit) ∷ []) ⌝ }
+    ensures { λ r. ⌜ Reported (outcome (closing job) (now (table .entry))) r (now (table .exit)) []
+        (now (fell .entry) ∷ now (moved .entry) ∷ []) (now (fell .exit) ∷ now (moved .exit) ∷ []) ⌝ }
 {
     jobboard_report::two(board_changes::closing(table, job as usize), fell, moved)
 }
@@ -63,7 +66,8 @@ pub extern "C" fn jobboard_levelling(
     paths: &mut u32,
     level: &mut u32,
 ) -> u32
-    ensures { λ r. ⌜ Reported (outcome (levelling allowance) (now (table .entry))) r (now (table .exit)) [] (now (paths .entry) ∷ now (level .entry) ∷ []) (now (paths .exit) ∷ now (level .exit) ∷ []) ⌝ }
+    ensures { λ r. ⌜ Reported (outcome (levelling allowance) (now (table .entry))) r (now (table .exit)) []
+        (now (paths .entry) ∷ now (level .entry) ∷ []) (now (paths .exit) ∷ now (level .exit) ∷ []) ⌝ }
 {
     jobboard_report::two(board_changes::levelling(table, allowance), paths, level)
 }
@@ -71,7 +75,8 @@ pub extern "C" fn jobboard_levelling(
 // Checks whether no path improves. Result: 1 for yes, 0 for no.
 #[no_mangle]
 pub extern "C" fn jobboard_level_check(table: &[u8], level: &mut u32) -> u32
-    ensures { λ r. ⌜ Reported (outcome levelCheck (now (table .entry))) r (now (table .entry)) [] (now (level .entry) ∷ []) (now (level .exit) ∷ []) ⌝ }
+    ensures { λ r. ⌜ Reported (outcome levelCheck (now (table .entry))) r (now (table .entry)) []
+        (now (level .entry) ∷ []) (now (level .exit) ∷ []) ⌝ }
 {
     jobboard_report::one(board_questions::level_check(table), level)
 }
@@ -79,7 +84,8 @@ pub extern "C" fn jobboard_level_check(table: &[u8], level: &mut u32) -> u32
 // Reports the load of a bench.
 #[no_mangle]
 pub extern "C" fn jobboard_load(table: &[u8], bench: u32, load: &mut u32) -> u32
-    ensures { λ r. ⌜ Reported (outcome (loadOf bench) (now (table .entry))) r (now (table .entry)) [] (now (load .entry) ∷ []) (now (load .exit) ∷ []) ⌝ }
+    ensures { λ r. ⌜ Reported (outcome (loadOf bench) (now (table .entry))) r (now (table .entry)) []
+        (now (load .entry) ∷ []) (now (load .exit) ∷ []) ⌝ }
 {
     jobboard_report::one(board_questions::load(table, bench as usize), load)
 }
@@ -87,7 +93,8 @@ pub extern "C" fn jobboard_load(table: &[u8], bench: u32, load: &mut u32) -> u32
 // Reports the heaviest load.
 #[no_mangle]
 pub extern "C" fn jobboard_heaviest(table: &[u8], load: &mut u32) -> u32
-    ensures { λ r. ⌜ Reported (outcome heaviestLoad (now (table .entry))) r (now (table .entry)) [] (now (load .entry) ∷ []) (now (load .exit) ∷ []) ⌝ }
+    ensures { λ r. ⌜ Reported (outcome heaviestLoad (now (table .entry))) r (now (table .entry)) []
+        (now (load .entry) ∷ []) (now (load .exit) ∷ []) ⌝ }
 {
     jobboard_report::one(board_questions::heaviest(table), load)
 }
@@ -102,7 +109,9 @@ pub extern "C" fn jobboard_tight_set(
     benches: &mut u32,
     jobs: &mut u32,
 ) -> u32
-    ensures { λ r. ⌜ Reported (outcome (tightSetOf height (now (list .entry))) (now (table .entry))) r (now (table .entry)) (now (list .exit)) (now (benches .entry) ∷ now (jobs .entry) ∷ []) (now (benches .exit) ∷ now (jobs .exit) ∷ []) ⌝ }
+    ensures { λ r. ⌜ Reported (outcome (tightSetOf height (now (list .entry))) (now (table .entry))) r
+        (now (table .entry)) (now (list .exit)) (now (benches .entry) ∷ now (jobs .entry) ∷ [])
+        (now (benches .exit) ∷ now (jobs .exit) ∷ []) ⌝ }
 {
     jobboard_report::two(
         board_questions::tight_set(table, height as usize, list),

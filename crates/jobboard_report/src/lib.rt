@@ -29,7 +29,8 @@ pub fn one(a: Answer, first: &mut u32) -> u32
 // Reports the number and the first two values.
 pub fn two(a: Answer, first: &mut u32, second: &mut u32) -> u32
     requires { ⌜ Fitting (answerOf a) ⌝ }
-    ensures { λ r. ⌜ Delivered (answerOf a) r (now (first .entry) ∷ now (second .entry) ∷ []) (now (first .exit) ∷ now (second .exit) ∷ []) ⌝ }
+    ensures { λ r. ⌜ Delivered (answerOf a) r (now (first .entry) ∷ now (second .entry) ∷ [])
+        (now (first .exit) ∷ now (second .exit) ∷ []) ⌝ }
 {
     write(a, 2, second);
     one(a, first)
@@ -38,7 +39,8 @@ pub fn two(a: Answer, first: &mut u32, second: &mut u32) -> u32
 // Reports the number and the first three values.
 pub fn three(a: Answer, first: &mut u32, second: &mut u32, third: &mut u32) -> u32
     requires { ⌜ Fitting (answerOf a) ⌝ }
-    ensures { λ r. ⌜ Delivered (answerOf a) r (now (first .entry) ∷ now (second .entry) ∷ now (third .entry) ∷ []) (now (first .exit) ∷ now (second .exit) ∷ now (third .exit) ∷ []) ⌝ }
+    ensures { λ r. ⌜ Delivered (answerOf a) r (now (first .entry) ∷ now (second .entry) ∷ now (third .entry) ∷ [])
+        (now (first .exit) ∷ now (second .exit) ∷ now (third .exit) ∷ []) ⌝ }
 {
     write(a, 3, third);
     two(a, first, second)

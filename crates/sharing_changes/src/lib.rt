@@ -42,7 +42,8 @@ fn lighter(t: &[u8], s: Size, first: usize, second: usize) -> usize
 fn improve_from(t: &mut [u8], s: Size, x: usize) -> Flip
     requires { ⌜ HoldsBoard (now t) s ⌝ }
     requires { ⌜ BenchIn s x ⌝ }
-    ensures { λ r. ⌜ Flipped (now (t .entry)) (now (t .exit)) s (arrivalChoice (decode (now (t .entry))) x) (lastOf x (arrivalChoice (decode (now (t .entry))) x)) r ⌝ }
+    ensures { λ r. ⌜ Flipped (now (t .entry)) (now (t .exit)) s (arrivalChoice (decode (now (t .entry))) x)
+        (lastOf x (arrivalChoice (decode (now (t .entry))) x)) r ⌝ }
 {
     let mut from = scratch::jobs();
     let mut to = scratch::jobs();
@@ -56,7 +57,8 @@ fn improve_from(t: &mut [u8], s: Size, x: usize) -> Flip
 fn improve_to(t: &mut [u8], s: Size, x: usize) -> Flip
     requires { ⌜ HoldsBoard (now t) s ⌝ }
     requires { ⌜ BenchIn s x ⌝ }
-    ensures { λ r. ⌜ Flipped (now (t .entry)) (now (t .exit)) s (closingChoice (decode (now (t .entry))) x) (startOf x (closingChoice (decode (now (t .entry))) x)) r ⌝ }
+    ensures { λ r. ⌜ Flipped (now (t .entry)) (now (t .exit)) s (closingChoice (decode (now (t .entry))) x)
+        (startOf x (closingChoice (decode (now (t .entry))) x)) r ⌝ }
 {
     let mut from = scratch::jobs();
     let mut to = scratch::jobs();

@@ -29,7 +29,8 @@ fn next_start(
     requires { ⌜ HoldsBoard (now t) s ⌝ }
     requires { ⌜ length (now from) ≡ mostJobs + 1 ⌝ }
     requires { ⌜ length (now to) ≡ mostJobs + 1 ⌝ }
-    ensures { λ r. ⌜ NextStart (decode (now (t .entry))) s (now (from .exit)) (now (to .exit)) (now (load .exit)) r ⌝ }
+    ensures { λ r. ⌜ NextStart (decode (now (t .entry))) s (now (from .exit)) (now (to .exit)) (now (load .exit)) r
+        ⌝ }
 {
     loads::loads(t, s, load);
     let range = graph_start::range_of(s, load);

@@ -34,7 +34,8 @@ fn hand_over(
     requires { ⌜ n ≤ mostBenches ⌝ }
     requires { ⌜ length (now path) ≡ mostBenches + 1 ⌝ }
     requires { ⌜ Handable (decode (now t)) s (now to) (take n (now path)) ⌝ }
-    ensures { λ _. ⌜ Holds (now (t .exit)) s (handedBy (decode (now (t .entry))) (now (to .entry)) (take n (now (path .entry)))) ⌝ }
+    ensures { λ _. ⌜ Holds (now (t .exit)) s
+        (handedBy (decode (now (t .entry))) (now (to .entry)) (take n (now (path .entry)))) ⌝ }
 {
     let mut done = 0;
     while done < n {
@@ -60,7 +61,8 @@ pub fn flip_along(
     requires { ⌜ ListedBy (mostBenches + 1) (s .jobs) (now from) (now head) (now next) ⌝ }
     requires { ⌜ Falls s (now from) (now to) (now near) ⌝ }
     requires { ⌜ 1 ≤ at (now near) x ⌝ }
-    ensures { λ r. ⌜ Along (decode (now (t .entry))) (now (t .exit)) s (now (from .entry)) (now (to .entry)) (now (near .entry)) x r ⌝ }
+    ensures { λ r. ⌜ Along (decode (now (t .entry))) (now (t .exit)) s (now (from .entry)) (now (to .entry))
+        (now (near .entry)) x r ⌝ }
 {
     let mut path = scratch::benches();
     let n = route::route(s, from, to, head, next, near, x, &mut path);

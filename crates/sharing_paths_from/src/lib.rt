@@ -28,7 +28,8 @@ pub fn flip_from(
     requires { ⌜ ArcsOf (decode (now t)) s (now from) (now to) ⌝ }
     requires { ⌜ Loaded (decode (now t)) (now loads) ⌝ }
     requires { ⌜ BenchIn s x ⌝ }
-    ensures { λ r. ⌜ Flipped (now (t .entry)) (now (t .exit)) s (arrivalChoice (decode (now (t .entry))) x) (lastOf x (arrivalChoice (decode (now (t .entry))) x)) r ⌝ }
+    ensures { λ r. ⌜ Flipped (now (t .entry)) (now (t .exit)) s (arrivalChoice (decode (now (t .entry))) x)
+        (lastOf x (arrivalChoice (decode (now (t .entry))) x)) r ⌝ }
 {
     let low = keys::least(s, loads);
     if loads[x] < low + 2 {

@@ -27,7 +27,8 @@ pub fn flip_to(
     requires { ⌜ ArcsOf (decode (now t)) s (now from) (now to) ⌝ }
     requires { ⌜ Loaded (decode (now t)) (now loads) ⌝ }
     requires { ⌜ BenchIn s x ⌝ }
-    ensures { λ r. ⌜ Flipped (now (t .entry)) (now (t .exit)) s (closingChoice (decode (now (t .entry))) x) (startOf x (closingChoice (decode (now (t .entry))) x)) r ⌝ }
+    ensures { λ r. ⌜ Flipped (now (t .entry)) (now (t .exit)) s (closingChoice (decode (now (t .entry))) x)
+        (startOf x (closingChoice (decode (now (t .entry))) x)) r ⌝ }
 {
     let mut weights = scratch::benches();
     keys::reverse(s, loads, &mut weights);

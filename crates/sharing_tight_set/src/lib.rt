@@ -115,7 +115,8 @@ pub fn tight_set(t: &[u8], s: Size, h: usize, marks: &mut [bool; Size::MOST_BENC
 pub fn write(s: Size, marks: &[bool; Size::MOST_BENCHES + 1], list: &mut [u8])
     requires { ⌜ Limits s ⌝ }
     requires { ⌜ 2 * length (marked s (now marks)) ≤ length (now list) ⌝ }
-    ensures { λ _. ⌜ now (list .exit) ≡ bytesOf (marked s (now (marks .entry))) ++ drop (2 * length (marked s (now (marks .entry)))) (now (list .entry)) ⌝ }
+    ensures { λ _. ⌜ now (list .exit) ≡ bytesOf (marked s (now (marks .entry))) ++ drop
+        (2 * length (marked s (now (marks .entry)))) (now (list .entry)) ⌝ }
 {
     let benches = s.benches();
     let mut count = 0;

@@ -22,7 +22,8 @@ fn visit(
     requires { ⌜ AdjacencyLists (now head) (now next) (now to) ⌝ }
     requires { ⌜ T (within 1 mostBenches x) ⌝ }
     requires { ⌜ Marks (now marks) ⌝ }
-    ensures { λ _. ⌜ ClosedOver (Adjacent (now (head .entry)) (now (next .entry)) (now (to .entry))) (λ y. y ≡ x) (now (marks .entry)) (now (marks .exit)) ⌝ }
+    ensures { λ _. ⌜ ClosedOver (Adjacent (now (head .entry)) (now (next .entry)) (now (to .entry))) (λ y. y ≡ x)
+        (now (marks .entry)) (now (marks .exit)) ⌝ }
 {
     if marks[x] {
         return;
@@ -42,7 +43,8 @@ fn walk(
     requires { ⌜ AdjacencyLists (now head) (now next) (now to) ⌝ }
     requires { ⌜ OnChain (now head) (now next) j ⌝ }
     requires { ⌜ Marks (now marks) ⌝ }
-    ensures { λ _. ⌜ ClosedOver (Adjacent (now (head .entry)) (now (next .entry)) (now (to .entry))) (FromList (now (next .entry)) (now (to .entry)) j) (now (marks .entry)) (now (marks .exit)) ⌝ }
+    ensures { λ _. ⌜ ClosedOver (Adjacent (now (head .entry)) (now (next .entry)) (now (to .entry)))
+        (FromList (now (next .entry)) (now (to .entry)) j) (now (marks .entry)) (now (marks .exit)) ⌝ }
 {
     if j == 0 {
         return;
@@ -65,7 +67,8 @@ pub fn visit_heavy(
     requires { ⌜ AdjacencyLists (now head) (now next) (now to) ⌝ }
     requires { ⌜ Marks (now marks) ⌝ }
     requires { ⌜ LoadsIn s (now loads) ⌝ }
-    ensures { λ _. ⌜ ClosedOver (Adjacent (now (head .entry)) (now (next .entry)) (now (to .entry))) (λ x. BenchIn s x × (h ≤ at (now (loads .entry)) x)) (now (marks .entry)) (now (marks .exit)) ⌝ }
+    ensures { λ _. ⌜ ClosedOver (Adjacent (now (head .entry)) (now (next .entry)) (now (to .entry)))
+        (λ x. BenchIn s x × (h ≤ at (now (loads .entry)) x)) (now (marks .entry)) (now (marks .exit)) ⌝ }
 {
     let benches = s.benches();
     let mut x = 1;

@@ -94,7 +94,8 @@ pub fn remove_job(t: &mut [u8], s: Size, j: usize)
 pub fn set_holder(t: &mut [u8], s: Size, j: usize, x: usize)
     requires { ⌜ HoldsBoard (now t) s ⌝ }
     requires { ⌜ T (member x (namesOf (decode (now t)) j)) ⌝ }
-    ensures { λ _. ⌜ Holds (now (t .exit)) s (heldBy (decode (now (t .entry))) (update (decode (now (t .entry)) .holders) j x)) ⌝ }
+    ensures { λ _. ⌜ Holds (now (t .exit)) s
+        (heldBy (decode (now (t .entry))) (update (decode (now (t .entry)) .holders) j x)) ⌝ }
 {
     let r = table_records::read_record(t, s, j);
     let place = if r.first == x { 1 } else { 2 };

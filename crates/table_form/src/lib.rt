@@ -23,7 +23,8 @@ pub enum Form {
 fn walk(t: &[u8], s: Size, x: usize, left: usize) -> Seen
     requires { ⌜ SizeOf (now t) s ⌝ }
     requires { ⌜ BenchIn s x ⌝ }
-    ensures { λ r. ⌜ r ≡ walked (layoutIn (now (t .entry)) .entries) x left (nth (layoutIn (now (t .entry)) .heads) x 0) ⌝ }
+    ensures { λ r. ⌜ r ≡ walked (layoutIn (now (t .entry)) .entries) x left
+        (nth (layoutIn (now (t .entry)) .heads) x 0) ⌝ }
 {
     let jobs = s.jobs();
     let mut left = left;
@@ -44,7 +45,8 @@ fn walk(t: &[u8], s: Size, x: usize, left: usize) -> Seen
 // Tells whether all chains have together this number of jobs, each held by its chain's bench.
 fn walk_all(t: &[u8], s: Size, count: usize) -> bool
     requires { ⌜ SizeOf (now t) s ⌝ }
-    ensures { λ r. ⌜ r ≡ allWalked (layoutIn (now (t .entry)) .entries) 1 (layoutIn (now (t .entry)) .heads) (Seen.Jobs count) ⌝ }
+    ensures { λ r. ⌜ r ≡ allWalked (layoutIn (now (t .entry)) .entries) 1 (layoutIn (now (t .entry)) .heads)
+        (Seen.Jobs count) ⌝ }
 {
     let benches = s.benches();
     let mut left = count;

@@ -79,7 +79,8 @@ fn write_field(t: &mut [u8], s: Size, j: usize, k: usize, word: usize)
     requires { ⌜ JobIn s j ⌝ }
     requires { ⌜ k < 4 ⌝ }
     requires { ⌜ word < 65536 ⌝ }
-    ensures { λ _. ⌜ HasLayout (now (t .exit)) s (withEntry (layoutIn (now (t .entry))) j (withWord k word (recordIn (now (t .entry)) j))) ⌝ }
+    ensures { λ _. ⌜ HasLayout (now (t .exit)) s
+        (withEntry (layoutIn (now (t .entry))) j (withWord k word (recordIn (now (t .entry)) j))) ⌝ }
 {
     table_words::write(t, record_at(s, j) + k, word);
 }
@@ -89,7 +90,8 @@ pub fn write_holder(t: &mut [u8], s: Size, j: usize, holder: usize)
     requires { ⌜ SizeOf (now t) s ⌝ }
     requires { ⌜ JobIn s j ⌝ }
     requires { ⌜ holder < 65536 ⌝ }
-    ensures { λ _. ⌜ HasLayout (now (t .exit)) s (withEntry (layoutIn (now (t .entry))) j (withHolder (recordIn (now (t .entry)) j) holder)) ⌝ }
+    ensures { λ _. ⌜ HasLayout (now (t .exit)) s
+        (withEntry (layoutIn (now (t .entry))) j (withHolder (recordIn (now (t .entry)) j) holder)) ⌝ }
 {
     write_field(t, s, j, 2, holder);
 }
@@ -99,7 +101,8 @@ pub fn write_next(t: &mut [u8], s: Size, j: usize, next: usize)
     requires { ⌜ SizeOf (now t) s ⌝ }
     requires { ⌜ JobIn s j ⌝ }
     requires { ⌜ next < 65536 ⌝ }
-    ensures { λ _. ⌜ HasLayout (now (t .exit)) s (withEntry (layoutIn (now (t .entry))) j (withNext (recordIn (now (t .entry)) j) next)) ⌝ }
+    ensures { λ _. ⌜ HasLayout (now (t .exit)) s
+        (withEntry (layoutIn (now (t .entry))) j (withNext (recordIn (now (t .entry)) j) next)) ⌝ }
 {
     write_field(t, s, j, 3, next);
 }
