@@ -1,235 +1,125 @@
 // Random runs of arrivals, closings and levellings on small boards. A job book, kept by document 01's rules, foretells every refusal, and a
-// second solver that tries every sharing of the book's jobs tells the least heaviest load and the least overhang above every height; the
-// board's answers and its table are held against both after each call.
+// second solver that tries every sharing of the book's jobs tells the least heaviest load and the least excess (01: overhang) above every
+// height; the board's answers and its table are held against both after each call.
+use board::Board;
+use counts::Counts;
 use libc::STDOUT_FILENO;
-use notes::Counts;
-use test_board_calls::ARRIVALS;
-use test_board_calls::CLOSINGS;
-use test_board_calls::LEVELLED;
-use test_board_calls::Outcome;
-use test_board_calls::REFUSED;
-use test_board_calls::STOPPED;
-use test_board_calls::damages;
-use test_board_calls::levellings;
-use test_board_calls::random;
-use test_board_calls::tries;
-use test_solver::Book;
-use test_solver::bytes;
-use test_solver::job_book;
+use outcomes::Outcome;
 
-mod notes;
+mod arrivals_and_closings;
+mod board;
+mod board_faults;
+mod calls;
+mod counts;
+mod damaged_tables;
+mod levellings;
+mod outcomes;
+mod random;
 mod starts;
+mod tight_sets;
 
 const RUNS: usize = 2000;
 
 const CALLS: usize = 30;
 
-// A drawn call that leaves the table as it is: a question, or calls on damaged copies.
-fn look(t: &[u8], book: &Book, benches: usize, jobs: usize, seed: u64) -> Outcome {
-    if random::below(seed, 9, 2) == 0 {
-        tries::load(t, benches, seed)
-    } else {
-        damages::damaged(t, book, benches, jobs, seed)
-    }
-}
+// What is printed, with a '#' for each count.
+const REPORT: [u8; 453] = *b"# runs
+# calls
+# arrivals, # jobs moved
+# closings, # jobs moved
+# levellings to the end, # paths turned
+# levellings stopped, # paths turned
+# refused with 1
+# refused with 2
+# refused with 3
+# refused with 4
+# refused with 5
+# refused with 6
+# wrong records
+# wrong loads
+# wrong level checks
+# sharings not the least
+# wrong tight sets
+# wrong refusals
+# wrong arrivals
+# wrong closings
+# wrong levellings
+# damaged tables not refused
+# wrong starts
+";
 
-// A drawn call.
-fn call(
-    t: &mut [u8],
-    book: &mut Book,
-    benches: usize,
-    jobs: usize,
-    level: bool,
-    seed: u64,
-) -> Outcome {
+// Makes a drawn call: one that may change the board, a question, or all calls on a damaged copy.
+fn call(board: Board, seed: u64) -> Outcome {
     let what = random::below(seed, 1, 16);
     if what < 7 {
-        return tries::arrival(t, book, benches, jobs, seed);
+        return arrivals_and_closings::arrival(board, seed);
     }
     if what < 11 {
-        return tries::closing(t, book, benches, jobs, seed);
+        return arrivals_and_closings::closing(board, seed);
     }
     if what < 14 {
-        return levellings::levelling(t, benches, level, seed);
+        return levellings::levelling(board, seed);
     }
-    look(t, book, benches, jobs, seed)
+    if random::below(seed, 9, 2) == 0 {
+        arrivals_and_closings::load(board, seed)
+    } else {
+        damaged_tables::every_call(board, seed)
+    }
 }
 
-// The calls of a run. A board that was level stays so, and one that was levelled to the end is.
-fn calls(
-    t: &mut [u8],
-    book: &mut Book,
-    benches: usize,
-    jobs: usize,
-    start: bool,
-    seed: u64,
-    counts: &mut Counts,
-) {
-    let mut level = start;
+// Counts the beginning and the calls of a run.
+fn calls_of(begun: Outcome, seed: u64, before: Counts) -> Counts {
+    let mut o = begun;
     let mut s = seed;
+    let mut counted = o.counted(before);
     let mut n = 0;
     while n < CALLS {
         s = random::after(s, 10);
-        let o = call(t, book, benches, jobs, level, s);
-        level = level || o.what == LEVELLED;
-        notes::note(counts, o);
-        notes::add(
-            counts,
-            notes::FAULTS,
-            test_board_checks::fault(t, book, benches, level),
-            1,
-        );
+        let board = o.board;
+        let next = call(board, s);
+        let more = next.counted(counted);
+        o = next;
+        counted = more;
         n += 1;
     }
-    notes::add(counts, notes::CALLS, 0, n);
+    counts::add(counted, counts::CALLS, n)
 }
 
-// A run on the first bytes of the space, begun in a way of `starts::begin`.
-fn run_in(
-    space: &mut [u8],
-    book: &mut Book,
-    benches: usize,
-    jobs: usize,
-    way: usize,
-    seed: u64,
-    counts: &mut Counts,
-) {
-    let length = bytes::table_length(benches, jobs);
-    if length <= space.len() {
-        let t = &mut space[..length];
-        let right = starts::begin(t, benches, jobs, way);
-        notes::note(
-            counts,
-            Outcome::new(notes::RUNS, 0, right, notes::BAD_START),
-        );
-        notes::add(
-            counts,
-            notes::FAULTS,
-            test_board_checks::fault(t, book, benches, way < 2),
-            1,
-        );
-        calls(t, book, benches, jobs, way < 2, seed, counts);
-    }
-}
-
-// 2 to 5 benches, and 8 job numbers in half of the runs, else fewer.
-fn run(seed: u64, counts: &mut Counts) {
+// Counts a run: on 2 to 5 benches, with 8 job numbers in half of the runs, else fewer.
+fn run(seed: u64, before: Counts) -> Counts {
     let benches = std::num::wrapping_add_usize(random::within(seed, 1, 4), 1);
     let drawn = random::within(seed, 2, 16);
     let jobs = if drawn < 8 { drawn } else { 8 };
-    let way = random::below(seed, 3, 3);
-    let mut book = job_book::empty();
-    let t = if way == 0 {
-        bytes::untouched()
-    } else {
-        starts::random_table(&mut book, benches, jobs, seed)
-    };
-    let mut space = bytes::again(&t);
-    run_in(
-        &mut space,
-        &mut book,
-        benches,
-        jobs,
-        way,
-        random::after(seed, 100),
-        counts,
-    );
+    let begun = starts::begin(benches, jobs, random::below(seed, 3, 3), seed);
+    calls_of(begun, random::after(seed, 100), before)
 }
 
-fn print(counts: &Counts, place: usize, text: &[u8]) {
-    if place < 64 {
-        io::print_decimal(STDOUT_FILENO, counts[place]);
-        io::write_all(STDOUT_FILENO, text);
+// Prints the report, with the next count for each '#'.
+fn print(counts: Counts) {
+    let text = REPORT;
+    let mut place = 0;
+    let mut i = 0;
+    while i < text.len() {
+        let byte = [text[i]];
+        if byte[0] == b'#' {
+            io::print_decimal(STDOUT_FILENO, counts::at(counts, place));
+            place = std::num::wrapping_add_usize(place, 1);
+        } else {
+            io::write_all(STDOUT_FILENO, &byte);
+        }
+        i += 1;
     }
-}
-
-fn print_accepted(counts: &Counts) {
-    print(counts, notes::RUNS, b" runs\n");
-    print(counts, notes::CALLS, b" calls\n");
-    print(counts, ARRIVALS, b" arrivals, ");
-    print(counts, notes::MOVED + ARRIVALS, b" jobs moved\n");
-    print(counts, CLOSINGS, b" closings, ");
-    print(counts, notes::MOVED + CLOSINGS, b" jobs moved\n");
-    print(counts, LEVELLED, b" levellings to the end, ");
-    print(counts, notes::MOVED + LEVELLED, b" paths turned\n");
-    print(counts, STOPPED, b" levellings stopped, ");
-    print(counts, notes::MOVED + STOPPED, b" paths turned\n");
-}
-
-fn print_line(counts: &Counts, place: usize, text: &[u8], number: usize) {
-    print(counts, place, text);
-    io::print_decimal(STDOUT_FILENO, number as u64);
-    io::write_all(STDOUT_FILENO, b"\n");
-}
-
-fn print_refused(counts: &Counts) {
-    let mut number = 1;
-    while number <= 6 {
-        print_line(counts, REFUSED + number, b" refused with ", number);
-        number += 1;
-    }
-}
-
-fn print_fault(counts: &Counts, fault: usize, text: &[u8]) {
-    print(
-        counts,
-        std::num::wrapping_add_usize(notes::FAULTS, fault),
-        text,
-    );
-}
-
-fn print_board_faults(counts: &Counts) {
-    print_fault(counts, test_board_checks::BAD_RECORDS, b" wrong records\n");
-    print_fault(counts, test_board_checks::BAD_LOADS, b" wrong loads\n");
-    print_fault(
-        counts,
-        test_board_checks::BAD_LEVEL_CHECK,
-        b" wrong level checks\n",
-    );
-    print_fault(
-        counts,
-        test_board_checks::BAD_SHARING,
-        b" sharings not the least\n",
-    );
-    print_fault(
-        counts,
-        test_board_checks::BAD_TIGHT_SET,
-        b" wrong tight sets\n",
-    );
-}
-
-fn print_call_faults(counts: &Counts) {
-    print_fault(counts, test_board_calls::BAD_REFUSAL, b" wrong refusals\n");
-    print_fault(counts, test_board_calls::BAD_ARRIVAL, b" wrong arrivals\n");
-    print_fault(counts, test_board_calls::BAD_CLOSING, b" wrong closings\n");
-    print_fault(
-        counts,
-        test_board_calls::BAD_LEVELLING,
-        b" wrong levellings\n",
-    );
-    print_fault(
-        counts,
-        test_board_calls::BAD_DAMAGED,
-        b" damaged tables not refused\n",
-    );
-    print_fault(counts, notes::BAD_START, b" wrong starts\n");
-}
-
-fn print_faults(counts: &Counts) {
-    print_board_faults(counts);
-    print_call_faults(counts);
 }
 
 fn main() {
-    let mut counts = notes::none();
+    let mut counted = [0; 29];
     let mut seed: u64 = 1;
     let mut n = 0;
     while n < RUNS {
         seed = random::after(seed, 1000);
-        run(seed, &mut counts);
+        let more = run(seed, counted);
+        counted = more;
         n += 1;
     }
-    print_accepted(&counts);
-    print_refused(&counts);
-    print_faults(&counts);
+    print(counted);
 }

@@ -1,12 +1,9 @@
-// Tables as bytes, read and written without the board's own code. They are copied into arrays of one length, with zeros behind.
-ghost use mathlib.Core.Path.{_≡_};
+// Tables as bytes, read and written without the board's own code: arrays of one length, each with a table at its beginning.
 ghost use Prim.Native.Nat.{_<_};
-ghost use lib.ListN.{length};
 use crate::Book;
 use crate::MOST_BENCHES;
 use crate::MOST_JOBS;
 use crate::bench_of;
-use crate::bit;
 use crate::job_book::standing;
 
 // No table here is as long.
@@ -16,58 +13,15 @@ const WORDS: usize = 49;
 
 pub type Table = [u8; 98];
 
-// The bench that holds each job, 0 for none; place 0 is not used.
-pub type Holders = [usize; 9];
-
+// Gives a byte as a number.
 fn wide(x: u8) -> usize
     ensures { λ r. ⌜ r < 256 ⌝ }
 {
     x as usize
 }
 
-pub fn zeros() -> Table
-    ensures { λ r. ⌜ 98 ≡ length r ⌝ }
-{
-    [0; SPACE]
-}
-
-// What a list is filled with, to see what is written.
-pub fn untouched() -> Table
-    ensures { λ r. ⌜ 98 ≡ length r ⌝ }
-{
-    [255; SPACE]
-}
-
-fn byte_at(t: &[u8], i: usize) -> u8 {
-    if i < t.len() { t[i] } else { 0 }
-}
-
-pub fn copied(t: &[u8]) -> Table
-    ensures { λ r. ⌜ 98 ≡ length r ⌝ }
-{
-    let mut copy = zeros();
-    let mut i = 0;
-    while i < SPACE {
-        copy[i] = byte_at(t, i);
-        i += 1;
-    }
-    copy
-}
-
-// The same bytes once more.
-pub fn again(t: &Table) -> Table
-    ensures { λ r. ⌜ 98 ≡ length r ⌝ }
-{
-    let mut copy = zeros();
-    let mut i = 0;
-    while i < SPACE {
-        copy[i] = t[i];
-        i += 1;
-    }
-    copy
-}
-
-pub fn same(a: &Table, b: &Table) -> bool {
+// Tells whether two arrays have the same bytes.
+pub fn same(a: Table, b: Table) -> bool {
     let mut i = 0;
     while i < SPACE {
         if a[i] != b[i] {
@@ -78,7 +32,8 @@ pub fn same(a: &Table, b: &Table) -> bool {
     true
 }
 
-pub fn word(t: &Table, i: usize) -> usize {
+// Gives word i; 0 where there is none.
+pub fn word(t: Table, i: usize) -> usize {
     if i < WORDS {
         wide(t[2 * i]) + 256 * wide(t[2 * i + 1])
     } else {
@@ -86,14 +41,17 @@ pub fn word(t: &Table, i: usize) -> usize {
     }
 }
 
-pub fn put(t: &mut Table, i: usize, w: usize) {
+// Writes word i, if there is one.
+pub fn put(t: Table, i: usize, w: usize) -> Table {
+    let mut written = t;
     if i < WORDS {
-        t[2 * i] = (w % 256) as u8;
-        t[2 * i + 1] = (w / 256 % 256) as u8;
+        written[2 * i] = (w % 256) as u8;
+        written[2 * i + 1] = (w / 256 % 256) as u8;
     }
+    written
 }
 
-// The bytes of a table for so many benches and jobs.
+// Counts the bytes of a table for so many benches and jobs.
 pub fn table_length(benches: usize, jobs: usize) -> usize {
     if benches <= MOST_BENCHES {
         if jobs <= MOST_JOBS {
@@ -103,35 +61,27 @@ pub fn table_length(benches: usize, jobs: usize) -> usize {
     SPACE
 }
 
-// Where the first job on a bench's chain stands.
+// Tells where the first job on a bench's chain stands.
 pub fn head(bench: usize) -> usize {
-    if bench <= MOST_BENCHES {
-        3 + bench
+    std::num::wrapping_add_usize(3, bench)
+}
+
+// Tells where word k of a job's record stands.
+pub fn record(benches: usize, job: usize, k: usize) -> usize {
+    if job <= MOST_JOBS {
+        std::num::wrapping_add_usize(benches, std::num::wrapping_add_usize(4 * job, k))
     } else {
         WORDS
     }
 }
 
-// Where word k of a job's record stands.
-pub fn record(benches: usize, job: usize, k: usize) -> usize {
-    if benches <= MOST_BENCHES {
-        if 0 < job {
-            if job <= MOST_JOBS {
-                if k < 4 {
-                    return benches + 4 * job + k;
-                }
-            }
-        }
-    }
-    WORDS
-}
-
-fn field(t: &Table, benches: usize, job: usize, k: usize) -> usize {
+// Gives word k of a job's record.
+fn field(t: Table, benches: usize, job: usize, k: usize) -> usize {
     word(t, record(benches, job, k))
 }
 
-// The bench that holds a job, by the job's record; 0 for none.
-pub fn holder(t: &Table, benches: usize, job: usize) -> usize {
+// Gives the bench that holds a job, by the job's record; 0 for none.
+pub fn holder(t: Table, benches: usize, job: usize) -> usize {
     let h = field(t, benches, job, 2);
     if h == 1 {
         return field(t, benches, job, 0);
@@ -142,84 +92,51 @@ pub fn holder(t: &Table, benches: usize, job: usize) -> usize {
     0
 }
 
-pub fn no_holders() -> Holders {
-    [0; 9]
-}
-
-pub fn holders(t: &Table, benches: usize) -> Holders {
-    let mut held = no_holders();
-    let mut job = 1;
-    while job <= MOST_JOBS {
-        held[job] = holder(t, benches, job);
-        job += 1;
-    }
-    held
-}
-
-// How many jobs but this one have another holder.
-pub fn changed(before: &Holders, after: &Holders, but: usize) -> usize {
-    let mut n: usize = 0;
-    let mut job = 1;
-    while job <= MOST_JOBS {
-        n = std::num::wrapping_add_usize(n, bit(job != but && before[job] != after[job]));
-        job += 1;
-    }
-    n
-}
-
-// A standing job's record names the book's benches and a holder; any other is four zeros.
-fn record_fits(t: &Table, book: &Book, benches: usize, job: usize) -> bool {
+// Tells whether a standing job's record names the book's benches and a holder, and any other is four zeros.
+fn record_fits(t: Table, book: Book, benches: usize, job: usize) -> bool {
     let first = bench_of(book, job, 0);
-    let second = bench_of(book, job, 1);
-    if field(t, benches, job, 0) != first || field(t, benches, job, 1) != second {
-        return false;
-    }
     let h = field(t, benches, job, 2);
+    let named = (field(t, benches, job, 0) == first)
+        & (field(t, benches, job, 1) == bench_of(book, job, 1));
     if first == 0 {
-        return h == 0 && field(t, benches, job, 3) == 0;
+        named & (h == 0) & (field(t, benches, job, 3) == 0)
+    } else {
+        named & ((h == 1) | (h == 2))
     }
-    h == 1 || h == 2
 }
 
-// Whether the table has the book's jobs and no other.
-pub fn fits(t: &Table, book: &Book, benches: usize) -> bool {
-    let mut job = 1;
-    while job <= MOST_JOBS {
-        if !record_fits(t, book, benches, job) {
-            return false;
-        }
+// Tells whether the table, for so many benches and jobs, has the book's jobs and no other.
+pub fn fits(t: Table, book: Book, benches: usize, jobs: usize) -> bool {
+    let mut all_fit = true;
+    let mut job = 0;
+    while job < jobs {
         job += 1;
+        all_fit = all_fit & record_fits(t, book, benches, job);
     }
-    word(t, 2) == standing(book)
+    all_fit & (word(t, 2) == standing(book))
 }
 
-fn put_record(
-    t: &mut Table,
-    benches: usize,
-    job: usize,
-    first: usize,
-    second: usize,
-    holder: usize,
-) {
-    put(t, record(benches, job, 0), first);
-    put(t, record(benches, job, 1), second);
-    put(t, record(benches, job, 2), holder);
-}
-
-// A standing job's record, the job in front of its holder's chain, and one more standing job.
+// Writes a standing job's record, puts the job in front of its holder's chain, and counts one more standing job.
 pub fn add_job(
-    t: &mut Table,
+    t: Table,
     benches: usize,
     job: usize,
     first: usize,
     second: usize,
     holder: usize,
-) {
+) -> Table {
     let bench = if holder == 1 { first } else { second };
+    let standing = std::num::wrapping_add_usize(word(t, 2), 1);
     let front = word(t, head(bench));
-    let standing = word(t, 2);
-    put_record(t, benches, job, first, second, holder);
-    put(t, record(benches, job, 3), front);
-    put(t, head(bench), job);
-    put(t, 2, std::num::wrapping_add_usize(standing, 1));
+    let named = put(
+        put(t, record(benches, job, 0), first),
+        record(benches, job, 1),
+        second,
+    );
+    let held = put(
+        put(named, record(benches, job, 2), holder),
+        record(benches, job, 3),
+        front,
+    );
+    put(put(held, head(bench), job), 2, standing)
 }

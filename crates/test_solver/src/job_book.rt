@@ -4,23 +4,28 @@ use crate::MOST_JOBS;
 use crate::bench_of;
 use crate::bit;
 
+// Gives the book of a blank board.
 pub fn empty() -> Book {
     [0; 18]
 }
 
-pub fn stands(book: &Book, job: usize) -> bool {
+// Tells whether a job stands.
+pub fn stands(book: Book, job: usize) -> bool {
     0 < bench_of(book, job, 0)
 }
 
 // Writes the benches under the job number; 0 and 0 empty it.
-pub fn write(book: &mut Book, job: usize, first: usize, second: usize) {
+pub fn write(book: Book, job: usize, first: usize, second: usize) -> Book {
+    let mut written = book;
     if job <= MOST_JOBS {
-        book[2 * job] = first;
-        book[2 * job + 1] = second;
+        written[2 * job] = first;
+        written[2 * job + 1] = second;
     }
+    written
 }
 
-pub fn standing(book: &Book) -> usize {
+// Counts the standing jobs.
+pub fn standing(book: Book) -> usize {
     let mut n: usize = 0;
     let mut job = 1;
     while job <= MOST_JOBS {
@@ -30,13 +35,14 @@ pub fn standing(book: &Book) -> usize {
     n
 }
 
+// Tells whether a number is not of 1 to `most`.
 fn outside(n: usize, most: usize) -> bool {
-    n == 0 || most < n
+    (n == 0) | (most < n)
 }
 
-// The number that an arrival is to be refused with, 0 if it is to be accepted.
+// Gives the number that an arrival is to be refused with, 0 if it is to be accepted.
 pub fn arrival_refusal(
-    book: &Book,
+    book: Book,
     benches: usize,
     jobs: usize,
     job: usize,
@@ -46,14 +52,14 @@ pub fn arrival_refusal(
     if outside(job, jobs) {
         return 3;
     }
-    if outside(first, benches) || outside(second, benches) || first == second {
+    if outside(first, benches) | outside(second, benches) | (first == second) {
         return 4;
     }
     if stands(book, job) { 5 } else { 0 }
 }
 
-// The number that a closing is to be refused with, 0 if it is to be accepted.
-pub fn closing_refusal(book: &Book, jobs: usize, job: usize) -> u32 {
+// Gives the number that a closing is to be refused with, 0 if it is to be accepted.
+pub fn closing_refusal(book: Book, jobs: usize, job: usize) -> u32 {
     if outside(job, jobs) {
         return 3;
     }

@@ -5,13 +5,10 @@ use Rattle.test_small_boards.proofs.main.Statement.{statement}
 use Rattle.test_small_boards.proofs.main.Tie as tie
 
 abbrev Inv-loop : tie.InvT-loop
-Inv-loop counts₀ seed₀ n₀ counts seed n = n ≤ 2000
+Inv-loop counted₀ seed₀ n₀ counted seed n = n ≤ 2000
 
 abbrev μ-loop : tie.MeasureT-loop
-μ-loop counts₀ seed₀ n₀ counts seed n = 2000 - n
-
-none-requires : tie.Need-none-requires Inv-loop μ-loop
-none-requires c κs = search needs
+μ-loop counted₀ seed₀ n₀ counted seed n = 2000 - n
 
 loop-holds : tie.Need-loop-holds Inv-loop μ-loop
 loop-holds c = search needs
@@ -31,14 +28,8 @@ loop-less c = search needs
 loop-again : tie.Need-loop-again Inv-loop μ-loop
 loop-again c = search needs
 
-print-accepted-requires : tie.Need-print-accepted-requires Inv-loop μ-loop
-print-accepted-requires c κs = search needs
-
-print-refused-requires : tie.Need-print-refused-requires Inv-loop μ-loop
-print-refused-requires c κs = search needs
-
-print-faults-requires : tie.Need-print-faults-requires Inv-loop μ-loop
-print-faults-requires c κs = search needs
+print-requires : tie.Need-print-requires Inv-loop μ-loop
+print-requires c κs = search needs
 
 returns : tie.Need-returns Inv-loop μ-loop
 returns c = search needs
@@ -49,14 +40,11 @@ main-spec =
     (tie.spec
     Inv-loop
     μ-loop
-    none-requires
     loop-holds
     after-requires
     run-requires
     add-n
     loop-less
     loop-again
-    print-accepted-requires
-    print-refused-requires
-    print-faults-requires
+    print-requires
     returns)

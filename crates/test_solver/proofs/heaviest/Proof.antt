@@ -16,8 +16,8 @@ loop-holds c = search needs
 mul-greater : tie.Need-mul-greater Inv-loop μ-loop
 mul-greater c = search needs
 
-element-copy-out-greater : tie.Need-element-copy-out-greater Inv-loop μ-loop
-element-copy-out-greater c = search needs
+array-read-greater : tie.Need-array-read-greater Inv-loop μ-loop
+array-read-greater c = search needs
 
 greater-requires : tie.Need-greater-requires Inv-loop μ-loop
 greater-requires c κs = search needs
@@ -42,7 +42,7 @@ heaviest-spec =
     μ-loop
     loop-holds
     mul-greater
-    element-copy-out-greater
+    array-read-greater
     greater-requires
     add-bench
     loop-less

@@ -10,9 +10,6 @@ Inv-loop book sharing loads₀ rest₀ job₀ loads rest job = job ≤ 9
 abbrev μ-loop : tie.MeasureT-loop
 μ-loop book sharing loads₀ rest₀ job₀ loads rest job = 9 - job
 
-no-loads-requires : tie.Need-no-loads-requires Inv-loop μ-loop
-no-loads-requires c κs = search needs
-
 loop-holds : tie.Need-loop-holds Inv-loop μ-loop
 loop-holds c = search needs
 
@@ -40,7 +37,6 @@ loads-of-spec =
     (tie.spec
     Inv-loop
     μ-loop
-    no-loads-requires
     loop-holds
     bench-of-requires
     give-requires

@@ -5,10 +5,10 @@ use Rattle.test_solver.proofs.lower.Statement.{statement}
 use Rattle.test_solver.proofs.lower.Tie as tie
 
 abbrev Inv-loop : tie.InvT-loop
-Inv-loop least₀ loads height₀ least height = height ≤ 9
+Inv-loop loads lowered₀ height₀ lowered height = height ≤ 9
 
 abbrev μ-loop : tie.MeasureT-loop
-μ-loop least₀ loads height₀ least height = 9 - height
+μ-loop loads lowered₀ height₀ lowered height = 9 - height
 
 loop-holds : tie.Need-loop-holds Inv-loop μ-loop
 loop-holds c = search needs
@@ -16,20 +16,20 @@ loop-holds c = search needs
 mul-lesser : tie.Need-mul-lesser Inv-loop μ-loop
 mul-lesser c = search needs
 
-element-copy-out-lesser : tie.Need-element-copy-out-lesser Inv-loop μ-loop
-element-copy-out-lesser c = search needs
+array-read-lesser : tie.Need-array-read-lesser Inv-loop μ-loop
+array-read-lesser c = search needs
 
-overhang-requires : tie.Need-overhang-requires Inv-loop μ-loop
-overhang-requires c κs = search needs
+excess-requires : tie.Need-excess-requires Inv-loop μ-loop
+excess-requires c κs = search needs
 
 lesser-requires : tie.Need-lesser-requires Inv-loop μ-loop
 lesser-requires c κs = search needs
 
-mul-least : tie.Need-mul-least Inv-loop μ-loop
-mul-least c = search needs
+mul-lowered : tie.Need-mul-lowered Inv-loop μ-loop
+mul-lowered c = search needs
 
-element-write-least : tie.Need-element-write-least Inv-loop μ-loop
-element-write-least c = search needs
+array-write-lowered : tie.Need-array-write-lowered Inv-loop μ-loop
+array-write-lowered c = search needs
 
 add-height : tie.Need-add-height Inv-loop μ-loop
 add-height c = search needs
@@ -51,11 +51,11 @@ lower-spec =
     μ-loop
     loop-holds
     mul-lesser
-    element-copy-out-lesser
-    overhang-requires
+    array-read-lesser
+    excess-requires
     lesser-requires
-    mul-least
-    element-write-least
+    mul-lowered
+    array-write-lowered
     add-height
     loop-less
     loop-again

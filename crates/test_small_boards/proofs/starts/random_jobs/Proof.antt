@@ -5,10 +5,10 @@ use Rattle.test_small_boards.proofs.starts.random_jobs.Statement.{state
 use Rattle.test_small_boards.proofs.starts.random_jobs.Tie as tie
 
 abbrev Inv-loop : tie.InvT-loop
-Inv-loop t₀ book₀ benches jobs seed from s₀ k₀ t book s k = k ≤ 8
+Inv-loop board seed from at₀ s₀ k₀ at s k = k ≤ 8
 
 abbrev μ-loop : tie.MeasureT-loop
-μ-loop t₀ book₀ benches jobs seed from s₀ k₀ t book s k = 8 - k
+μ-loop board seed from at₀ s₀ k₀ at s k = 8 - k
 
 below-requires : tie.Need-below-requires Inv-loop μ-loop
 below-requires c κs = search needs

@@ -5,22 +5,19 @@ use Rattle.test_solver.proofs.bytes.fits.Statement.{statement}
 use Rattle.test_solver.proofs.bytes.fits.Tie as tie
 
 abbrev Inv-loop : tie.InvT-loop
-Inv-loop t book benches job₀ job = job ≤ 9
+Inv-loop t book benches jobs all-fit₀ job₀ all-fit job = job ≤ jobs
 
 abbrev μ-loop : tie.MeasureT-loop
-μ-loop t book benches job₀ job = 9 - job
+μ-loop t book benches jobs all-fit₀ job₀ all-fit job = jobs - job
 
 loop-holds : tie.Need-loop-holds Inv-loop μ-loop
 loop-holds c = search needs
 
-record-fits-requires : tie.Need-record-fits-requires Inv-loop μ-loop
-record-fits-requires c κs = search needs
-
-returns : tie.Need-returns Inv-loop μ-loop
-returns c = search needs
-
 add-job : tie.Need-add-job Inv-loop μ-loop
 add-job c = search needs
+
+record-fits-requires : tie.Need-record-fits-requires Inv-loop μ-loop
+record-fits-requires c κs = search needs
 
 loop-less : tie.Need-loop-less Inv-loop μ-loop
 loop-less c = search needs
@@ -34,8 +31,8 @@ word-requires c κs = search needs
 standing-requires : tie.Need-standing-requires Inv-loop μ-loop
 standing-requires c κs = search needs
 
-returns-2 : tie.Need-returns-2 Inv-loop μ-loop
-returns-2 c = search needs
+returns : tie.Need-returns Inv-loop μ-loop
+returns c = search needs
 
 pub fits-spec : {M : Type 1} → statement M
 fits-spec =
@@ -44,11 +41,10 @@ fits-spec =
     Inv-loop
     μ-loop
     loop-holds
-    record-fits-requires
-    returns
     add-job
+    record-fits-requires
     loop-less
     loop-again
     word-requires
     standing-requires
-    returns-2)
+    returns)

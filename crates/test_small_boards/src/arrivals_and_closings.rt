@@ -1,0 +1,106 @@
+// Arrivals and closings, each held against what the book foretells and against the loads and holders before and after; and the load of a bench.
+use crate::board::Board;
+use crate::board_faults::loads;
+use crate::board_faults::same_loads;
+use crate::calls::Call;
+use crate::calls::Reply;
+use crate::calls::perform;
+use crate::counts;
+use crate::outcomes::Outcome;
+use crate::random;
+use test_solver::MOST_BENCHES;
+use test_solver::MOST_JOBS;
+use test_solver::bit;
+use test_solver::bytes;
+use test_solver::give;
+use test_solver::job_book;
+
+// Counts the jobs but this one that have another holder.
+fn moved(before: Board, after: Board, but: usize) -> usize {
+    let mut n: usize = 0;
+    let mut job = 1;
+    while job <= MOST_JOBS {
+        let is_other = before.holder(job) != after.holder(job);
+        n = std::num::wrapping_add_usize(n, bit(is_other & (job != but)));
+        job += 1;
+    }
+    n
+}
+
+// Holds a call that is refused, or a question, against the number that is due: it leaves all bytes.
+fn refused(before: Board, reply: Reply, due: u32) -> Outcome {
+    let after = reply.board;
+    let was = before.table;
+    let is = after.table;
+    let right = (reply.number == due) & bytes::same(was, is);
+    Outcome::refused(after, reply.number, right, counts::BAD_REFUSAL)
+}
+
+// Tells whether one more job stands on exactly this bench of the upper board, and so many jobs but this one have another holder.
+fn one_more(lower: Board, upper: Board, bench: usize, job: usize, n: usize) -> bool {
+    (0 < bench)
+        & (bench <= MOST_BENCHES)
+        & same_loads(give(loads(lower), bench), loads(upper))
+        & (moved(lower, upper, job) == n)
+}
+
+// Makes a drawn arrival. If it is accepted, the load of the bench that rose is one more, and the new job's holder and the number of jobs moved
+// are true.
+pub fn arrival(board: Board, seed: u64) -> Outcome {
+    let book = board.book;
+    let job = random::number(seed, 2, board.jobs);
+    let first = random::number(seed, 4, board.benches);
+    let second = random::number(seed, 6, board.benches);
+    let due = job_book::arrival_refusal(book, board.benches, board.jobs, job, first, second);
+    let reply = perform(board, Call::Arrival(job, first, second));
+    if reply.number != 0 {
+        return refused(board, reply, due);
+    }
+    let entered = job_book::write(book, job, first, second);
+    let mut after = reply.board;
+    after.book = entered;
+    let right = (due == 0)
+        & (reply.first != 0)
+        & (after.holder(job) == reply.first)
+        & one_more(board, after, reply.second, job, reply.third);
+    Outcome::new(
+        after,
+        counts::ARRIVALS,
+        reply.third,
+        right,
+        counts::BAD_ARRIVAL,
+    )
+}
+
+// Makes a drawn closing. If it is accepted, the load of the bench that fell is one less, and the number of jobs moved is true.
+pub fn closing(board: Board, seed: u64) -> Outcome {
+    let book = board.book;
+    let job = random::number(seed, 2, board.jobs);
+    let due = job_book::closing_refusal(book, board.jobs, job);
+    let reply = perform(board, Call::Closing(job));
+    if reply.number != 0 {
+        return refused(board, reply, due);
+    }
+    let struck = job_book::write(book, job, 0, 0);
+    let mut after = reply.board;
+    after.book = struck;
+    let right = (due == 0) & one_more(after, board, reply.first, job, reply.second);
+    Outcome::new(
+        after,
+        counts::CLOSINGS,
+        reply.second,
+        right,
+        counts::BAD_CLOSING,
+    )
+}
+
+// Asks for the load of a drawn bench. It is refused exactly if the board has no such bench.
+pub fn load(board: Board, seed: u64) -> Outcome {
+    let bench = random::number(seed, 2, board.benches);
+    let due = if (bench == 0) | (board.benches < bench) {
+        4
+    } else {
+        0
+    };
+    refused(board, perform(board, Call::Load(bench)), due)
+}

@@ -1,0 +1,46 @@
+-- The measure is how many sharings are left.
+use Prim.Native.Nat.{_≤_, _-_}
+use borrow.Author.Needs.{needs}
+use Rattle.test_solver.proofs.least_excesses.Statement.{statement}
+use Rattle.test_solver.proofs.least_excesses.Tie as tie
+
+abbrev Inv-loop : tie.InvT-loop
+Inv-loop book least₀ sharing₀ least sharing = sharing ≤ 256
+
+abbrev μ-loop : tie.MeasureT-loop
+μ-loop book least₀ sharing₀ least sharing = 256 - sharing
+
+loop-holds : tie.Need-loop-holds Inv-loop μ-loop
+loop-holds c = search needs
+
+loads-of-requires : tie.Need-loads-of-requires Inv-loop μ-loop
+loads-of-requires c κs = search needs
+
+lower-requires : tie.Need-lower-requires Inv-loop μ-loop
+lower-requires c κs = search needs
+
+add-sharing : tie.Need-add-sharing Inv-loop μ-loop
+add-sharing c = search needs
+
+loop-less : tie.Need-loop-less Inv-loop μ-loop
+loop-less c = search needs
+
+loop-again : tie.Need-loop-again Inv-loop μ-loop
+loop-again c = search needs
+
+returns : tie.Need-returns Inv-loop μ-loop
+returns c = search needs
+
+pub least-excesses-spec : {M : Type 1} → statement M
+least-excesses-spec =
+    tie.close
+    (tie.spec
+    Inv-loop
+    μ-loop
+    loop-holds
+    loads-of-requires
+    lower-requires
+    add-sharing
+    loop-less
+    loop-again
+    returns)
