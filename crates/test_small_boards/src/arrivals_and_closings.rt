@@ -44,14 +44,10 @@ fn one_more(lower: Board, upper: Board, bench: usize, job: usize, n: usize) -> b
         & (moved(lower, upper, job) == n)
 }
 
-// Makes a drawn arrival. If it is accepted, the load of the bench that rose is one more, and the new job's holder and the number of jobs moved
-// are true.
-pub fn arrival(board: Board, seed: u64) -> Outcome {
+// Makes an arrival. If it is accepted, the load of the bench that rose is one more, and the new job's holder and the number of jobs moved are
+// true.
+fn arrive(board: Board, job: usize, first: usize, second: usize, due: u32) -> Outcome {
     let book = board.book;
-    let job = random::number(seed, 2, board.jobs);
-    let first = random::number(seed, 4, board.benches);
-    let second = random::number(seed, 6, board.benches);
-    let due = job_book::arrival_refusal(book, board.benches, board.jobs, job, first, second);
     let reply = perform(board, Call::Arrival(job, first, second));
     if reply.number != 0 {
         return refused(board, reply, due);
@@ -60,7 +56,8 @@ pub fn arrival(board: Board, seed: u64) -> Outcome {
     let mut after = reply.board;
     after.book = entered;
     let right = (due == 0)
-        & (reply.first != 0)
+        & (0 < reply.first)
+        & (reply.first <= MOST_BENCHES)
         & (after.holder(job) == reply.first)
         & one_more(board, after, reply.second, job, reply.third);
     Outcome::new(
@@ -70,6 +67,16 @@ pub fn arrival(board: Board, seed: u64) -> Outcome {
         right,
         counts::BAD_ARRIVAL,
     )
+}
+
+// Makes a drawn arrival.
+pub fn arrival(board: Board, seed: u64) -> Outcome {
+    let book = board.book;
+    let job = random::number(seed, 2, board.jobs);
+    let first = random::number(seed, 4, board.benches);
+    let second = random::number(seed, 6, board.benches);
+    let due = job_book::arrival_refusal(book, board.benches, board.jobs, job, first, second);
+    arrive(board, job, first, second, due)
 }
 
 // Makes a drawn closing. If it is accepted, the load of the bench that fell is one less, and the number of jobs moved is true.

@@ -45,7 +45,7 @@ pub const ANSWERED: usize = 27;
 
 pub const RIGHT: usize = 28;
 
-const PLACES: usize = 29;
+pub const PLACES: usize = 29;
 
 pub type Counts = [u64; 29];
 
@@ -56,9 +56,4 @@ pub fn add(counts: Counts, place: usize, n: usize) -> Counts {
         more[place] = std::num::wrapping_add_u64(more[place], n as u64);
     }
     more
-}
-
-// Gives the count at a place.
-pub fn at(counts: Counts, place: usize) -> u64 {
-    if place < PLACES { counts[place] } else { 0 }
 }

@@ -75,11 +75,11 @@ fn spoil(board: Board, seed: u64) -> Board {
 
 // Gives a number that is not the table's: 0, one above the limit, or one more.
 fn wrong_size(n: usize, limit: usize, seed: u64) -> usize {
-    let way = random::below(seed, 3, 3);
-    if way == 0 {
-        return 0;
+    match random::below(seed, 3, 3) {
+        0 => 0,
+        1 => more(limit),
+        _ => more(n),
     }
-    if way == 1 { more(limit) } else { more(n) }
 }
 
 // Writes words 0 or 1 that do not fit the table's length.

@@ -5,6 +5,7 @@ use board::Board;
 use counts::Counts;
 use libc::STDOUT_FILENO;
 use outcomes::Outcome;
+use test_solver::bit;
 
 mod arrivals_and_closings;
 mod board;
@@ -94,19 +95,26 @@ fn run(seed: u64, before: Counts) -> Counts {
     calls_of(begun, random::after(seed, 100), before)
 }
 
+// Prints a byte of the report, or the count for a '#'.
+fn print_byte(byte: u8, count: u64) {
+    let text = [byte];
+    if byte == b'#' {
+        io::print_decimal(STDOUT_FILENO, count);
+    } else {
+        io::write_all(STDOUT_FILENO, &text);
+    }
+}
+
 // Prints the report, with the next count for each '#'.
 fn print(counts: Counts) {
     let text = REPORT;
     let mut place = 0;
     let mut i = 0;
     while i < text.len() {
-        let byte = [text[i]];
-        if byte[0] == b'#' {
-            io::print_decimal(STDOUT_FILENO, counts::at(counts, place));
-            place = std::num::wrapping_add_usize(place, 1);
-        } else {
-            io::write_all(STDOUT_FILENO, &byte);
+        if place < counts::PLACES {
+            print_byte(text[i], counts[place]);
         }
+        place = std::num::wrapping_add_usize(place, bit(text[i] == b'#'));
         i += 1;
     }
 }

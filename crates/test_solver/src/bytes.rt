@@ -82,14 +82,11 @@ fn field(t: Table, benches: usize, job: usize, k: usize) -> usize {
 
 // Gives the bench that holds a job, by the job's record; 0 for none.
 pub fn holder(t: Table, benches: usize, job: usize) -> usize {
-    let h = field(t, benches, job, 2);
-    if h == 1 {
-        return field(t, benches, job, 0);
+    match field(t, benches, job, 2) {
+        1 => field(t, benches, job, 0),
+        2 => field(t, benches, job, 1),
+        _ => 0,
     }
-    if h == 2 {
-        return field(t, benches, job, 1);
-    }
-    0
 }
 
 // Tells whether a standing job's record names the book's benches and a holder, and any other is four zeros.

@@ -13,26 +13,26 @@ abbrev μ-loop : tie.MeasureT-loop
 loop-holds : tie.Need-loop-holds Inv-loop μ-loop
 loop-holds c = search needs
 
-array-read-if1 : tie.Need-array-read-if1 Inv-loop μ-loop
-array-read-if1 c = search needs
+array-read-print-byte : tie.Need-array-read-print-byte Inv-loop μ-loop
+array-read-print-byte c = search needs
 
-array-read-if1-2 : tie.Need-array-read-if1-2 Inv-loop μ-loop
-array-read-if1-2 c = search needs
+mul-print-byte : tie.Need-mul-print-byte Inv-loop μ-loop
+mul-print-byte c = search needs
 
-at-requires : tie.Need-at-requires Inv-loop μ-loop
-at-requires c κs = search needs
+array-read-print-byte-2 : tie.Need-array-read-print-byte-2 Inv-loop μ-loop
+array-read-print-byte-2 c = search needs
 
-print-decimal-requires : tie.Need-print-decimal-requires Inv-loop μ-loop
-print-decimal-requires c κs = search needs
+print-byte-requires : tie.Need-print-byte-requires Inv-loop μ-loop
+print-byte-requires c κs = search needs
+
+array-read-bit : tie.Need-array-read-bit Inv-loop μ-loop
+array-read-bit c = search needs
+
+bit-requires : tie.Need-bit-requires Inv-loop μ-loop
+bit-requires c κs = search needs
 
 wrapping-add-usize-requires : tie.Need-wrapping-add-usize-requires Inv-loop μ-loop
 wrapping-add-usize-requires c κs = search needs
-
-slice-aggregate-write-all : tie.Need-slice-aggregate-write-all Inv-loop μ-loop
-slice-aggregate-write-all c = search needs
-
-write-all-requires : tie.Need-write-all-requires Inv-loop μ-loop
-write-all-requires c κs = search needs
 
 add-i : tie.Need-add-i Inv-loop μ-loop
 add-i c = search needs
@@ -53,13 +53,13 @@ print-spec =
     Inv-loop
     μ-loop
     loop-holds
-    array-read-if1
-    array-read-if1-2
-    at-requires
-    print-decimal-requires
+    array-read-print-byte
+    mul-print-byte
+    array-read-print-byte-2
+    print-byte-requires
+    array-read-bit
+    bit-requires
     wrapping-add-usize-requires
-    slice-aggregate-write-all
-    write-all-requires
     add-i
     loop-less
     loop-again

@@ -16,8 +16,20 @@ loop-holds c = search needs
 bench-of-requires : tie.Need-bench-of-requires Inv-loop μ-loop
 bench-of-requires c κs = search needs
 
-give-requires : tie.Need-give-requires Inv-loop μ-loop
-give-requires c κs = search needs
+mul-wrapping-add-usize : tie.Need-mul-wrapping-add-usize Inv-loop μ-loop
+mul-wrapping-add-usize c = search needs
+
+array-read-wrapping-add-usize : tie.Need-array-read-wrapping-add-usize Inv-loop μ-loop
+array-read-wrapping-add-usize c = search needs
+
+wrapping-add-usize-requires : tie.Need-wrapping-add-usize-requires Inv-loop μ-loop
+wrapping-add-usize-requires c κs = search needs
+
+mul-loads : tie.Need-mul-loads Inv-loop μ-loop
+mul-loads c = search needs
+
+array-write-loads : tie.Need-array-write-loads Inv-loop μ-loop
+array-write-loads c = search needs
 
 add-job : tie.Need-add-job Inv-loop μ-loop
 add-job c = search needs
@@ -39,7 +51,11 @@ loads-of-spec =
     μ-loop
     loop-holds
     bench-of-requires
-    give-requires
+    mul-wrapping-add-usize
+    array-read-wrapping-add-usize
+    wrapping-add-usize-requires
+    mul-loads
+    array-write-loads
     add-job
     loop-less
     loop-again
