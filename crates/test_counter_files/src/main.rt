@@ -1,5 +1,5 @@
-// The counter program on each file that its arguments name, twice: as it reads standard input, and a byte at a time. The files and the
-// expected answers were made by another implementation of document 01.
+// The counter program on each file that its arguments name, twice: as it reads standard input, and a byte at a time.
+// The files and the expected answers were made by another implementation of document 01.
 use libc::STDOUT_FILENO;
 
 fn serve_file(path: &[u8], most: usize) {

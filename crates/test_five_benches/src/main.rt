@@ -1,6 +1,6 @@
-// Document 01's board "Five benches, one job for each pair, any arrival order: every load 2", in all 3,628,800 orders. They are taken in
-// dictionary order, and the table of each prefix is kept, so that an order makes only the arrivals after the prefix that it shares with the
-// order before.
+// Document 01's board "Five benches, one job for each pair, any arrival order: every load 2", in all 3,628,800
+// orders. They are taken in dictionary order, and the table of each prefix is kept, so that an order makes only the
+// arrivals after the prefix that it shares with the order before.
 ghost use Prim.Native.Nat.{_≤_, _<_};
 use board_answers::Answer;
 use libc::STDOUT_FILENO;

@@ -1,4 +1,5 @@
-// Arrivals and closings, each held against what the book foretells and against the loads and holders before and after; and the load of a bench.
+// Arrivals and closings, each held against what the book foretells and against the loads and holders before and
+// after; and the load of a bench.
 use crate::board::Board;
 use crate::board_faults::loads;
 use crate::board_faults::same_loads;
@@ -36,7 +37,8 @@ fn refused(before: Board, reply: Reply, due: u32) -> Outcome {
     Outcome::refused(after, reply.number, right, counts::BAD_REFUSAL)
 }
 
-// Tells whether one more job stands on exactly this bench of the upper board, and so many jobs but this one have another holder.
+// Tells whether one more job stands on exactly this bench of the upper board, and so many jobs but this one have
+// another holder.
 fn one_more(lower: Board, upper: Board, bench: usize, job: usize, n: usize) -> bool {
     (0 < bench)
         & (bench <= MOST_BENCHES)
@@ -44,8 +46,8 @@ fn one_more(lower: Board, upper: Board, bench: usize, job: usize, n: usize) -> b
         & (moved(lower, upper, job) == n)
 }
 
-// Makes an arrival. If it is accepted, the load of the bench that rose is one more, and the new job's holder and the number of jobs moved are
-// true.
+// Makes an arrival. If it is accepted, the load of the bench that rose is one more, and the new job's holder and the
+// number of jobs moved are true.
 fn arrive(board: Board, job: usize, first: usize, second: usize, due: u32) -> Outcome {
     let book = board.book;
     let reply = perform(board, Call::Arrival(job, first, second));
@@ -79,7 +81,8 @@ pub fn arrival(board: Board, seed: u64) -> Outcome {
     arrive(board, job, first, second, due)
 }
 
-// Makes a drawn closing. If it is accepted, the load of the bench that fell is one less, and the number of jobs moved is true.
+// Makes a drawn closing. If it is accepted, the load of the bench that fell is one less, and the number of jobs moved
+// is true.
 pub fn closing(board: Board, seed: u64) -> Outcome {
     let book = board.book;
     let job = random::number(seed, 2, board.jobs);

@@ -65,8 +65,8 @@ fn are_least(loads: Loads, least: Excesses) -> bool {
     same
 }
 
-// Looks at heaviest load, level check and sharing. A board is level exactly if its excesses are the least of all sharings; where it is known
-// to be, its heaviest load is the least too.
+// Looks at heaviest load, level check and sharing. A board is level exactly if its excesses are the least of all
+// sharings; where it is known to be, its heaviest load is the least too.
 fn loads_fault(board: Board, loads: Loads) -> usize {
     let book = board.book;
     let heaviest = test_solver::heaviest(loads);

@@ -1,4 +1,5 @@
-// Tables that are not sound, or whose sizes do not fit: every call is refused with 2 or 1, whatever its numbers, and leaves all bytes.
+// Tables that are not sound, or whose sizes do not fit: every call is refused with 2 or 1, whatever its numbers, and
+// leaves all bytes.
 use crate::board::Board;
 use crate::calls::Call;
 use crate::calls::perform;
@@ -21,7 +22,8 @@ fn more(n: usize) -> usize {
     std::num::wrapping_add_usize(n, 1)
 }
 
-// Gives the word that a way of spoiling writes: of the job's record, the head of the bench's chain, the standing jobs, or word 3.
+// Gives the word that a way of spoiling writes: of the job's record, the head of the bench's chain, the standing
+// jobs, or word 3.
 fn spoilt_word(benches: usize, job: usize, bench: usize, way: usize) -> usize {
     match way {
         0 => record(benches, job, 2),
@@ -44,8 +46,8 @@ fn wrong_first(board: Board, job: usize, bench: usize) -> usize {
     }
 }
 
-// Gives what it writes there: a wrong holder, the job's other bench, a bench above B, the job as its own next job; a chain's wrong beginning;
-// one standing job too many; anything but 0.
+// Gives what it writes there: a wrong holder, the job's other bench, a bench above B, the job as its own next job; a
+// chain's wrong beginning; one standing job too many; anything but 0.
 fn spoilt_value(board: Board, job: usize, bench: usize, way: usize) -> usize {
     let t = board.table;
     match way {

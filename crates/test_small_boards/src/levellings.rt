@@ -86,8 +86,8 @@ fn allowance(seed: u64) -> u32 {
     if way < 4 { way as u32 } else { 4294967295 }
 }
 
-// Makes a drawn levelling. It turns as many paths as are needed or allowed, and says "level" exactly if no more were needed, as on a board
-// that was level.
+// Makes a drawn levelling. It turns as many paths as are needed or allowed, and says "level" exactly if no more were
+// needed, as on a board that was level.
 pub fn levelling(board: Board, seed: u64) -> Outcome {
     let needed = paths_needed(board);
     let allowed = allowance(seed);

@@ -1,6 +1,7 @@
-// Random runs of arrivals, closings and levellings on small boards. A job book, kept by document 01's rules, foretells every refusal, and a
-// second solver that tries every sharing of the book's jobs tells the least heaviest load and the least excess (01: overhang) above every
-// height; the board's answers and its table are held against both after each call.
+// Random runs of arrivals, closings and levellings on small boards. A job book, kept by document 01's rules,
+// foretells every refusal, and a second solver that tries every sharing of the book's jobs tells the least heaviest
+// load and the least excess (01: overhang) above every height; the board's answers and its table are held against
+// both after each call.
 use board::Board;
 use counts::Counts;
 use libc::STDOUT_FILENO;

@@ -4,7 +4,8 @@ use crate::board_faults;
 use crate::counts;
 use crate::counts::Counts;
 
-// The board after it, the place of `counts` for what it did, the jobs moved or paths turned, and the place for its fault.
+// The board after it, the place of `counts` for what it did, the jobs moved or paths turned, and the place for its
+// fault.
 pub struct Outcome {
     pub board: Board,
     pub what: usize,

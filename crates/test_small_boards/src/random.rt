@@ -29,8 +29,8 @@ pub fn within(seed: u64, k: usize, n: usize) -> usize {
     std::num::wrapping_add_usize(below(seed, k, n), 1)
 }
 
-// Draws mostly a number of 1 to n, else 0 or n + 1, or a larger one that would be in range if it were cut to 16 bits. Takes the k-th number and the
-// next.
+// Draws mostly a number of 1 to n, else 0 or n + 1, or a larger one that would be in range if it were cut to 16 bits.
+// Takes the k-th number and the next.
 pub fn number(seed: u64, k: usize, n: usize) -> usize {
     let way = below(seed, k, 32);
     let next = std::num::wrapping_add_usize(k, 1);

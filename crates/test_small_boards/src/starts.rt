@@ -15,8 +15,8 @@ fn holder_word(first: usize, second: usize, way: usize) -> usize {
     if (way == 0) == (first < second) { 2 } else { 1 }
 }
 
-// Adds a job in three of four draws. Half of them name bench 1 first, and mostly the bench of the lower number holds a job, so that many
-// tables are not level.
+// Adds a job in three of four draws. Half of them name bench 1 first, and mostly the bench of the lower number holds
+// a job, so that many tables are not level.
 fn random_job(board: Board, job: usize, seed: u64) -> Board {
     let way = random::below(seed, 1, 8);
     if way < 2 {

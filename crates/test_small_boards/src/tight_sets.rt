@@ -91,7 +91,8 @@ fn inside(book: Book, marks: Marks) -> usize {
     n
 }
 
-// Lists the set. Each bench is written behind the marked ones before it, and what is behind the last of them is made as it was.
+// Lists the set. Each bench is written behind the marked ones before it, and what is behind the last of them is made
+// as it was.
 fn list(marks: Marks) -> Listed {
     let mut list = [255; SPACE];
     let mut benches: usize = 0;
@@ -151,8 +152,8 @@ fn times(a: usize, b: usize) -> usize {
     n
 }
 
-// Tells of a level board whether the inside jobs less (h - 1) times the benches are the excess above h - 1. Where h is the heaviest load, it
-// is the density rounded up.
+// Tells of a level board whether the inside jobs less (h - 1) times the benches are the excess above h - 1. Where h
+// is the heaviest load, it is the density rounded up.
 fn proves(loads: Loads, height: usize, benches: usize, jobs: usize) -> bool {
     if height == 0 {
         return false;
@@ -163,7 +164,8 @@ fn proves(loads: Loads, height: usize, benches: usize, jobs: usize) -> bool {
     is_sum & (is_rounded | (height < heaviest(loads)))
 }
 
-// Tells whether the set of a height that some load reaches is right, and is refused where its list is one byte too short.
+// Tells whether the set of a height that some load reaches is right, and is refused where its list is one byte too
+// short.
 fn set_is_right(board: Board, loads: Loads, height: usize) -> bool {
     let book = board.book;
     let marks = set_of(board, loads, height);

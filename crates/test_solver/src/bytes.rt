@@ -1,4 +1,5 @@
-// Tables as bytes, read and written without the board's own code: arrays of one length, each with a table at its beginning.
+// Tables as bytes, read and written without the board's own code: arrays of one length, each with a table at its
+// beginning.
 ghost use Prim.Native.Nat.{_<_};
 use crate::Book;
 use crate::MOST_BENCHES;

@@ -1,5 +1,6 @@
-// A second solver, for tests: it tries every sharing of a book's jobs. Beside it, what a test needs to keep a job book and to read and write
-// tables. Nothing here uses the board's own code. Arrays are handed over and back by value: a call with a `&mut` takes several times as long to prove.
+// A second solver, for tests: it tries every sharing of a book's jobs. Beside it, what a test needs to keep a job
+// book and to read and write tables. Nothing here uses the board's own code. Arrays are handed over and back by
+// value: a call with a `&mut` takes several times as long to prove.
 //
 // Benches are numbered 1 to 5 here, jobs 1 to 8.
 
@@ -44,7 +45,8 @@ pub fn give(loads: Loads, bench: usize) -> Loads {
     more
 }
 
-// Counts the loads of a sharing. Each binary digit of its number, from the lowest, says which of its two benches a job goes to.
+// Counts the loads of a sharing. Each binary digit of its number, from the lowest, says which of its two benches a
+// job goes to.
 fn loads_of(book: Book, sharing: usize) -> Loads {
     let mut loads = [0; 6];
     let mut rest = sharing;

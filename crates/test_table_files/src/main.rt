@@ -1,6 +1,6 @@
-// Prints, for each table file that its arguments name, what the form check answers (sound, 1 or 2), and the heaviest load or the
-// same refusal. The files and the expected answers were made by another implementation of document 01. A file's name tells what damage was
-// tried; where that changed nothing, the table is sound.
+// Prints, for each table file that its arguments name, what the form check answers (sound, 1 or 2), and the heaviest
+// load or the same refusal. The files and the expected answers were made by another implementation of document 01. A
+// file's name tells what damage was tried; where that changed nothing, the table is sound.
 ghost use Rattle.table_size.specs.Sizes.{SoundTable};
 use libc::STDOUT_FILENO;
 use table_board::loads;
