@@ -155,8 +155,8 @@ pub fn print() {
     let rows = rows();
     print_targets(&rows);
     head(
-        "Each call, in µs. Moved: the jobs that change holder, the mean of the calls, or the paths that levelling turns. Form checks: how \
-         many proved ones of the same board the proved call takes, levelling for each path.",
+        "Each call, in µs. Moved: the jobs that change holder, the mean of the calls, or the paths that levelling turns. Form\n\
+         checks: how many proved ones of the same board the proved call takes, levelling for each path.",
         "call | board | B | J | moved | proved | plain | proved / plain | independent | proved / independent | form checks",
     );
     rows.iter().for_each(Row::print);

@@ -52,9 +52,9 @@ fn print_row(board: &str, t: &[u8], changes: &[Call]) {
 
 pub fn print() {
     head(
-        "From scratch, in µs: a proved change of a level board, beside levelling the jobs that then stand, each given to its first-named \
-         bench, by proved and by independent code; writing that board is not counted. Ratios to the change. Both ways end with the same \
-         loads.",
+        "From scratch, in µs: a proved change of a level board, beside levelling the jobs that then stand, each given to its\n\
+         first-named bench, by proved and by independent code; writing that board is not counted. Ratios to the change. Both ways\n\
+         end with the same loads.",
         "change | board | B | J | change | paths | from scratch, proved | ratio | from scratch, independent | ratio",
     );
     let random = &mut Random(17);
