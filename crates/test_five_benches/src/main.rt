@@ -30,7 +30,7 @@ fn zeros() -> [u8; TABLE] {
     [0; TABLE]
 }
 
-// The table of a prefix of so many jobs.
+// Gives the table of a prefix of so many jobs.
 fn table_of(tables: &[u8; TABLES], jobs: usize) -> [u8; TABLE]
     requires { ⌜ jobs ≤ 10 ⌝ }
 {
@@ -82,7 +82,7 @@ fn every_load_is_two(t: &[u8]) -> bool {
     true
 }
 
-// One more arrival: the table of the longer prefix is kept. Whether it was accepted.
+// Makes one more arrival and keeps the table of the longer prefix; tells whether it was accepted.
 fn arrive_after(tables: &mut [u8; TABLES], jobs: usize, job: usize) -> bool
     requires { ⌜ jobs < 10 ⌝ }
 {
@@ -92,7 +92,7 @@ fn arrive_after(tables: &mut [u8; TABLES], jobs: usize, job: usize) -> bool
     accepted
 }
 
-// Whether the jobs of an order from this place on are all accepted.
+// Tells whether the jobs of an order from this place on are all accepted.
 fn all_arrive(tables: &mut [u8; TABLES], order: &[u8; JOBS], place: usize) -> bool {
     let mut k = place;
     while k < JOBS {
@@ -104,7 +104,7 @@ fn all_arrive(tables: &mut [u8; TABLES], order: &[u8; JOBS], place: usize) -> bo
     true
 }
 
-// Takes an order whose tables up to this place are there. 0 if every load is 2 at its end, else 1.
+// Takes an order whose tables up to this place are there; gives 0 if every load is 2 at its end, else 1.
 fn faults(tables: &mut [u8; TABLES], order: &[u8; JOBS], place: usize) -> u64 {
     if all_arrive(tables, order, place) {
         let t = table_of(tables, JOBS);
@@ -132,7 +132,7 @@ fn reverse_from(order: &mut [u8; JOBS], place: usize) {
     }
 }
 
-// The last place whose job is above that of the place before; 0 where there is none.
+// Finds the last place whose job is above that of the place before; 0 where there is none.
 fn last_rise(order: &[u8; JOBS]) -> usize
     ensures { λ r. ⌜ r < 10 ⌝ }
 {
@@ -146,7 +146,7 @@ fn last_rise(order: &[u8; JOBS]) -> usize
     0
 }
 
-// The last place from k on whose job is above that of the place before k.
+// Finds the last place from k on whose job is above that of the place before k.
 fn last_above(order: &[u8; JOBS], k: usize) -> usize
     requires { ⌜ (0 < k) × (k < 10) ⌝ }
     ensures { λ r. ⌜ r < 10 ⌝ }
@@ -161,7 +161,7 @@ fn last_above(order: &[u8; JOBS], k: usize) -> usize
     k
 }
 
-// The next order of the dictionary. How many places stay as they were: all in the last order.
+// Makes the next order of the dictionary; counts the places that stay as they were, all in the last order.
 fn next_order(order: &mut [u8; JOBS]) -> usize {
     let k = last_rise(order);
     if k == 0 {

@@ -1,6 +1,7 @@
 // A second solver, for tests: it tries every sharing of a book's jobs. Beside it, what a test needs to keep a job
 // book and to read and write tables. Nothing here uses the board's own code. Arrays are handed over and back by
-// value: a call with a `&mut` takes several times as long to prove.
+// value, since a call with a `&mut` takes up to four times as long to prove; conditions are joined by `&`, since each
+// `&&` is a branch.
 //
 // Benches are numbered 1 to 5 here, jobs 1 to 8.
 
