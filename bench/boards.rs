@@ -22,17 +22,17 @@ fn put(t: &mut [u8], i: usize, w: usize) {
     t[2 * i..2 * i + 2].copy_from_slice(&(w as u16).to_le_bytes());
 }
 
-/// Word i of a table.
+/// Reads word i of a table.
 pub fn get(t: &[u8], i: usize) -> usize {
     u16::from_le_bytes([t[2 * i], t[2 * i + 1]]) as usize
 }
 
-/// B and J of a table that fits.
+/// Reads B and J of a table that fits.
 pub fn sizes(t: &[u8]) -> (usize, usize) {
     (get(t, 0), get(t, 1))
 }
 
-/// Whether job j stands.
+/// Tells whether job j stands.
 pub fn stands(t: &[u8], benches: usize, j: usize) -> bool {
     (0..4).any(|k| get(t, benches + 4 * j + k) != 0)
 }
@@ -40,7 +40,7 @@ pub fn stands(t: &[u8], benches: usize, j: usize) -> bool {
 /// A job number, the two benches it names, and which of them holds it (1 or 2).
 pub type Job = (usize, [usize; 2], usize);
 
-/// The sound table of these jobs, pushed onto the chains one after the other.
+/// Makes the sound table of these jobs, pushed onto the chains one after the other.
 pub fn table(benches: usize, jobs: usize, standing: &[Job]) -> Vec<u8> {
     let mut t = vec![0; 2 * (4 + benches + 4 * jobs)];
     put(&mut t, 0, benches);
@@ -57,35 +57,35 @@ pub fn table(benches: usize, jobs: usize, standing: &[Job]) -> Vec<u8> {
     t
 }
 
-/// Two random benches.
+/// Picks two random benches.
 pub fn two_benches(benches: usize, random: &mut Random) -> [usize; 2] {
     let first = random.below(benches);
     let second = (first + 1 + random.below(benches - 1)) % benches;
     [first + 1, second + 1]
 }
 
-/// Two random benches for job j, held by either.
+/// Picks two random benches for job j, held by either.
 fn random_job(j: usize, benches: usize, random: &mut Random) -> Job {
     (j, two_benches(benches, random), 1 + random.below(2))
 }
 
-/// A table without jobs.
+/// Makes a table without jobs.
 pub fn blank(benches: usize, jobs: usize) -> Vec<u8> {
     table(benches, jobs, &[])
 }
 
-/// Every job stands, with two random benches; chains rise.
+/// Makes every job stand, with two random benches; chains rise.
 pub fn full(benches: usize, jobs: usize, random: &mut Random) -> Vec<u8> {
     pairs(benches, jobs, jobs, random)
 }
 
-/// The first jobs stand, with two random benches; chains rise.
+/// Makes the first jobs stand, with two random benches; chains rise.
 pub fn pairs(benches: usize, standing: usize, jobs: usize, random: &mut Random) -> Vec<u8> {
     let standing: Vec<_> = (1..=standing).rev().map(|j| random_job(j, benches, random)).collect();
     table(benches, jobs, &standing)
 }
 
-/// Of three job numbers two stand, with random benches; chains are in no order.
+/// Makes two of three jobs stand, with random benches; chains are in no order.
 pub fn mixed(benches: usize, jobs: usize, random: &mut Random) -> Vec<u8> {
     let mut numbers: Vec<_> = (1..=jobs).filter(|_| random.below(3) != 0).collect();
     random.shuffle(&mut numbers);
@@ -93,25 +93,25 @@ pub fn mixed(benches: usize, jobs: usize, random: &mut Random) -> Vec<u8> {
     table(benches, jobs, &standing)
 }
 
-/// The benches that job j of a ring names: bench j and the next one, round and round.
+/// Gives the benches that job j of a ring names: bench j and the next one, round and round.
 pub fn neighbours(j: usize, benches: usize) -> [usize; 2] {
     [(j - 1) % benches + 1, j % benches + 1]
 }
 
-/// A ring, each job held by the first of its benches.
+/// Makes a ring, each job held by the first of its benches.
 pub fn ring(benches: usize, jobs: usize) -> Vec<u8> {
     let standing: Vec<_> = (1..=jobs).rev().map(|j| (j, neighbours(j, benches), 1)).collect();
     table(benches, jobs, &standing)
 }
 
-/// Bench 1 holds the first jobs, which name the others in turn.
+/// Gives bench 1 the first jobs, which name the others in turn.
 pub fn heap(benches: usize, standing: usize, jobs: usize) -> Vec<u8> {
     let standing: Vec<_> = (1..=standing).rev().map(|j| (j, [1, 2 + (j - 1) % (benches - 1)], 1)).collect();
     table(benches, jobs, &standing)
 }
 
-/// Job k of a layer of the path boards: it leads from bench k to the next one, and from the last bench back to the one before. A layer
-/// gives each bench one job.
+/// Gives the benches of job k of a layer of the path boards: it leads from bench k to the next one, and from the last
+/// bench back to the one before. A layer gives each bench one job.
 fn layer_job(k: usize, benches: usize) -> [usize; 2] {
     if k < benches {
         [k, k + 1]
@@ -120,16 +120,17 @@ fn layer_job(k: usize, benches: usize) -> [usize; 2] {
     }
 }
 
-/// As many jobs as leave one number free and every bench but the last with the same load, the last with one less. All ways to the last
-/// bench go through every bench between: an arrival that another bench gets moves as many jobs as it is benches away. J is a multiple of B.
+/// Makes all jobs but one stand, every bench but the last with the same load, the last with one less. All ways to the
+/// last bench go through every bench between: an arrival that another bench gets moves as many jobs as it is benches
+/// away. J is a multiple of B.
 pub fn long_path(benches: usize, jobs: usize) -> Vec<u8> {
     let place = |j: usize| if j < benches { j } else { (j - benches) % benches + 1 };
     let standing: Vec<_> = (1..jobs).rev().map(|j| (j, layer_job(place(j), benches), 1)).collect();
     table(benches, jobs, &standing)
 }
 
-/// Every bench has the same load, and bench 1 one job more, number J: closing job k, which bench k holds, moves k - 1 jobs. All
-/// loads but the first must be equal for that, so that at 500 benches 3,501 of the 4,000 jobs stand.
+/// Gives every bench the same load, and bench 1 one job more, number J: closing job k, which bench k holds, moves
+/// k - 1 jobs. All loads but the first must be equal for that, so that at 500 benches 3,501 of the 4,000 jobs stand.
 pub fn long_path_back(benches: usize, jobs: usize) -> Vec<u8> {
     let layered = (jobs - 1) / benches * benches;
     let mut standing = vec![(jobs, [1, 2], 1)];
@@ -137,7 +138,7 @@ pub fn long_path_back(benches: usize, jobs: usize) -> Vec<u8> {
     table(benches, jobs, &standing)
 }
 
-/// Another length, an emptied record, or one or two words written anew: small, copied from elsewhere, or any.
+/// Changes the length, empties a record, or writes one or two words anew: small, copied from elsewhere, or any.
 pub fn damage(t: &mut Vec<u8>, random: &mut Random) {
     let words = t.len() / 2;
     match random.below(12) {

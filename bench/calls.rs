@@ -17,7 +17,7 @@ pub enum Call {
 
 pub const NAMES: [&str; 9] = ["blanking", "form check", "arrival", "closing", "levelling", "level check", "load", "heaviest", "tight set"];
 
-/// A call's place in NAMES.
+/// Gives a call's place in NAMES.
 pub fn kind(call: Call) -> usize {
     match call {
         Call::Blank(..) => 0,
@@ -32,7 +32,8 @@ pub fn kind(call: Call) -> usize {
     }
 }
 
-/// The jobs that an arrival or a closing moved, or the paths that levelling turned, by the call's values. None for other calls.
+/// Gives the jobs that an arrival or a closing moved, or the paths that levelling turned, by the call's values. None
+/// for other calls.
 pub fn moved(call: Call, values: [u32; 3]) -> Option<u32> {
     match call {
         Call::Arrival(..) => Some(values[2]),
@@ -45,14 +46,14 @@ pub fn moved(call: Call, values: [u32; 3]) -> Option<u32> {
 /// The values of a call, zeros after them, or its refusal.
 pub type Answer = Result<[u32; 3], u32>;
 
-/// The answer of a call with any number of values.
+/// Puts zeros after the values of a call.
 pub fn padded<const N: usize>(values: [u32; N]) -> [u32; 3] {
     let mut three = [0; 3];
     three[..N].copy_from_slice(&values);
     three
 }
 
-/// The answer of a call that has no values.
+/// Gives the answer of a call that has no values.
 pub fn bare(number: u32) -> Answer {
     if number == 0 {
         Ok([0; 3])
@@ -61,7 +62,7 @@ pub fn bare(number: u32) -> Answer {
     }
 }
 
-/// The answer of a module's function for a call, on a table and a list.
+/// Gives the answer of a module's function for a call, on a table and a list.
 #[macro_export]
 macro_rules! answer {
     ($module:ident, $call:expr, $table:expr, $list:expr) => {
@@ -82,8 +83,8 @@ macro_rules! answer {
 /// An implementation: the answer to a call on a table and a list.
 pub type Perform = fn(Call, &mut [u8], &mut [u8]) -> Answer;
 
-/// Performs a call with all implementations, which must answer alike and leave the same bytes, in the table and in the list, and all bytes
-/// if they refuse. Gives the table that they leave and their answer.
+/// Performs a call with all implementations, which must answer alike and leave the same bytes, in the table and in
+/// the list, and all bytes if they refuse. Gives the table that they leave and their answer.
 pub fn same<const N: usize>(all: [Perform; N], call: Call, t: &[u8], random: &mut Random) -> (Vec<u8>, Answer) {
     let list: Vec<u8> = match call {
         Call::TightSet(_, len) => (0..len).map(|_| random.below(256) as u8).collect(),
@@ -102,7 +103,7 @@ pub fn same<const N: usize>(all: [Perform; N], call: Call, t: &[u8], random: &mu
     (after, answer)
 }
 
-/// Mostly 1 to `most`, else just outside, far outside, or outside by a multiple of a word.
+/// Picks a number: mostly 1 to `most`, else just outside, far outside, or outside by a multiple of a word.
 fn number(most: usize, random: &mut Random) -> u32 {
     let within = 1 + random.below(most) as u32;
     match random.below(40) {
@@ -115,7 +116,7 @@ fn number(most: usize, random: &mut Random) -> u32 {
     }
 }
 
-/// A job number, mostly one that stands or, for arrivals, does not.
+/// Picks a job number, mostly one that stands or, for arrivals, does not.
 fn job(t: &[u8], standing: bool, random: &mut Random) -> u32 {
     let (benches, jobs) = boards::sizes(t);
     let start = random.below(jobs);
@@ -126,7 +127,7 @@ fn job(t: &[u8], standing: bool, random: &mut Random) -> u32 {
     }
 }
 
-/// A call for a sound table, with numbers in and out of range.
+/// Makes a call for a sound table, with numbers in and out of range.
 pub fn random_call(t: &[u8], random: &mut Random) -> Call {
     let (benches, jobs) = boards::sizes(t);
     match random.below(16) {
@@ -151,7 +152,7 @@ pub fn random_call(t: &[u8], random: &mut Random) -> Call {
     }
 }
 
-/// A sound table: level or not, chains in any order or rising, now and then full, without jobs, or of one bench.
+/// Makes a sound table: level or not, chains rising or not, now and then full, without jobs, or of one bench.
 pub fn random_table(benches: usize, jobs: usize, random: &mut Random, level: fn(&mut Vec<u8>)) -> Vec<u8> {
     let mut t = match random.below(20) {
         _ if benches == 1 => boards::blank(benches, jobs),

@@ -5,7 +5,7 @@ use crate::{INDEPENDENT, PLAIN, PROVED};
 
 const ROUNDS: usize = 200_000;
 
-/// Sizes of a board to compare on: mostly small, now and then large.
+/// Picks sizes of a board to compare on: mostly small, now and then large.
 fn some_sizes(random: &mut Random) -> (usize, usize) {
     match random.below(400) {
         0 => (2 + random.below(499), 1 + random.below(600)),
@@ -15,8 +15,8 @@ fn some_sizes(random: &mut Random) -> (usize, usize) {
     }
 }
 
-/// All calls on sound and damaged tables, four on each board: the implementations must answer alike and leave the same bytes. Counts the
-/// answers: accepted, then refused with 1 to 8.
+/// Makes all calls on sound and damaged tables, four on each board: the implementations must answer alike and leave
+/// the same bytes. Counts the answers: accepted, then refused with 1 to 8.
 fn compare() -> [usize; 9] {
     let mut random = Random(1);
     let mut answers = [0; 9];

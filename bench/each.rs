@@ -20,8 +20,8 @@ struct Row {
 }
 
 impl Row {
-    /// The proved call's time by those of the other two, and in form checks; levelling makes a search for each path, so that its form
-    /// checks are counted by path.
+    /// Gives the proved call's time by those of the other two, and in form checks; levelling makes a search for each
+    /// path, so that its form checks are counted by path.
     fn ratios(&self) -> [f64; 3] {
         let paths = if matches!(self.call, Call::Levelling(..)) { self.moved.unwrap_or(0.0).max(1.0) } else { 1.0 };
         [self.proved / self.plain, self.proved / self.independent, self.proved / self.check / paths]
@@ -45,7 +45,7 @@ fn name(call: Call) -> &'static str {
     }
 }
 
-/// The mean number of jobs moved, or of paths turned, of calls of one kind.
+/// Gives the mean number of jobs moved, or of paths turned, of calls of one kind.
 fn mean_moved(t: &[u8], calls: &[Call]) -> Option<f64> {
     let each = calls.iter().map(|&call| moved(call, PROVED(call, &mut t.to_vec(), &mut [0; 1000]).unwrap()));
     Some(each.sum::<Option<u32>>()? as f64 / calls.len() as f64)
@@ -59,13 +59,13 @@ fn measured(board: &str, t: &[u8], calls: &[Call]) -> Row {
     Row { call: calls[0], board: board.into(), sizes: boards::sizes(t), moved, proved, plain, independent, check }
 }
 
-/// From the lowest to the highest.
+/// Writes the range of some numbers, from the lowest to the highest.
 fn range(numbers: impl Iterator<Item = f64>) -> String {
     let (low, high) = numbers.fold((f64::MAX, 0.0), |(low, high): (f64, f64), n| (low.min(n), high.max(n)));
     format!("{low:.2} to {high:.2}")
 }
 
-/// Each call's ratios over all boards of the largest size.
+/// Prints each call's ratios over all boards of the largest size.
 fn print_ranges(rows: &[Row]) {
     head(
         "The ratios of each call over the boards of 500 benches and 4,000 jobs, lowest to highest.",
@@ -114,14 +114,14 @@ const TARGETS: [Target; 23] = [
 ];
 
 impl Target {
-    /// The greatest ratio of its calls on the largest boards, and the board.
+    /// Finds the greatest ratio of its calls on the largest boards, and the board.
     fn worst<'a>(&self, rows: &'a [Row]) -> (f64, &'a str) {
         let its = rows.iter().filter(|row| row.sizes == SIZES[2] && name(row.call).starts_with(self.0));
         its.map(|row| (row.ratios()[self.1], row.board.as_str())).fold((0.0, ""), |a, b| if a.0 < b.0 { b } else { a })
     }
 }
 
-/// Each target, the missed ones first.
+/// Prints each target, the missed ones first.
 fn print_targets(rows: &[Row]) {
     head(
         "What was to be reached at 500 benches and 4,000 jobs, on every board; missed ones first.",
@@ -138,7 +138,7 @@ fn print_targets(rows: &[Row]) {
     }
 }
 
-/// Each call on each board at each size.
+/// Measures each call on each board at each size.
 fn rows() -> Vec<Row> {
     let mut rows = vec![];
     for (benches, jobs) in SIZES {

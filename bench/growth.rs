@@ -29,7 +29,7 @@ fn print_with_jobs() {
     }
 }
 
-/// The times of calls that move as many jobs as MOVED says.
+/// Times calls that move as many jobs as MOVED says.
 fn moving(t: &[u8], calls: [Call; 6]) -> [f64; 6] {
     for (call, count) in calls.into_iter().zip(MOVED) {
         let values = PROVED(call, &mut t.to_vec(), &mut []).unwrap();

@@ -10,7 +10,8 @@ mod rules;
 use boards::Random;
 use calls::{kind, moved, Perform, NAMES};
 
-/// Answers and bytes must be alike. Counts, for each call, those refused, those accepted, and those that hand jobs along.
+/// Counts, for each call, those refused, those accepted, and those that hand jobs along. Answers and bytes must be
+/// alike.
 fn compare(rounds: usize, seed: u64) -> [[usize; 3]; 9] {
     let mut random = Random(seed);
     let mut counts = [[0; 3]; 9];

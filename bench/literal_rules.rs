@@ -22,7 +22,7 @@ impl Board {
         (1..=self.benches).map(|x| self.load(x)).max().unwrap()
     }
 
-    /// The jobs that a bench holds, rising, and the other bench of each.
+    /// Lists the jobs that a bench holds, rising, and the other bench of each.
     fn chain(&self, bench: usize) -> impl Iterator<Item = (usize, usize)> + '_ {
         self.jobs.iter().enumerate().filter_map(move |(i, job)| match job {
             Some((names, holder)) if names[*holder] == bench => Some((i + 1, names[1 - holder])),
@@ -43,7 +43,7 @@ impl Board {
         paths.push(path);
     }
 
-    /// All improving paths.
+    /// Lists all improving paths.
     fn improving(&self) -> Vec<Path> {
         let mut paths = vec![];
         for x in 1..=self.benches {
@@ -60,12 +60,12 @@ impl Board {
         }
     }
 
-    /// Lowest last load, fewest jobs, lowest last bench, first list.
+    /// Orders by lowest last load, fewest jobs, lowest last bench, first list.
     fn arrival_order(&self, path: &Path) -> (usize, usize, usize, Vec<usize>) {
         (self.load(last(path)), path.1.len(), last(path), path.1.clone())
     }
 
-    /// The table of this board, its chains rising.
+    /// Writes the table of this board, its chains rising.
     fn table(&self) -> Vec<u8> {
         let standing = self.jobs.iter().flatten().count();
         let mut words = vec![self.benches, self.jobs.len(), standing, 0];
@@ -96,7 +96,7 @@ fn fits(len: usize, benches: u32, jobs: u32) -> bool {
     len % 2 == 0 && len >= 8 && within && len == 2 * (4 + benches as usize + 4 * jobs as usize)
 }
 
-/// The jobs on a chain; None if it meets an empty record, a number above J or a job twice.
+/// Lists the jobs on a chain; None if it meets an empty record, a number above J or a job twice.
 fn follow(words: &[usize], benches: usize, jobs: usize, x: usize) -> Option<Vec<usize>> {
     let mut met = vec![];
     let mut j = words[3 + x];
@@ -110,7 +110,7 @@ fn follow(words: &[usize], benches: usize, jobs: usize, x: usize) -> Option<Vec<
     Some(met)
 }
 
-/// The board that a table holds, or refusal 1 or 2.
+/// Reads the board that a table holds, or refuses with 1 or 2.
 fn read(t: &[u8]) -> Result<Board, u32> {
     let words: Vec<usize> = t.chunks(2).map(|w| w.iter().rev().fold(0, |n, &b| 256 * n + b as usize)).collect();
     if t.len() < 8 || !fits(t.len(), words[0] as u32, words[1] as u32) {
@@ -154,7 +154,7 @@ pub fn blank(t: &mut [u8], benches: u32, jobs: u32) -> u32 {
     0
 }
 
-/// The first number whose condition holds.
+/// Refuses with the first number whose condition holds.
 fn refusal(conditions: &[(u32, bool)]) -> Result<(), u32> {
     conditions.iter().find(|c| c.1).map_or(Ok(()), |c| Err(c.0))
 }

@@ -20,13 +20,13 @@ const PLAIN: Perform = |c, t, list| answer!(plain, c, t, list);
 const INDEPENDENT: Perform = |c, t, list| answer!(independent, c, t, list);
 const SIZES: [(usize, usize); 3] = [(10, 60), (100, 1000), (500, 4000)];
 
-/// What a table shows, and its head.
+/// Prints what a table shows, and its head.
 fn head(shows: &str, columns: &str) {
     println!("\n{shows}\n\n| {columns} |");
     println!("|{}", "---|".repeat(columns.split(" | ").count()));
 }
 
-/// Three digits or more.
+/// Writes a time in three digits or more.
 fn micros(time: f64) -> String {
     let places = match time {
         _ if time < 1.0 => 3,

@@ -9,7 +9,7 @@ use crate::{head, micros, INDEPENDENT, PROVED, SIZES};
 const CHANGES: usize = 4;
 const LEVEL: Call = Call::Levelling(u32::MAX);
 
-/// The table after a call, and its first value.
+/// Gives the table after a call, and the call's first value.
 fn after(call: Call, t: &[u8]) -> (Vec<u8>, u32) {
     let mut t = t.to_vec();
     let [first, ..] = PROVED(call, &mut t, &mut []).unwrap();
@@ -25,7 +25,7 @@ fn sorted_loads(t: &[u8]) -> Vec<usize> {
     loads
 }
 
-/// Microseconds of the change, of proved and of independent levelling from scratch, and the paths of the latter.
+/// Times, in µs, the change and proved and independent levelling from scratch; last come the paths of the latter.
 fn measured(t: &[u8], change: Call) -> [f64; 4] {
     let changed = after(change, t).0;
     let scratch = trials::first_named(&changed);

@@ -14,7 +14,7 @@ pub struct Task<'a>(pub Perform, pub &'a [u8], pub &'a [Call]);
 /// Performs a task's calls as many times as it is told.
 type Run<'a> = Box<dyn FnMut(usize) + 'a>;
 
-/// Microseconds of each run: batches in turn, and of each the least, so that what else the machine does counts little.
+/// Times each run, in µs: batches in turn, and of each the least, so that what else the machine does counts little.
 fn least(mut runs: Vec<Run>) -> Vec<f64> {
     let begin = Instant::now();
     let sizes: Vec<_> = runs.iter_mut().map(long_enough).collect();
@@ -32,7 +32,7 @@ fn least(mut runs: Vec<Run>) -> Vec<f64> {
     times
 }
 
-/// The first size whose batch is long enough, found by doubling.
+/// Finds, by doubling, the first size whose batch is long enough.
 fn long_enough(run: &mut Run) -> usize {
     let mut size = 1;
     loop {
@@ -46,12 +46,12 @@ fn long_enough(run: &mut Run) -> usize {
 }
 
 impl<'a> Task<'a> {
-    /// Whether the next call needs the table anew. Blanking writes, but does not look at what it writes over.
+    /// Tells whether the next call needs the table anew. Blanking writes, but does not look at what it writes over.
     fn changes(&self) -> bool {
         matches!(self.2[0], Call::Arrival(..) | Call::Closing(..) | Call::Levelling(..))
     }
 
-    /// Whole rounds of the calls, so that every implementation performs each of them equally often.
+    /// Makes whole rounds of the calls, so that every implementation performs each of them equally often.
     fn run(&self) -> Run<'a> {
         let (&Task(perform, table, calls), changes) = (self, self.changes());
         let (mut t, mut list) = (table.to_vec(), [0; 1000]);
@@ -79,8 +79,8 @@ fn copying(table: &[u8]) -> Run<'_> {
     })
 }
 
-/// Microseconds a call of each task, the mean over its calls. What copying a table of that length takes, timed in turn with the tasks, is
-/// taken off those that change it.
+/// Times each task: µs a call, the mean over its calls. What copying a table of that length takes, timed in turn with
+/// the tasks, is taken off those that change it.
 pub fn times<const N: usize>(tasks: [Task; N]) -> [f64; N] {
     for Task(perform, table, calls) in &tasks {
         for &call in *calls {

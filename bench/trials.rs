@@ -20,7 +20,8 @@ fn arrival(j: usize, [first, second]: [usize; 2]) -> Call {
     Call::Arrival(j as u32, first as u32, second as u32)
 }
 
-/// A nearly full board, level, as arrivals in random order leave it: one job number in a hundred is free, and at least one.
+/// Makes a nearly full board, level, as arrivals in random order leave it: one job number in a hundred is free, and
+/// at least one.
 pub fn level(names: Names, benches: usize, jobs: usize, random: &mut Random) -> Vec<u8> {
     let mut numbers: Vec<_> = (1..=jobs).collect();
     random.shuffle(&mut numbers);
@@ -31,7 +32,7 @@ pub fn level(names: Names, benches: usize, jobs: usize, random: &mut Random) -> 
     t
 }
 
-/// The standing jobs of a sound table, falling.
+/// Lists the standing jobs of a sound table, falling.
 pub fn standing(t: &[u8]) -> Vec<Job> {
     let (benches, jobs) = boards::sizes(t);
     let job = |j| {
@@ -41,14 +42,14 @@ pub fn standing(t: &[u8]) -> Vec<Job> {
     (1..=jobs).rev().filter(|&j| boards::stands(t, benches, j)).map(job).collect()
 }
 
-/// The same jobs, each with its first-named bench: what a solver that starts from scratch is given.
+/// Gives each job to its first-named bench: what a solver that starts from scratch is given.
 pub fn first_named(t: &[u8]) -> Vec<u8> {
     let (benches, jobs) = boards::sizes(t);
     let given: Vec<_> = standing(t).into_iter().map(|(j, names, _)| (j, names, 1)).collect();
     boards::table(benches, jobs, &given)
 }
 
-/// The same board, its chains in no order.
+/// Makes the same board, its chains in no order.
 fn disordered(t: &[u8], random: &mut Random) -> Vec<u8> {
     let (benches, jobs) = boards::sizes(t);
     let mut standing = standing(t);
@@ -56,26 +57,27 @@ fn disordered(t: &[u8], random: &mut Random) -> Vec<u8> {
     boards::table(benches, jobs, &standing)
 }
 
-/// Arrivals under free numbers, of jobs like the board's own.
+/// Makes arrivals under free numbers, of jobs like the board's own.
 pub fn arrivals(count: usize, t: &[u8], names: Names, random: &mut Random) -> Vec<Call> {
     let (benches, jobs) = boards::sizes(t);
     let free = (1..=jobs).filter(|&j| !boards::stands(t, benches, j)).cycle();
     free.take(count).map(|j| arrival(j, names(1 + random.below(jobs), benches, random))).collect()
 }
 
-/// Closings of jobs that stand.
+/// Makes closings of jobs that stand.
 pub fn closings(count: usize, t: &[u8], random: &mut Random) -> Vec<Call> {
     let standing = standing(t);
     (0..count).map(|_| Call::Closing(standing[random.below(standing.len())].0 as u32)).collect()
 }
 
-/// On `boards::long_path`, the arrival that moves so many jobs. It names no lighter bench than the one that is so far from the last.
+/// Makes the arrival that moves so many jobs on `boards::long_path`. It names no lighter bench than the one that is
+/// so far from the last.
 pub fn arrival_moving(count: usize, benches: usize, jobs: usize) -> Call {
     let first = benches - count;
     arrival(jobs, [first, if first == 1 { 2 } else { first - 1 }])
 }
 
-/// On `boards::long_path_back`, the closing that moves so many jobs.
+/// Makes the closing that moves so many jobs on `boards::long_path_back`.
 pub fn closing_moving(count: usize) -> Call {
     Call::Closing(count as u32 + 1)
 }
@@ -94,7 +96,7 @@ fn questions(t: &[u8]) -> Vec<Vec<Call>> {
 /// A board to time calls on: its name, its table, and lists of calls, each of one kind.
 pub type Trial = (String, Vec<u8>, Vec<Vec<Call>>);
 
-/// Nearly full boards with the same jobs, level and not.
+/// Makes nearly full boards with the same jobs, level and not.
 fn nearly_full((kind, names): (&str, Names), benches: usize, jobs: usize, random: &mut Random) -> [Trial; 2] {
     let level = level(names, benches, jobs, random);
     let changes = [arrivals(16, &level, names, random), closings(16, &level, random), vec![Call::Levelling(u32::MAX)]];
@@ -104,7 +106,7 @@ fn nearly_full((kind, names): (&str, Names), benches: usize, jobs: usize, random
     [(format!("{kind}, level"), level, all), (format!("{kind}, not level"), unlevel, some)]
 }
 
-/// Boards for a single call or two: chains in no order, a path through all benches, one bench with all jobs.
+/// Makes boards for a single call or two: chains in no order, a path through all benches, one bench with all jobs.
 fn special(benches: usize, jobs: usize, random: &mut Random) -> [Trial; 4] {
     let path = boards::long_path(benches, jobs);
     let along = vec![vec![Call::LevelCheck], vec![tightest(&path)], vec![arrival_moving(benches - 1, benches, jobs)]];
@@ -119,7 +121,7 @@ fn special(benches: usize, jobs: usize, random: &mut Random) -> [Trial; 4] {
     ]
 }
 
-/// All boards of a size.
+/// Makes all boards of a size.
 pub fn trials(benches: usize, jobs: usize) -> Vec<Trial> {
     let random = &mut Random(11);
     let blanking = vec![vec![Call::Blank(benches as u32, jobs as u32)]];

@@ -20,7 +20,7 @@ static void close_quietly(int fd)
     errno = error;
 }
 
-/* Waits for the lock. The file may have been replaced meanwhile: then *same is false, as the lock is that of an old table. */
+/* Waits for the lock. The file may have been replaced meanwhile: then *same is false, the lock an old table's. */
 static bool lock(int fd, const char *name, bool *same)
 {
     struct flock whole = {.l_type = F_WRLCK, .l_whence = SEEK_SET};
@@ -93,7 +93,7 @@ static bool write_all(int fd, const struct board_file *f)
     return fsync(fd) == 0;
 }
 
-/* A new name is safe only when the folder is on the disk too. */
+/* Waits until the folder is on the disk too: a new name is safe only then. */
 static bool sync_folder(const char *name)
 {
     char *copy = strdup(name);

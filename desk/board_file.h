@@ -13,10 +13,13 @@ struct board_file {
     uint8_t table[JOBBOARD_MOST_TABLE_BYTES + 1]; /* one byte more, so that a file that is too long is not taken for a table */
 };
 
-/* Reads the file. For a change it is also locked, so that a second desk waits; file_done ends that. False, with errno, where it cannot. */
+/*
+ * Reads the file. For a change it is also locked, so that a second desk waits; file_done ends that. False, with
+ * errno, where it cannot.
+ */
 bool file_read(struct board_file *f, bool for_change);
 
-/* Replaces the locked file by the table: whatever happens meanwhile, the file holds the old table or the new one, whole. */
+/* Replaces the locked file by the table: whatever happens meanwhile, it holds the old table or the new one, whole. */
 bool file_replace(struct board_file *f);
 
 /* Writes the table to a file that does not exist yet; EEXIST where it does. */

@@ -18,7 +18,7 @@ static void say(struct report *report, const char *format, ...)
         report->used += (size_t)length < room ? (size_t)length : room - 1;
 }
 
-/* "no jobs", "1 job", "2 jobs" */
+/* Says "no jobs", "1 job", "2 jobs". */
 static void say_count(struct report *report, uint32_t n, const char *one, const char *many)
 {
     if (n == 0)

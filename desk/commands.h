@@ -30,16 +30,16 @@ struct command {
     const char *help;
 };
 
-/* The command of that word, NULL if there is none. */
+/* Finds the command of that word, NULL if there is none. */
 const struct command *command_of(const char *word);
 
-/* Which jobs other benches hold after a change: somebody has to carry them. A new or closed job is not among them. */
+/* Says which jobs other benches hold after a change: somebody has to carry them. New and closed jobs are left out. */
 void say_moves(struct report *report, const uint8_t *before, const uint8_t *after);
 
-/* All commands and what they do, for people. */
+/* Lists all commands and what they do, for people. */
 void say_help(struct report *report);
 
-/* What a refusal means. */
+/* Tells what a refusal means. */
 const char *refusal_words(uint32_t refusal);
 
 #endif

@@ -38,7 +38,7 @@ static void complain(const char *format, ...)
     fputc('\n', stderr);
 }
 
-/* Digits only, and no more than 32 bits. */
+/* Reads a number: digits only, and no more than 32 bits. */
 static bool read_number(const char *word, uint32_t *number)
 {
     uint64_t n = 0;
@@ -80,7 +80,7 @@ static enum status refuse(uint32_t refusal)
     return REFUSED;
 }
 
-/* Questions and changes: the file's table is read, and replaced after an accepted change. */
+/* Asks or changes: reads the file's table, and replaces it after an accepted change. */
 static enum status run_on_table(const struct command *command, struct board_file *f, const struct numbers *n, struct report *report)
 {
     static uint8_t before[sizeof f->table];
@@ -96,7 +96,10 @@ static enum status run_on_table(const struct command *command, struct board_file
     return file_replace(f) ? DONE : cannot("replace");
 }
 
-/* A new table. It must not be longer than the memory for it, whatever numbers are given; the call refuses such numbers. */
+/*
+ * Makes a new table. It must not be longer than the memory for it, whatever numbers are given; the call refuses such
+ * numbers.
+ */
 static enum status run_on_nothing(const struct command *command, struct board_file *f, const struct numbers *n, struct report *report)
 {
     bool replaces = command->use == CREATES_ANEW && file_read(f, true);
@@ -159,7 +162,7 @@ static bool read_line(char line[LINE], bool *whole)
     return c != EOF || length > 0;
 }
 
-/* The worst of all lines' statuses is the run's. */
+/* Runs all lines; the worst of their statuses is the run's. */
 static enum status run_lines(struct board_file *f)
 {
     char line[LINE], *words[MOST_WORDS];

@@ -8,7 +8,7 @@ uint32_t table_benches(const uint8_t *table);
 uint32_t table_jobs(const uint8_t *table);
 uint32_t table_standing(const uint8_t *table);
 
-/* The bench that holds a job of 1 to J, 0 if it is not standing. */
+/* Reads the bench that holds a job of 1 to J, 0 if it is not standing. */
 uint32_t table_holder(const uint8_t *table, uint32_t job);
 
 #endif

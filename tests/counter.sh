@@ -9,7 +9,7 @@ die() {
     exit 1
 }
 
-# The answer to what was typed, while the input stays open.
+# Expects this answer to what was typed, while the input stays open.
 answered() { # EXPECTED
     local answer
     IFS= read -r -t 10 answer <&"${desk[0]}" || die "no answer appeared where '$1' was expected"

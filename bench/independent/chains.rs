@@ -14,7 +14,7 @@ pub struct Step {
 ///
 /// # Safety
 /// The table is sound and `board` what the form check found.
-pub unsafe fn settle(t: &mut [u8], board: &Board) {
+pub unsafe fn rebuild_chains(t: &mut [u8], board: &Board) {
     if board.rising {
         return;
     }
@@ -30,7 +30,7 @@ pub unsafe fn settle(t: &mut [u8], board: &Board) {
     }
 }
 
-/// The word that leads to the job after `before` on the chain of bench `x`.
+/// Finds the word that leads to the job after `before` on the chain of bench `x`.
 fn link(benches: usize, x: usize, before: usize) -> usize {
     if before == 0 {
         3 + x
@@ -48,7 +48,7 @@ pub unsafe fn take(t: &mut [u8], benches: usize, step: Step) {
     put(t, link(benches, step.bench as usize, step.before as usize), next);
 }
 
-/// The last job below `j` on the rising chain of bench `x`, 0 for none.
+/// Finds the last job below `j` on the rising chain of bench `x`, 0 for none.
 ///
 /// # Safety
 /// The table's sizes fit and the numbers on the chain are 1 to J and rise.
@@ -71,11 +71,12 @@ pub unsafe fn insert(t: &mut [u8], benches: usize, x: usize, j: usize) {
     put(t, at, j);
 }
 
-/// Hands each job of a path to its other bench. All jobs are taken before the first is put back, so that the steps' places stay true.
+/// Hands each job of a path to its other bench. All jobs are taken before the first is put back, so that the steps'
+/// places stay true.
 ///
 /// # Safety
 /// The table is sound, its chains rise, and the steps are a path on it.
-pub unsafe fn turn(t: &mut [u8], benches: usize, path: &[Step]) {
+pub unsafe fn flip(t: &mut [u8], benches: usize, path: &[Step]) {
     for &step in path {
         take(t, benches, step);
     }

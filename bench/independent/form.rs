@@ -19,7 +19,7 @@ impl Board {
         board
     }
 
-    /// The loads of benches 1 to B, bench 1 first.
+    /// Gives the loads of benches 1 to B, bench 1 first.
     pub fn loads(&self) -> &[i16] {
         // SAFETY: B is 0 and slot 0 set at first; `read` sets B, at most 500, and slots 0 to B.
         unsafe { self.load.first(self.benches + 1).get_unchecked(1..) }
@@ -33,18 +33,18 @@ impl Board {
         self.load.set(x, self.load.at(x) + by);
     }
 
-    /// Whether this is the number of a bench.
+    /// Tells whether this is the number of a bench.
     pub fn named(&self, bench: u32) -> bool {
         1 <= bench && bench as usize <= self.benches
     }
 
-    /// Whether this is the number of a job.
+    /// Tells whether this is the number of a job.
     pub fn numbered(&self, job: u32) -> bool {
         1 <= job && job as usize <= self.jobs
     }
 }
 
-/// B and J of a table whose sizes fit.
+/// Reads B and J of a table whose sizes fit.
 fn sizes(t: &[u8]) -> Option<(usize, usize)> {
     if t.len() % 2 != 0 || t.len() < 8 {
         return None;
@@ -54,7 +54,7 @@ fn sizes(t: &[u8]) -> Option<(usize, usize)> {
     fits(t.len(), benches, jobs).then_some((benches, jobs))
 }
 
-/// Whether a table of `len` bytes can be one of B benches and J jobs.
+/// Tells whether a table of `len` bytes can be one of B benches and J jobs.
 pub fn fits(len: usize, benches: usize, jobs: usize) -> bool {
     let within = (1..=MOST_BENCHES).contains(&benches) && (1..=MOST_JOBS).contains(&jobs);
     within && len == 2 * (4 + benches + 4 * jobs)
@@ -63,8 +63,8 @@ pub fn fits(len: usize, benches: usize, jobs: usize) -> bool {
 /// For each bench the next job on its chain in the low half, the jobs met so far in the high half.
 type Walks = Slots<u32, { MOST_BENCHES + 1 }>;
 
-/// Meets the standing jobs in rising order, as long as each is the next on its holder's chain. Gives the first record that is not such
-/// a job's, J + 1 if there is none, and the number of empty records before it.
+/// Meets the standing jobs in rising order, as long as each is the next on its holder's chain. Gives the first record
+/// that is not such a job's, J + 1 if there is none, and the number of empty records before it.
 ///
 /// # Safety
 /// The sizes fit and slots 0 to B of `walks` are set.
@@ -91,7 +91,7 @@ unsafe fn meet(t: &[u8], benches: usize, jobs: usize, walks: &mut Walks) -> (usi
     (jobs + 1, empty)
 }
 
-/// The number of empty records from job `from` on, if all others are standing jobs'.
+/// Counts the empty records from job `from` on, if all others are standing jobs'.
 ///
 /// # Safety
 /// The sizes fit and `from` is at least 1.
@@ -106,8 +106,9 @@ unsafe fn empty_from(t: &[u8], benches: usize, jobs: usize, from: usize) -> Opti
     fine.then_some(empty)
 }
 
-/// Whether the chains hold each standing job once, on its holder's chain, in any order; notes the loads. A job is met on no other chain
-/// than its holder's, so that only a chain that returns to itself meets one twice, and that one never ends: counting finds it.
+/// Tells whether the chains hold each standing job once, on its holder's chain, in any order; notes the loads. A job
+/// is met on no other chain than its holder's, so that only a chain that returns to itself meets one twice, and that
+/// one never ends: counting finds it.
 ///
 /// # Safety
 /// The sizes fit and every record is empty or a standing job's.
@@ -132,7 +133,7 @@ unsafe fn chained(t: &[u8], benches: usize, jobs: usize, standing: usize, walks:
     left == 0
 }
 
-/// Refusal 1 or 2, or what a sound table holds.
+/// Reads what a sound table holds, or refuses with 1 or 2.
 #[inline(always)]
 pub fn read(t: &[u8], board: &mut Board) -> Result<(), u32> {
     let (benches, jobs) = sizes(t).ok_or(1u32)?;

@@ -1,11 +1,11 @@
-//! Levelling and the level check. A bench from which no improving path leaves is settled, with all that it reaches: paths turned later
-//! start no higher than it and so end below all of these, which therefore never lie on one.
+//! Levelling and the level check. A bench from which no improving path leaves is finished, with all that it reaches:
+//! paths flipped later start no higher than it and so end below all of these, which therefore never lie on one.
 use super::chains;
 use super::form::Board;
 use super::search::{Aim, Search};
 use super::words::*;
 
-/// The benches that are not settled.
+/// The benches that are not finished.
 struct Open {
     /// The load of each bench that is open, else -1; bench 1 first.
     loads: Slots<i16, MOST_BENCHES>,
@@ -31,15 +31,16 @@ impl Open {
         unsafe { self.loads.first(self.benches) }
     }
 
-    /// The least load of an open bench. Settled ones count as 65,535.
+    /// Finds the least load of an open bench. Finished ones count as 65,535.
     fn least(&self) -> i16 {
         self.loads().iter().fold(u16::MAX, |least, &load| least.min(load as u16)) as i16
     }
 
-    /// The open bench that comes next by the rule: greatest load, then lowest number. None if no open bench can start an improving path.
+    /// Takes the open bench that comes next by the rule: greatest load, then lowest number. None if no open bench can
+    /// start an improving path.
     ///
-    /// Benches of the greatest load below `next` have been settled or have given a job away, and no bench comes to that load again, so that
-    /// the loads are looked through once for each load that a bench has.
+    /// Benches of the greatest load below `next` are finished or have given a job away, and no bench comes to that
+    /// load again, so that the loads are looked through once for each load that a bench has.
     fn take(&mut self) -> Option<usize> {
         loop {
             if let Some(i) = self.loads()[self.next..].iter().position(|&load| load == self.greatest) {
@@ -58,17 +59,18 @@ impl Open {
 
     /// # Safety
     /// These are numbers of benches.
-    unsafe fn settle(&mut self, benches: &[u16]) {
+    unsafe fn finish(&mut self, benches: &[u16]) {
         for &x in benches {
             self.loads.set(x as usize - 1, -1);
         }
     }
 
-    /// A path from `first` to `last` was turned. If `last` was the aim, the next bench of its load is, or there is a new least load.
+    /// Notes a path flipped from `first` to `last`. If `last` was the aim, the next bench of its load is, or there is
+    /// a new least load.
     ///
     /// # Safety
     /// These are numbers of open benches.
-    unsafe fn turned(&mut self, first: usize, last: usize) {
+    unsafe fn flipped(&mut self, first: usize, last: usize) {
         self.loads.set(first - 1, self.loads.at(first - 1) - 1);
         self.loads.set(last - 1, self.loads.at(last - 1) + 1);
         if last == self.aim.bench {
@@ -80,7 +82,7 @@ impl Open {
     }
 }
 
-/// Whether no improving path is left.
+/// Tells whether no improving path is left.
 ///
 /// # Safety
 /// The table is sound and `board` what it holds.
@@ -91,12 +93,12 @@ pub unsafe fn level(t: &[u8], board: &Board) -> bool {
         if search.improves(t, board, first) {
             return false;
         }
-        open.settle(search.met());
+        open.finish(search.met());
     }
     true
 }
 
-/// Turns improving paths while there are any, up to the allowance. Gives their number and whether none is left.
+/// Flips improving paths while there are any, up to the allowance. Gives their number and whether none is left.
 ///
 /// # Safety
 /// The table is sound, its chains rise, and `board` is what it holds.
@@ -107,17 +109,17 @@ pub unsafe fn levelled(t: &mut [u8], board: &mut Board, allowance: u32) -> (u32,
     while let Some(first) = open.take() {
         let last = search.lowest(t, board, first, open.aim);
         if last == 0 {
-            open.settle(search.met());
+            open.finish(search.met());
             continue;
         }
         if paths == allowance {
             return (paths, false);
         }
-        chains::turn(t, board.benches, search.way(first, last));
+        chains::flip(t, board.benches, search.way(first, last));
         search.forget();
         board.add(first, -1);
         board.add(last, 1);
-        open.turned(first, last);
+        open.flipped(first, last);
         paths += 1;
     }
     (paths, true)

@@ -22,7 +22,7 @@ fn refuse_if(condition: bool, number: u32) -> Result<(), u32> {
     }
 }
 
-/// 0 for a sound table, else refusal 1 or 2.
+/// Gives 0 for a sound table, else refusal 1 or 2.
 pub fn form_check(t: &[u8]) -> u32 {
     match form::read(t, &mut Board::new()) {
         Ok(()) => 0,
@@ -41,7 +41,8 @@ pub fn blank(t: &mut [u8], benches: u32, jobs: u32) -> u32 {
     0
 }
 
-/// The bench that holds the new job in the end, the bench whose load rose, the number of other jobs that changed holder.
+/// Takes in a job. Gives the bench that holds it in the end, the bench whose load rose, the number of other jobs that
+/// changed holder.
 pub fn arrival(t: &mut [u8], job: u32, first: u32, second: u32) -> Result<[u32; 3], u32> {
     let mut board = Board::new();
     form::read(t, &mut board)?;
@@ -51,7 +52,7 @@ pub fn arrival(t: &mut [u8], job: u32, first: u32, second: u32) -> Result<[u32; 
     // SAFETY: the table is sound and the numbers are in range; from here on nothing is refused but a standing job.
     unsafe {
         refuse_if(!record(t, board.benches, j).empty(), 5)?;
-        chains::settle(t, &board);
+        chains::rebuild_chains(t, &board);
         let holder = if board.load.at(first) <= board.load.at(second) { 1 } else { 2 };
         let bench = [first, second][holder - 1];
         let at = board.benches + 4 * j;
@@ -61,13 +62,14 @@ pub fn arrival(t: &mut [u8], job: u32, first: u32, second: u32) -> Result<[u32; 
         chains::insert(t, board.benches, bench, j);
         put(t, 2, board.standing + 1);
         board.add(bench, 1);
-        let (rose, turned) = hand_on(t, &board, bench);
+        let (rose, flipped) = hand_on(t, &board, bench);
         let held = record(t, board.benches, j).bench();
-        Ok([held as u32, rose as u32, turned - (held != bench) as u32])
+        Ok([held as u32, rose as u32, flipped - (held != bench) as u32])
     }
 }
 
-/// Turns the path that the arrival's order chooses from `first`. Gives its last bench and its number of jobs; `first` and 0 for none.
+/// Flips the path that the arrival's order chooses from `first`. Gives its last bench and its number of jobs; `first`
+/// and 0 for none.
 ///
 /// # Safety
 /// The table is sound, its chains rise, `board` is what it holds, and `first` a bench.
@@ -82,11 +84,11 @@ unsafe fn hand_on(t: &mut [u8], board: &Board, first: usize) -> (usize, u32) {
         return (first, 0);
     }
     let path = search.way(first, last);
-    chains::turn(t, board.benches, path);
+    chains::flip(t, board.benches, path);
     (last, path.len() as u32)
 }
 
-/// The bench whose load fell and the number of jobs that changed holder.
+/// Closes a job. Gives the bench whose load fell and the number of jobs that changed holder.
 pub fn closing(t: &mut [u8], job: u32) -> Result<[u32; 2], u32> {
     let mut board = Board::new();
     form::read(t, &mut board)?;
@@ -96,7 +98,7 @@ pub fn closing(t: &mut [u8], job: u32) -> Result<[u32; 2], u32> {
     unsafe {
         let closed = record(t, board.benches, j);
         refuse_if(closed.empty(), 6)?;
-        chains::settle(t, &board);
+        chains::rebuild_chains(t, &board);
         let bench = closed.bench();
         let before = chains::before(t, board.benches, bench, j) as u16;
         chains::take(t, board.benches, Step { bench: bench as u16, job: j as u16, before });
@@ -105,12 +107,13 @@ pub fn closing(t: &mut [u8], job: u32) -> Result<[u32; 2], u32> {
         }
         put(t, 2, board.standing - 1);
         board.add(bench, -1);
-        let (fell, turned) = hand_back(t, &board, bench);
-        Ok([fell as u32, turned])
+        let (fell, flipped) = hand_back(t, &board, bench);
+        Ok([fell as u32, flipped])
     }
 }
 
-/// Turns the path that the closing's order chooses to `last`. Gives its first bench and its number of jobs; `last` and 0 for none.
+/// Flips the path that the closing's order chooses to `last`. Gives its first bench and its number of jobs; `last`
+/// and 0 for none.
 ///
 /// # Safety
 /// The table is sound, its chains rise, `board` is what it holds, and `last` a bench.
@@ -125,23 +128,23 @@ unsafe fn hand_back(t: &mut [u8], board: &Board, last: usize) -> (usize, u32) {
         return (last, 0);
     }
     let path = back.way(t, board.benches, first);
-    chains::turn(t, board.benches, path);
+    chains::flip(t, board.benches, path);
     (first, path.len() as u32)
 }
 
-/// The paths turned, and 1 if the table is level in the end.
+/// Levels within an allowance. Gives the paths flipped, and 1 if the table is level in the end.
 pub fn levelling(t: &mut [u8], allowance: u32) -> Result<[u32; 2], u32> {
     let mut board = Board::new();
     form::read(t, &mut board)?;
-    // SAFETY: the table is sound, and its chains rise once they are settled.
+    // SAFETY: the table is sound, and its chains rise once they are rebuilt.
     let (paths, level) = unsafe {
-        chains::settle(t, &board);
+        chains::rebuild_chains(t, &board);
         level::levelled(t, &mut board, allowance)
     };
     Ok([paths, level as u32])
 }
 
-/// 1 for a level table, else 0.
+/// Gives 1 for a level table, else 0.
 pub fn level_check(t: &[u8]) -> Result<[u32; 1], u32> {
     let mut board = Board::new();
     form::read(t, &mut board)?;
@@ -149,7 +152,7 @@ pub fn level_check(t: &[u8]) -> Result<[u32; 1], u32> {
     Ok([unsafe { level::level(t, &board) } as u32])
 }
 
-/// The load of a bench.
+/// Gives the load of a bench.
 pub fn load(t: &[u8], bench: u32) -> Result<[u32; 1], u32> {
     let mut board = Board::new();
     form::read(t, &mut board)?;
@@ -157,7 +160,7 @@ pub fn load(t: &[u8], bench: u32) -> Result<[u32; 1], u32> {
     Ok([board.loads()[bench as usize - 1] as u32])
 }
 
-/// The heaviest load.
+/// Gives the heaviest load.
 pub fn heaviest(t: &[u8]) -> Result<[u32; 1], u32> {
     let mut board = Board::new();
     form::read(t, &mut board)?;
@@ -168,7 +171,7 @@ fn most(board: &Board) -> i16 {
     board.loads().iter().fold(0, |most, &load| most.max(load))
 }
 
-/// The number of benches in the tight set and of jobs inside it; the benches go into the list.
+/// Gives the number of benches in the tight set and of jobs inside it; the benches go into the list.
 pub fn tight_set(t: &[u8], height: u32, list: &mut [u8]) -> Result<[u32; 2], u32> {
     let mut board = Board::new();
     form::read(t, &mut board)?;

@@ -14,7 +14,7 @@ pub struct Aim {
 }
 
 impl Aim {
-    /// The first bench with this load, bench 1 being the first of `loads`.
+    /// Finds the first bench with this load, bench 1 being the first of `loads`.
     pub fn first(loads: &[i16], load: i16) -> Aim {
         Aim { load, bench: 1 + loads.iter().position(|&l| l == load).unwrap_or(0) }
     }
@@ -29,7 +29,7 @@ struct Choice {
 }
 
 impl Choice {
-    /// Lower load first, then the earlier level, then the lower number.
+    /// Prefers the lower load, then the earlier level, then the lower number.
     #[inline(always)]
     fn offer(&mut self, bench: usize, load: i16) {
         if load < self.load || load == self.load && self.fresh && bench < self.bench {
@@ -56,7 +56,7 @@ impl Search {
         Search { seen, queue: Slots::new(), met: 0, unseen: benches, came: Slots::new(), path: Slots::new() }
     }
 
-    /// The benches met since the last start.
+    /// Gives the benches met since the last start.
     pub fn met(&self) -> &[u16] {
         // SAFETY: `meet` sets the slots below `met`, each for another bench.
         unsafe { self.queue.first(self.met) }
@@ -87,7 +87,8 @@ impl Search {
         self.met = 0;
     }
 
-    /// Meets and offers each unseen bench that a job leads to from bench `x`. Gives true, and ends, when `offer` does or all are seen.
+    /// Meets and offers each unseen bench that a job leads to from bench `x`. Gives true, and ends, when `offer` does
+    /// or all are seen.
     ///
     /// # Safety
     /// The table is sound, `benches` its B, and `x` 1 to B.
@@ -109,8 +110,9 @@ impl Search {
         false
     }
 
-    /// The last bench of the path that the arrival's order chooses among the improving paths from `first`, 0 if there is none. Chains that
-    /// rise make the first way to a bench the one whose jobs come first in dictionary order: benches are left in that order of their ways.
+    /// Finds the last bench of the path that the arrival's order chooses among the improving paths from `first`, 0 if
+    /// there is none. Chains that rise make the first way to a bench the one whose jobs come first in dictionary
+    /// order: benches are left in that order of their ways.
     ///
     /// # Safety
     /// The table is sound, `board` what it holds, `first` is an unseen bench, no bench that is unseen has a load below `aim.load`, and only
@@ -140,7 +142,7 @@ impl Search {
         best.bench
     }
 
-    /// Whether an improving path leaves `first`.
+    /// Tells whether an improving path leaves `first`.
     ///
     /// # Safety
     /// The table is sound, `board` what it holds, `first` is an unseen bench, and benches seen before lead to none with a load at least two
@@ -182,7 +184,7 @@ impl Search {
         }
     }
 
-    /// Whether bench `x` was met.
+    /// Tells whether bench `x` was met.
     ///
     /// # Safety
     /// `x` is 1 to B.
@@ -190,7 +192,7 @@ impl Search {
         self.seen.at(x)
     }
 
-    /// The steps from `first` to `last` as `lowest` went, the last step first.
+    /// Gives the steps from `first` to `last` as `lowest` went, the last step first.
     ///
     /// # Safety
     /// `lowest` has met `last` since it started at `first`.
@@ -237,7 +239,8 @@ impl Back {
         back
     }
 
-    /// The first bench of the path that the closing's order chooses among the improving paths to `last`, 0 if there is none.
+    /// Finds the first bench of the path that the closing's order chooses among the improving paths to `last`, 0 if
+    /// there is none.
     ///
     /// # Safety
     /// As for `new`, of which this is the first search; `aim` is the first bench of greatest load.
@@ -274,7 +277,7 @@ impl Back {
         best.bench
     }
 
-    /// The steps from `first`: at each bench the lowest job that comes one nearer to the end.
+    /// Gives the steps from `first`: at each bench the lowest job that comes one nearer to the end.
     ///
     /// # Safety
     /// The chains rise and `greatest` has met `first`.

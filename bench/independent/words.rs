@@ -4,7 +4,7 @@ use std::mem::MaybeUninit;
 pub const MOST_BENCHES: usize = 500;
 pub const MOST_JOBS: usize = 4000;
 
-/// Word `i` of a table.
+/// Reads word `i` of a table.
 ///
 /// # Safety
 /// `t` holds more than `2 * i + 1` bytes.
@@ -31,7 +31,7 @@ const TOPS: u64 = 0x8000_8000_8000;
 #[derive(Clone, Copy)]
 pub struct Record(u64);
 
-/// The record of job `j`.
+/// Reads the record of job `j`.
 ///
 /// # Safety
 /// `t` is as long as its `benches` and its J say, and `j` is 1 to J.
@@ -62,21 +62,22 @@ impl Record {
         (self.0 >> 48) as usize
     }
 
-    /// The bench that holds the job; 0 for an empty record. Of the holders 1 and 2 only the latter has bit 1, here bit 33, set, which
-    /// gives the 16 bits to pass over.
+    /// Gives the bench that holds the job; 0 for an empty record. Of the holders 1 and 2 only the latter has bit 1,
+    /// here bit 33, set, which gives the 16 bits to pass over.
     #[inline(always)]
     pub fn bench(self) -> usize {
         (self.0 >> (self.0 >> 29 & 16)) as u16 as usize
     }
 
-    /// What `stands` compares with: B, B and 2, each with the top bit of its word set.
+    /// Gives what `stands` compares with: B, B and 2, each with the top bit of its word set.
     pub fn limits(benches: usize) -> u64 {
         TOPS | benches as u64 | (benches as u64) << 16 | 2 << 32
     }
 
-    /// Whether this is a standing job's record: two different benches of 1 to B, holder 1 or 2. All three words are compared at once: a
-    /// word keeps its top bit in `low` if it is at least 1, in `high` if it is at most its limit. Nothing is carried out of a word that
-    /// is within, so that the lowest of those outside lacks one of its two bits, whatever goes on above it.
+    /// Tells whether this is a standing job's record: two different benches of 1 to B, holder 1 or 2. All three words
+    /// are compared at once: a word keeps its top bit in `low` if it is at least 1, in `high` if it is at most its
+    /// limit. Nothing is carried out of a word that is within, so that the lowest of those outside lacks one of its
+    /// two bits, whatever goes on above it.
     #[inline(always)]
     pub fn stands(self, limits: u64) -> bool {
         let low = self.0.wrapping_add(TOPS - 0x0001_0001_0001);
@@ -84,7 +85,7 @@ impl Record {
         (low & high & TOPS == TOPS) & ((self.0 ^ self.0 >> 16) as u16 != 0)
     }
 
-    /// The named bench that is not `x`.
+    /// Gives the named bench that is not `x`.
     #[inline(always)]
     pub fn other(self, x: usize) -> usize {
         self.first() ^ self.second() ^ x
@@ -118,7 +119,7 @@ impl<T: Copy, const N: usize> Slots<T, N> {
         *self.0.get_unchecked_mut(i) = MaybeUninit::new(value);
     }
 
-    /// The first `n` slots.
+    /// Gives the first `n` slots.
     ///
     /// # Safety
     /// `n` is at most N and these slots were set.

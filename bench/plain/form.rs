@@ -1,6 +1,6 @@
 //! The form check: one pass over the records, then one walk along the chains with a mark for each job.
 
-/// Word `i` of a table.
+/// Reads word `i` of a table.
 ///
 /// # Safety
 /// `t` holds more than `2 * i + 1` bytes.
@@ -9,7 +9,7 @@ pub unsafe fn word(t: &[u8], i: usize) -> usize {
     u16::from_le_bytes([*t.get_unchecked(2 * i), *t.get_unchecked(2 * i + 1)]) as usize
 }
 
-/// B and J of a table whose sizes fit.
+/// Reads B and J of a table whose sizes fit.
 pub fn sizes(t: &[u8]) -> Option<(usize, usize)> {
     if t.len() % 2 != 0 || t.len() < 8 {
         return None;
@@ -20,7 +20,7 @@ pub fn sizes(t: &[u8]) -> Option<(usize, usize)> {
     (fit && t.len() == 2 * (4 + benches + 4 * jobs)).then_some((benches, jobs))
 }
 
-/// The number of standing jobs' records, if each names two different benches of 1 to B and has holder 1 or 2.
+/// Counts the standing jobs' records, if each names two different benches of 1 to B and has holder 1 or 2.
 unsafe fn standing(t: &[u8], benches: usize, jobs: usize) -> Option<usize> {
     let mut count = 0;
     for j in 1..=jobs {
@@ -39,7 +39,7 @@ unsafe fn standing(t: &[u8], benches: usize, jobs: usize) -> Option<usize> {
     Some(count)
 }
 
-/// The jobs on all chains, if each is met once, on its holder's chain.
+/// Counts the jobs on all chains, if each is met once, on its holder's chain.
 unsafe fn chained(t: &[u8], benches: usize, jobs: usize) -> Option<usize> {
     let mut marks = [std::mem::MaybeUninit::<bool>::uninit(); 4001];
     let met = &mut marks[..=jobs];
@@ -64,7 +64,7 @@ unsafe fn chained(t: &[u8], benches: usize, jobs: usize) -> Option<usize> {
     Some(count)
 }
 
-/// 0 for a sound table, else refusal 1 or 2.
+/// Gives 0 for a sound table, else refusal 1 or 2.
 pub fn form_check(t: &[u8]) -> u32 {
     let Some((benches, jobs)) = sizes(t) else {
         return 1;

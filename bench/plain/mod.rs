@@ -10,7 +10,7 @@ mod work;
 pub use form::form_check;
 use form::word;
 use rows::*;
-use work::{bench, settle, Sizes, Work};
+use work::{bench, rebuild_chains, Sizes, Work};
 
 /// Refuses with a number where a condition holds.
 fn refuse_if(condition: bool, number: u32) -> Result<(), u32> {
@@ -21,7 +21,7 @@ fn refuse_if(condition: bool, number: u32) -> Result<(), u32> {
     }
 }
 
-/// The sizes of a sound table, or refusal 1 or 2.
+/// Gives the sizes of a sound table, or refusal 1 or 2.
 fn sound(t: &[u8]) -> Result<Sizes, u32> {
     let number = form_check(t);
     refuse_if(number != 0, number)?;
@@ -29,7 +29,7 @@ fn sound(t: &[u8]) -> Result<Sizes, u32> {
     Ok(Sizes { benches, jobs })
 }
 
-/// Whether a number is 1 to `most`.
+/// Tells whether a number is 1 to `most`.
 fn within(number: u32, most: usize) -> bool {
     1 <= number && number as usize <= most
 }
@@ -46,13 +46,14 @@ pub fn blank(t: &mut [u8], benches: u32, jobs: u32) -> u32 {
     0
 }
 
-/// The bench that holds the new job in the end, the bench whose load rose, the number of other jobs that changed holder.
+/// Takes in a job. Gives the bench that holds it in the end, the bench whose load rose, the number of other jobs that
+/// changed holder.
 pub fn arrival(t: &mut [u8], job: u32, first: u32, second: u32) -> Result<[u32; 3], u32> {
     let s = sound(t)?;
     refuse_if(!within(job, s.jobs), 3)?;
     refuse_if(!within(first, s.benches) || !within(second, s.benches) || first == second, 4)?;
     let (j, first, second) = (job as usize, first as usize, second as usize);
-    // SAFETY: the table is sound and the numbers are in range; the chains are not read again before they are made anew.
+    // SAFETY: the table is sound and the numbers are in range; the chains are not read again before they are rebuilt.
     unsafe {
         refuse_if(bench(t, s, j) != 0, 5)?;
         let mut work = Work::new(s);
@@ -65,14 +66,14 @@ pub fn arrival(t: &mut [u8], job: u32, first: u32, second: u32) -> Result<[u32; 
         work.load.set(getter, work.load.at(getter) + 1);
         work.read_arcs(t);
         work.list_out();
-        let (rose, turned) = work.turn_from(t, getter);
-        settle(t, s);
+        let (rose, flipped) = work.flip_from(t, getter);
+        rebuild_chains(t, s);
         let held = bench(t, s, j);
-        Ok([held as u32, rose as u32, turned - (held != getter) as u32])
+        Ok([held as u32, rose as u32, flipped - (held != getter) as u32])
     }
 }
 
-/// The bench whose load fell and the number of jobs that changed holder.
+/// Closes a job. Gives the bench whose load fell and the number of jobs that changed holder.
 pub fn closing(t: &mut [u8], job: u32) -> Result<[u32; 2], u32> {
     let s = sound(t)?;
     refuse_if(!within(job, s.jobs), 3)?;
@@ -88,13 +89,13 @@ pub fn closing(t: &mut [u8], job: u32) -> Result<[u32; 2], u32> {
         }
         work.load.set(giver, work.load.at(giver) - 1);
         work.read_arcs(t);
-        let (fell, turned) = work.turn_to(t, giver);
-        settle(t, s);
-        Ok([fell as u32, turned])
+        let (fell, flipped) = work.flip_to(t, giver);
+        rebuild_chains(t, s);
+        Ok([fell as u32, flipped])
     }
 }
 
-/// The paths turned, and 1 if the table is level in the end.
+/// Levels within an allowance. Gives the paths flipped, and 1 if the table is level in the end.
 pub fn levelling(t: &mut [u8], allowance: u32) -> Result<[u32; 2], u32> {
     let s = sound(t)?;
     let mut work = Work::new(s);
@@ -103,16 +104,16 @@ pub fn levelling(t: &mut [u8], allowance: u32) -> Result<[u32; 2], u32> {
     unsafe {
         let mut first = start(t, &mut work);
         while first != 0 && paths < allowance {
-            work.turn_from(t, first);
+            work.flip_from(t, first);
             paths += 1;
             first = start(t, &mut work);
         }
-        settle(t, s);
+        rebuild_chains(t, s);
         Ok([paths, (first == 0) as u32])
     }
 }
 
-/// The first bench of the path that levelling turns next; 0 if no improving path is left.
+/// Finds the first bench of the path that levelling flips next; 0 if no improving path is left.
 ///
 /// # Safety
 /// The table is one of the work's sizes and sound but for its chains.
@@ -123,7 +124,7 @@ unsafe fn start(t: &[u8], work: &mut Work) -> usize {
     work.first_start()
 }
 
-/// 1 for a level table, else 0.
+/// Gives 1 for a level table, else 0.
 pub fn level_check(t: &[u8]) -> Result<[u32; 1], u32> {
     let s = sound(t)?;
     // SAFETY: the table is sound.
@@ -131,7 +132,7 @@ pub fn level_check(t: &[u8]) -> Result<[u32; 1], u32> {
     Ok([(first == 0) as u32])
 }
 
-/// The number of jobs on the chain of bench `x`.
+/// Counts the jobs on the chain of bench `x`.
 ///
 /// # Safety
 /// The table is sound, `s` its sizes, and `x` 1 to B.
@@ -144,7 +145,7 @@ unsafe fn chain_length(t: &[u8], s: Sizes, x: usize) -> u32 {
     count
 }
 
-/// The load of a bench.
+/// Gives the load of a bench.
 pub fn load(t: &[u8], bench: u32) -> Result<[u32; 1], u32> {
     let s = sound(t)?;
     refuse_if(!within(bench, s.benches), 4)?;
@@ -152,7 +153,7 @@ pub fn load(t: &[u8], bench: u32) -> Result<[u32; 1], u32> {
     Ok([unsafe { chain_length(t, s, bench as usize) }])
 }
 
-/// The heaviest load.
+/// Gives the heaviest load.
 pub fn heaviest(t: &[u8]) -> Result<[u32; 1], u32> {
     let s = sound(t)?;
     let mut most = 0;
@@ -169,7 +170,7 @@ pub fn heaviest(t: &[u8]) -> Result<[u32; 1], u32> {
 /// The work's arcs were read and listed; `x` is 1 to B, and a mark is set or cleared for each bench.
 unsafe fn visit(work: &Work, marks: &mut Benches, x: usize) {
     marks.set(x, 1);
-    let mut j = work.out.first.at(x);
+    let mut j = work.out.head.at(x);
     while j != 0 {
         let y = work.to.at(j);
         if marks.at(y) == 0 {
@@ -179,8 +180,8 @@ unsafe fn visit(work: &Work, marks: &mut Benches, x: usize) {
     }
 }
 
-/// Marks the tight set of a height. Gives the number of its benches and of the jobs inside: a bench in the set has its whole chain
-/// inside, and a job inside is on such a chain, so that the loads are added up.
+/// Marks the tight set of a height. Gives the number of its benches and of the jobs inside: a bench in the set has
+/// its whole chain inside, and a job inside is on such a chain, so that the loads are added up.
 ///
 /// # Safety
 /// The table is sound and `s` its sizes.
@@ -205,7 +206,7 @@ unsafe fn mark(t: &[u8], s: Sizes, height: u32, marks: &mut Benches) -> (usize, 
     (benches, inside)
 }
 
-/// The number of benches in the tight set and of jobs inside it; the benches go into the list.
+/// Gives the number of benches in the tight set and of jobs inside it; the benches go into the list.
 pub fn tight_set(t: &[u8], height: u32, list: &mut [u8]) -> Result<[u32; 2], u32> {
     let s = sound(t)?;
     refuse_if(height == 0, 7)?;

@@ -16,7 +16,7 @@ impl<const N: usize> Row<N> {
         Row([MaybeUninit::uninit(); N])
     }
 
-    /// Zero at the first `n` places.
+    /// Sets the first `n` numbers to 0.
     pub fn clear(&mut self, n: usize) {
         self.0[..n].fill(MaybeUninit::new(0));
     }

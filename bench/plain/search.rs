@@ -3,7 +3,7 @@ use super::rows::*;
 
 /// The numbers 1 to n listed by their keys, rising: the first with each key, and after each number the next with the same key.
 pub struct Lists<const K: usize, const N: usize> {
-    pub first: Row<K>,
+    pub head: Row<K>,
     pub next: Row<N>,
 }
 
@@ -14,17 +14,17 @@ pub type ByLoad = Lists<{ MOST_JOBS + 1 }, { MOST_BENCHES + 1 }>;
 
 impl<const K: usize, const N: usize> Lists<K, N> {
     pub fn new() -> Self {
-        Lists { first: Row::new(), next: Row::new() }
+        Lists { head: Row::new(), next: Row::new() }
     }
 
     /// # Safety
     /// The keys of 1 to `n` are set and at most `most`, which is below K; `n` is below N.
     pub unsafe fn list(&mut self, n: usize, key: &Row<N>, most: usize) {
-        self.first.clear(most + 1);
+        self.head.clear(most + 1);
         for i in (1..n + 1).rev() {
             let k = key.at(i);
-            self.next.set(i, self.first.at(k));
-            self.first.set(k, i);
+            self.next.set(i, self.head.at(k));
+            self.head.set(k, i);
         }
     }
 }
@@ -41,7 +41,7 @@ impl Found {
         Found { queue: Row::new(), dist: Row::new(), count: 0 }
     }
 
-    /// No bench is found.
+    /// Forgets what was found.
     pub fn clear(&mut self, benches: usize) {
         self.dist.clear(benches + 1);
         self.count = 0;
@@ -50,7 +50,7 @@ impl Found {
     /// # Safety
     /// `clear` was called with B, and `y` is 1 to B.
     #[inline(always)]
-    unsafe fn find(&mut self, y: usize, dist: usize) {
+    unsafe fn discover(&mut self, y: usize, dist: usize) {
         if self.dist.at(y) == 0 {
             self.dist.set(y, dist);
             self.queue.set(self.count, y);
@@ -58,28 +58,28 @@ impl Found {
         }
     }
 
-    /// Breadth-first search: finds all that `x` reaches other than through benches found before. The jobs that can be taken at a bench
-    /// are listed, and `end` tells where each leads.
+    /// Finds all that `x` reaches other than through benches found before. The jobs that can be taken at a bench are
+    /// listed, and `end` tells where each leads.
     ///
     /// # Safety
     /// `clear` was called with B, `x` is 1 to B, and the lists and `end` are those of the table's jobs.
-    pub unsafe fn spread(&mut self, lists: &ByBench, end: &Jobs, x: usize) {
+    pub unsafe fn breadth_first(&mut self, lists: &ByBench, end: &Jobs, x: usize) {
         let mut done = self.count;
-        self.find(x, 1);
+        self.discover(x, 1);
         while done < self.count {
             let y = self.queue.at(done);
             let dist = self.dist.at(y) + 1;
-            let mut j = lists.first.at(y);
+            let mut j = lists.head.at(y);
             while j != 0 {
-                self.find(end.at(j), dist);
+                self.discover(end.at(j), dist);
                 j = lists.next.at(j);
             }
             done += 1;
         }
     }
 
-    /// Of the benches found whose weight is lower than that of `x` by two or more: lowest weight, then nearest, then lowest number; 0 if
-    /// there is none.
+    /// Chooses among the benches found whose weight is lower than that of `x` by two or more: lowest weight, then
+    /// nearest, then lowest number; 0 if there is none.
     ///
     /// # Safety
     /// `clear` was called with B, and `x` is 1 to B.

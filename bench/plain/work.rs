@@ -11,14 +11,14 @@ pub struct Sizes {
 }
 
 impl Sizes {
-    /// Where the record of job `j` begins.
+    /// Tells where the record of job `j` begins.
     #[inline(always)]
     pub fn record(self, j: usize) -> usize {
         self.benches + 4 * j
     }
 }
 
-/// The bench that holds job `j`; 0 if it does not stand.
+/// Reads the bench that holds job `j`; 0 if it does not stand.
 ///
 /// # Safety
 /// The sizes are the table's, `j` is 1 to J, and its record is empty or a standing job's.
@@ -30,11 +30,11 @@ pub unsafe fn bench(t: &[u8], s: Sizes, j: usize) -> usize {
     }
 }
 
-/// Makes all chains anew, in rising order, and counts the standing jobs.
+/// Rebuilds all chains, in rising order, and counts the standing jobs.
 ///
 /// # Safety
 /// The sizes are the table's, and each record is empty or a standing job's.
-pub unsafe fn settle(t: &mut [u8], s: Sizes) {
+pub unsafe fn rebuild_chains(t: &mut [u8], s: Sizes) {
     for x in 1..s.benches + 1 {
         put(t, 3 + x, 0);
     }
@@ -117,49 +117,50 @@ impl Work {
     unsafe fn search_back(&mut self, last: usize) {
         self.into.list(self.s.jobs, &self.to, self.s.benches);
         self.near.clear(self.s.benches);
-        self.near.spread(&self.into, &self.from, last);
+        self.near.breadth_first(&self.into, &self.from, last);
     }
 
-    /// Turns, of the improving paths from `first`, the one that the arrival's order chooses. Gives its last bench and its number of jobs;
-    /// `first` and 0 if there is none.
+    /// Flips, of the improving paths from `first`, the one that the arrival's order chooses. Gives its last bench and
+    /// its number of jobs; `first` and 0 if there is none.
     ///
     /// # Safety
     /// The table is one of these sizes and sound but for its chains; loads and arcs are its own, `out` was listed, `first` is 1 to B.
-    pub unsafe fn turn_from(&mut self, t: &mut [u8], first: usize) -> (usize, u32) {
+    pub unsafe fn flip_from(&mut self, t: &mut [u8], first: usize) -> (usize, u32) {
         self.away.clear(self.s.benches);
-        self.away.spread(&self.out, &self.to, first);
+        self.away.breadth_first(&self.out, &self.to, first);
         let last = self.away.choose(self.s.benches, first, |y| self.load.at(y));
         if last == 0 {
             return (first, 0);
         }
         self.search_back(last);
-        (last, self.turn(t, first))
+        (last, self.flip(t, first))
     }
 
-    /// Turns, of the improving paths to `last`, the one that the closing's order chooses. Gives its first bench and its number of jobs;
-    /// `last` and 0 if there is none.
+    /// Flips, of the improving paths to `last`, the one that the closing's order chooses. Gives its first bench and
+    /// its number of jobs; `last` and 0 if there is none.
     ///
     /// # Safety
     /// The table is one of these sizes and sound but for its chains; loads and arcs are its own, `last` is 1 to B.
-    pub unsafe fn turn_to(&mut self, t: &mut [u8], last: usize) -> (usize, u32) {
+    pub unsafe fn flip_to(&mut self, t: &mut [u8], last: usize) -> (usize, u32) {
         self.search_back(last);
         let first = self.near.choose(self.s.benches, last, |y| MOST_JOBS - self.load.at(y));
         if first == 0 {
             return (last, 0);
         }
         self.list_out();
-        (first, self.turn(t, first))
+        (first, self.flip(t, first))
     }
 
-    /// Hands on, from `first` to the bench that was searched from, at each bench the lowest job that leads one nearer. Gives their number.
+    /// Hands on, from `first` to the bench that was searched from, at each bench the lowest job that leads one
+    /// nearer. Gives their number.
     ///
     /// # Safety
     /// `out` was listed and `search_back` has found `first`.
-    unsafe fn turn(&self, t: &mut [u8], first: usize) -> u32 {
+    unsafe fn flip(&self, t: &mut [u8], first: usize) -> u32 {
         let (mut x, mut jobs) = (first, 0);
         while self.near.dist.at(x) > 1 {
             let near = self.near.dist.at(x) - 1;
-            let mut j = self.out.first.at(x);
+            let mut j = self.out.head.at(x);
             while self.near.dist.at(self.to.at(j)) != near {
                 j = self.out.next.at(j);
             }
@@ -171,8 +172,8 @@ impl Work {
         jobs
     }
 
-    /// The bench of greatest load, then lowest number, that starts an improving path; 0 if none does. What a bench has found is not
-    /// searched again for a lighter one.
+    /// Finds the bench of greatest load, then lowest number, that starts an improving path; 0 if none does. What a
+    /// bench has found is not searched again for a lighter one.
     ///
     /// # Safety
     /// Loads and arcs were read and `out` listed.
@@ -180,10 +181,10 @@ impl Work {
         self.heavy.list(self.s.benches, &self.load, self.s.jobs);
         self.away.clear(self.s.benches);
         for load in (2..self.s.jobs + 1).rev() {
-            let mut x = self.heavy.first.at(load);
+            let mut x = self.heavy.head.at(load);
             while x != 0 {
                 let before = self.away.count;
-                self.away.spread(&self.out, &self.to, x);
+                self.away.breadth_first(&self.out, &self.to, x);
                 if (before..self.away.count).any(|i| self.load.at(self.away.queue.at(i)) + 2 <= load) {
                     return x;
                 }

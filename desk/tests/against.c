@@ -21,7 +21,7 @@ static uint32_t returned[11];     /* how often each number was */
 static uint32_t accepted[KINDS];  /* how often each call was accepted */
 static uint32_t handed;           /* arrivals and closings that handed jobs along */
 
-/* The sizes of the next board. */
+/* Chooses the sizes of the next board. */
 static void choose_sizes(struct random *r, uint32_t *benches, uint32_t *jobs)
 {
     uint32_t kind = random_below(r, 1000);
@@ -40,7 +40,7 @@ static void choose_sizes(struct random *r, uint32_t *benches, uint32_t *jobs)
     }
 }
 
-/* A sound table: empty, or with random jobs and holders (heavy ones on few benches), chains rising or in any order. */
+/* Makes a sound table: empty, or with random jobs and holders (heavy ones on few benches), chains rising or not. */
 static void make_board(struct table *t, struct random *r)
 {
     uint32_t benches, jobs;
@@ -59,7 +59,10 @@ static void make_board(struct table *t, struct random *r)
     make_chains(t, random_below(r, 2) == 0 ? NULL : r);
 }
 
-/* A number of 1 to `most`, now and then one out of range: 0, the next ones, one that fits after a cut to 16 bits, the greatest. */
+/*
+ * Picks a number of 1 to `most`, now and then one out of range: 0, the next ones, one that fits after a cut to 16
+ * bits, the greatest.
+ */
 static uint32_t random_number(struct random *r, uint32_t most)
 {
     uint32_t number = random_within(r, 1, most);
@@ -77,14 +80,14 @@ static uint32_t random_number(struct random *r, uint32_t most)
     }
 }
 
-/* Levelling a large table to its end takes the reference seconds, so only few of them are. */
+/* Picks an allowance; few level a large table to its end, which takes the reference seconds. */
 static uint32_t random_allowance(struct random *r, uint32_t benches)
 {
     uint32_t few = random_below(r, benches <= 30 ? 6 : 60);
     return few == 5 ? UINT32_MAX - random_below(r, 3) : few % 5;
 }
 
-/* A job number of any kind; three times out of four one that stands, or one that does not. */
+/* Picks a job number of any kind; three times out of four one that stands, or one that does not. */
 static uint32_t random_job(struct random *r, const struct table *t, bool stands)
 {
     uint32_t benches = word_at(t->bytes, 0), jobs = word_at(t->bytes, 1), start = random_below(r, jobs);
@@ -98,7 +101,7 @@ static uint32_t random_job(struct random *r, const struct table *t, bool stands)
     return random_number(r, jobs);
 }
 
-/* A bench number of any kind, rather a heavy bench than a light one: from there jobs are handed along. */
+/* Picks a bench number of any kind, rather a heavy bench than a light one: from there jobs are handed along. */
 static uint32_t random_bench(struct random *r, const struct table *t)
 {
     uint32_t benches = word_at(t->bytes, 0), best = random_number(r, benches), most = 0, load;
@@ -139,7 +142,7 @@ static struct call random_call(struct random *r, const struct table *t)
     return call;
 }
 
-/* One word of a record gets a number that just fits there, or just does not. */
+/* Writes into a word of a record a number that just fits there, or just does not. */
 static void damage_record(struct table *t, struct random *r, uint32_t benches, uint32_t jobs)
 {
     uint32_t job = random_within(r, 1, jobs);
@@ -148,7 +151,7 @@ static void damage_record(struct table *t, struct random *r, uint32_t benches, u
     put_word(t->bytes, i, numbers[random_below(r, 9)]);
 }
 
-/* A few words or bits are not what they were, or the length is another. */
+/* Changes a few words or bits, or the length. */
 static void damage(struct table *t, struct random *r)
 {
     uint32_t words = (uint32_t)t->length / 2, benches = word_at(t->bytes, 0), jobs = word_at(t->bytes, 1);
@@ -183,7 +186,7 @@ static void stop(const struct call *call, struct answer a, struct answer b, cons
     fail("against: seed %" PRIu64 ", call %u: %s: %s: archive %s, reference %s", seed, (unsigned)calls_made, text, what, first, second);
 }
 
-/* One call through both, on copies of exactly the lent length; t is what the archive left. */
+/* Makes one call through both, on copies of exactly the lent length; t is what the archive left. */
 static void compare(struct call call, struct table *t)
 {
     uint8_t *lists[2], *table = copy_of(t->bytes, t->length), *other = copy_of(t->bytes, t->length);
@@ -212,7 +215,7 @@ static void compare(struct call call, struct table *t)
     free(lists[1]);
 }
 
-/* A board's life: calls one after the other, some on a damaged copy. */
+/* Makes calls on a board, one after the other, some on a damaged copy. */
 static void run_board(struct random *r, uint32_t calls)
 {
     static struct table t, damaged;
@@ -231,7 +234,7 @@ static void run_board(struct random *r, uint32_t calls)
     }
 }
 
-/* The largest table, its holders by chance, levelled to the end. */
+/* Levels the largest table, its holders by chance, to the end. */
 static void level_largest(struct random *r)
 {
     static struct table t;

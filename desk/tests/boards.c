@@ -87,7 +87,7 @@ static void blank_fitting(struct table *t, uint32_t benches, uint32_t jobs)
     blank(t, JOBBOARD_TABLE_BYTES(benches, jobs), benches, jobs, accepted());
 }
 
-/* The tight set's benches are `set`, of `benches` words; a list of exactly that length is enough, and one byte less is not. */
+/* Expects `set`, of `benches` words, as the tight set; a list of that length is enough, and one byte less is not. */
 static void expect_set(struct table *t, uint32_t height, const uint32_t *set, uint32_t benches, uint32_t jobs)
 {
     uint8_t list[JOBBOARD_MOST_LIST_BYTES + 2];
@@ -153,7 +153,7 @@ static void counter_run(struct table *t)
     expect(t, closing(2), refused(JOBBOARD_NOT_STANDING));
 }
 
-/* The holder word of a job. */
+/* Expects this holder word of a job. */
 static void expect_holder(const struct table *t, uint32_t job, uint32_t holder)
 {
     uint32_t word = word_at(t->bytes, 4 + word_at(t->bytes, 0) + 4 * ((size_t)job - 1) + 2);
@@ -215,7 +215,7 @@ static void no_jobs(struct table *t)
     expect(t, question(LEVEL_CHECK, 0), one(1));
 }
 
-/* Five benches, one job for each pair, in a random arrival order. */
+/* Takes in one job for each pair of five benches, in a random order. */
 static void all_pairs(struct table *t, struct random *r)
 {
     const uint32_t loads[] = {2, 2, 2, 2, 2};

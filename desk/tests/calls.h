@@ -28,17 +28,18 @@ struct answer make_call(const struct call *call, uint8_t *table, size_t bytes);
 
 bool same_answer(struct answer a, struct answer b);
 
-/* Does this call change tables? The others ask. */
+/* Tells whether this call changes tables; the others ask. */
 bool changes_table(enum kind kind);
 
-/* Is this number among the refusals that the header lists for the call? */
+/* Tells whether this number is among the refusals that the header lists for the call. */
 bool may_refuse(enum kind kind, uint32_t number);
 
-/* "arrival 1 2 3" */
 #define DESCRIPTION 80
+
+/* Writes a call, such as "arrival 1 2 3". */
 void describe_call(const struct call *call, char text[DESCRIPTION]);
 
-/* "0: 1 2 3" */
+/* Writes an answer, such as "0: 1 2 3". */
 void describe_answer(struct answer a, char text[DESCRIPTION]);
 
 #endif

@@ -13,8 +13,8 @@ fail() {
     exit 1
 }
 
-# expect STATUS OUTPUT WORDS...: runs the desk with these words, from standard input if it is to read commands. Both of its outputs are looked at.
-expect() {
+# Runs the desk with these words, from standard input if it is to read commands. Both of its outputs are looked at.
+expect() { # STATUS OUTPUT WORDS...
     status=$1 output=$2
     shift 2
     commands=$((commands + 1))
@@ -27,8 +27,8 @@ expected
 $output"
 }
 
-# The same, and the board's file must keep its bytes (or its absence).
-expect_kept() {
+# Does the same; the board's file must keep its bytes (or its absence).
+expect_kept() { # STATUS OUTPUT WORDS...
     rm -f kept
     [ ! -e room.board ] || cp room.board kept
     expect "$@"
@@ -113,8 +113,8 @@ expect_kept 0 "Bench 1 holds 1 job." room.board <<END
 $(printf 'load 1')
 END
 
-# A damaged file is refused by every command but renew, with the refusal's words, and never written.
-damaged() {
+# Expects every command but renew to refuse a damaged file, with the refusal's words, and never to write it.
+damaged() { # OUTPUT
     for words in "take 1 1 2" "close 1" "load 1" heaviest "tight 1" show "show 1" check level-check level "level 0"; do
         expect_kept 1 "$1" room.board $words
     done

@@ -36,7 +36,7 @@ static void say_where(void)
         _exit(2);
 }
 
-/* Where a page may not be touched, the processor stops the program. */
+/* Ends the test where the processor stops at a page that may not be touched. */
 static void on_fault(int number)
 {
     (void)number;
@@ -44,7 +44,7 @@ static void on_fault(int number)
     _exit(1);
 }
 
-/* AddressSanitizer calls this before it reports an error and ends the program. */
+/* Says where: AddressSanitizer calls this before it reports an error and ends the program. */
 void __asan_on_error(void);
 void __asan_on_error(void)
 {
@@ -118,7 +118,7 @@ static void give_back(struct loan *loan)
 
 /* ---- What is lent ---- */
 
-/* Zeros, noise, or mostly zeros and small numbers, as tables have them. */
+/* Writes zeros, noise, or mostly zeros and small numbers, as tables have them. */
 static void fill(struct random *r, uint8_t *bytes, size_t length)
 {
     uint32_t kind = random_below(r, 3);
@@ -136,7 +136,7 @@ static void choose_sizes(struct random *r, uint32_t *benches, uint32_t *jobs)
     *jobs = large ? JOBBOARD_MOST_JOBS : random_within(r, 1, 40);
 }
 
-/* A table with some arrivals; it may be damaged afterwards. */
+/* Makes a table with some arrivals; it may be damaged afterwards. */
 static uint8_t *worn_table(struct random *r, size_t *length)
 {
     uint32_t benches, jobs, holder, rose, moved;
@@ -156,7 +156,7 @@ static uint8_t *worn_table(struct random *r, size_t *length)
     return table;
 }
 
-/* Random bytes; the sizes' words may be right. */
+/* Makes random bytes; the sizes' words may be right. */
 static uint8_t *noise(struct random *r, size_t *length)
 {
     uint32_t benches, jobs;

@@ -4,7 +4,7 @@
 set -eu
 readme=$1 include=$2 archive=$3 out=$4
 
-# The first block of a kind, in what standard input has.
+# Prints the first block of a kind that standard input has.
 block() {
     awk -v fence="\`\`\`$1" '!inside && !done && $0 == fence { inside = 1; next } inside && $0 == "```" { inside = 0; done = 1 } inside'
 }

@@ -42,7 +42,7 @@ static size_t record(uint32_t benches, uint32_t job)
     return 4 + (size_t)benches + 4 * (size_t)(job - 1);
 }
 
-/* "byte length odd or below 8, B not 1 to 500, J not 1 to 4,000, or length not that of B and J" is the contrary. */
+/* Negates "byte length odd or below 8, B not 1 to 500, J not 1 to 4,000, or length not that of B and J". */
 static bool fits(size_t bytes, uint32_t benches, uint32_t jobs)
 {
     if (bytes % 2 == 1 || bytes < 8)
@@ -62,7 +62,10 @@ static bool is_empty(const uint8_t *table, size_t r)
     return word(table, r) == 0 && word(table, r + 1) == 0 && word(table, r + 2) == 0 && word(table, r + 3) == 0;
 }
 
-/* "every standing job has two different benches of 1 to B and holder 1 or 2", and "word 2 is true and word 3 is 0" */
+/*
+ * Tells whether "every standing job has two different benches of 1 to B and holder 1 or 2", and "word 2 is true and
+ * word 3 is 0".
+ */
 static bool records_sound(const uint8_t *table)
 {
     uint32_t benches = word(table, 0), standing = 0;
@@ -79,8 +82,9 @@ static bool records_sound(const uint8_t *table)
 }
 
 /*
- * Follows the chain of a bench; met[j] counts how often job j is on chains. False where an empty record, a number above J or a job
- * that another bench holds is met, or where the chain is longer than there are jobs: it then has one twice.
+ * Follows the chain of a bench; met[j] counts how often job j is on chains. False where an empty record, a number
+ * above J or a job that another bench holds is met, or where the chain is longer than there are jobs: it then has one
+ * twice.
  */
 static bool chain_sound(const uint8_t *table, uint32_t bench, uint32_t *met)
 {
@@ -126,7 +130,7 @@ static void read_board(struct board *s, const uint8_t *table)
     }
 }
 
-/* The table of a board, every chain rising. */
+/* Writes the table of a board, every chain rising. */
 static void write_board(const struct board *s, uint8_t *table, size_t bytes)
 {
     uint32_t standing = 0;
@@ -154,13 +158,13 @@ static uint32_t other_bench(const struct board *s, uint32_t job)
     return s->holder[job] == s->first[job] ? s->second[job] : s->first[job];
 }
 
-/* "It improves if its first bench has a load at least two above its last." */
+/* Decides by "It improves if its first bench has a load at least two above its last." */
 static bool improves(const struct board *s, uint32_t first, uint32_t last)
 {
     return s->loads[first] >= s->loads[last] + 2;
 }
 
-/* "Turning a path hands each of its jobs to the other bench." */
+/* Follows "Turning a path hands each of its jobs to the other bench." */
 static void turn(struct board *s, const struct path *p)
 {
     for (uint32_t i = 0; i < p->length; i++) {
@@ -171,7 +175,7 @@ static void turn(struct board *s, const struct path *p)
     }
 }
 
-/* Dictionary order of two lists of the same length. */
+/* Compares two lists of the same length by dictionary order. */
 static bool list_before(const struct path *p, const struct path *q)
 {
     for (uint32_t i = 0; i < p->length; i++)
@@ -180,7 +184,10 @@ static bool list_before(const struct path *p, const struct path *q)
     return false;
 }
 
-/* "lowest last load, then fewest jobs, then lowest last bench, then the list of job numbers that is first in dictionary order" */
+/*
+ * Compares by "lowest last load, then fewest jobs, then lowest last bench, then the list of job numbers that is first
+ * in dictionary order".
+ */
 static bool arrival_before(const struct board *s, const struct path *p, const struct path *q)
 {
     if (s->loads[p->last] != s->loads[q->last])
@@ -192,7 +199,7 @@ static bool arrival_before(const struct board *s, const struct path *p, const st
     return list_before(p, q);
 }
 
-/* "greatest first load, then fewest jobs, lowest first bench, first list" */
+/* Compares by "greatest first load, then fewest jobs, lowest first bench, first list". */
 static bool closing_before(const struct board *s, const struct path *p, const struct path *q)
 {
     if (s->loads[p->first] != s->loads[q->first])
@@ -223,7 +230,10 @@ static void consider(struct listing *l)
         l->best = l->path;
 }
 
-/* "A path goes from bench to bench, no bench twice; each step is by a job held by the bench it leaves, to that job's other bench." */
+/*
+ * Extends by "A path goes from bench to bench, no bench twice; each step is by a job held by the bench it leaves, to
+ * that job's other bench."
+ */
 static void extend(struct listing *l)
 {
     uint32_t leaves = l->path.last;
@@ -254,7 +264,7 @@ static void list_from(struct listing *l, uint32_t bench)
 
 enum { FAR = MOST_BENCHES + 1 };
 
-/* The fewest jobs from each bench to this one, or from this one to each; FAR where there is no path. */
+/* Finds the fewest jobs from each bench to this one, or from this one to each; FAR where there is no path. */
 static void distances(const struct board *s, uint32_t bench, bool to_it, uint32_t *distance)
 {
     bool grows = true;
@@ -276,7 +286,7 @@ static void distances(const struct board *s, uint32_t bench, bool to_it, uint32_
     }
 }
 
-/* The path of fewest jobs whose list is first: at each bench the lowest job that leads nearer. */
+/* Finds the path of fewest jobs whose list is first: at each bench the lowest job that leads nearer. */
 static void first_list(const struct board *s, uint32_t first, uint32_t last, struct path *p)
 {
     uint32_t distance[MOST_BENCHES + 1];
@@ -294,7 +304,7 @@ static void first_list(const struct board *s, uint32_t first, uint32_t last, str
     }
 }
 
-/* Is bench b a better end of an arrival's path than `best`, or a better beginning of a closing's? 0 is no bench. */
+/* Tells whether bench b is a better end of an arrival's path than `best`, or start of a closing's. 0 is no bench. */
 static bool better_bench(const struct board *s, const uint32_t *distance, bool arrives, uint32_t b, uint32_t best)
 {
     if (best == 0)
@@ -324,7 +334,7 @@ static bool is_small(const struct board *s)
     return s->benches <= FEW_BENCHES && s->jobs <= FEW_JOBS;
 }
 
-/* "of the improving paths from that bench, one"; length 0 if there is none */
+/* Chooses, "of the improving paths from that bench, one"; length 0 if there is none. */
 static void choose_from(const struct board *s, uint32_t bench, struct path *p)
 {
     struct listing l = {.board = s};
@@ -336,7 +346,7 @@ static void choose_from(const struct board *s, uint32_t bench, struct path *p)
     *p = l.best;
 }
 
-/* "Of the improving paths that end at the bench that held it, one"; length 0 if there is none */
+/* Chooses, "Of the improving paths that end at the bench that held it, one"; length 0 if there is none. */
 static void choose_to(const struct board *s, uint32_t bench, struct path *p)
 {
     struct listing l = {.board = s, .end = bench};
@@ -357,7 +367,10 @@ static uint32_t heaviest(const struct board *s)
     return most;
 }
 
-/* "first bench of greatest load among those that start one, then lowest number, then the arrival's order"; length 0 for none */
+/*
+ * Chooses by "first bench of greatest load among those that start one, then lowest number, then the arrival's order";
+ * length 0 for none.
+ */
 static void choose_any(const struct board *s, struct path *p)
 {
     p->length = 0;
@@ -454,7 +467,10 @@ static struct answer level_check(const struct board *s)
     return (struct answer){0, {p.length == 0 ? 1 : 0, UNSET, UNSET}};
 }
 
-/* "all benches with load h or more are in it", and a bench's jobs bring in their other benches, until nothing new comes in. */
+/*
+ * Marks the set: "all benches with load h or more are in it", and a bench's jobs bring in their other benches, until
+ * nothing new comes in.
+ */
 static void tight_benches(const struct board *s, uint32_t height, bool *in)
 {
     bool grows = true;

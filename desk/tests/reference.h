@@ -4,7 +4,7 @@
 
 #include "calls.h"
 
-/* What the call answers and leaves. Accepted changes leave all chains rising. */
+/* Makes the call. Accepted changes leave all chains rising. */
 struct answer reference_call(const struct call *call, uint8_t *table, size_t bytes);
 
 #endif

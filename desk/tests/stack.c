@@ -34,7 +34,7 @@ static void *run_call(void *argument)
     return NULL;
 }
 
-/* The stack that one run uses, with this pattern. */
+/* Measures the stack that one run uses, with this pattern. */
 static size_t need_with(struct run *run, int pattern, uint8_t *stack)
 {
     pthread_t thread;
@@ -50,7 +50,7 @@ static size_t need_with(struct run *run, int pattern, uint8_t *stack)
     return (size_t)(run->top - (uintptr_t)(stack + deepest));
 }
 
-/* With a second pattern, so that a byte that happens to be the first is seen. */
+/* Measures with a second pattern too, so that a byte that happens to be the first is seen. */
 static size_t need_of(struct call call, const struct table *board, uint8_t *stack, struct answer *answer)
 {
     static struct table copies[2];
@@ -69,28 +69,28 @@ static size_t need_of(struct call call, const struct table *board, uint8_t *stac
 
 /* ---- Boards ---- */
 
-/* Bench 1 holds all jobs, whose other benches are the others in turn. */
+/* Gives bench 1 all jobs, whose other benches are the others in turn. */
 static void heap(struct table *t)
 {
     for (uint32_t j = 1; j <= J; j++)
         make_stand(t, j, 1, 2 + j % (B - 1), 1);
 }
 
-/* Each bench but the last holds a job that leads to the next: the visits of a tight set go through all benches. */
+/* Gives each bench but the last a job that leads to the next: the visits of a tight set go through all benches. */
 static void path(struct table *t)
 {
     for (uint32_t b = 1; b < B; b++)
         make_stand(t, b, b, b + 1, 1);
 }
 
-/* The same with the benches the other way round. */
+/* Does the same with the benches the other way round. */
 static void path_back(struct table *t)
 {
     for (uint32_t b = 1; b < B; b++)
         make_stand(t, b, b, b + 1, 2);
 }
 
-/* Each bench holds seven jobs that lead back and then one that leads on: before each visit there is a long walk along a chain. */
+/* Gives each bench seven jobs that lead back, then one that leads on: a long walk along a chain before each visit. */
 static void ladder(struct table *t)
 {
     for (uint32_t b = 1; b < B; b++) {
@@ -100,7 +100,7 @@ static void ladder(struct table *t)
     }
 }
 
-/* Bench 1 holds 3,502 jobs that lead to bench 2, and the last of its chain leads to a path through all others. */
+/* Makes 3,502 jobs lead from bench 1 to bench 2, and the last of its chain to a path through all others. */
 static void long_chain(struct table *t)
 {
     for (uint32_t j = 1; j <= 3502; j++)
@@ -110,7 +110,7 @@ static void long_chain(struct table *t)
         make_stand(t, 3501 + b, b, b + 1, 1);
 }
 
-/* A path from bench 1, which has two jobs more, to bench B: closing bench B's own job hands 499 along. */
+/* Makes a path from bench 1, which has two jobs more, to bench B: closing bench B's own job hands 499 along. */
 static void path_to_close(struct table *t)
 {
     path(t);
@@ -158,7 +158,7 @@ static bool stands(const struct table *t, uint32_t job)
     return word_at(t->bytes, 4 + B + 4 * (size_t)(job - 1)) != 0;
 }
 
-/* Closing of a few of the standing jobs, and arrival of one that is not, at both ends of the paths. */
+/* Measures closing a few of the standing jobs, and arrival of one that is not, at both ends of the paths. */
 static void measure_changes(const struct table *t, uint8_t *stack)
 {
     uint32_t free_job = J;

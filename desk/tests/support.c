@@ -16,7 +16,7 @@ void fail(const char *format, ...)
     exit(1);
 }
 
-/* splitmix64 */
+/* Draws by splitmix64. */
 uint64_t random_next(struct random *r)
 {
     uint64_t z = r->state += 0x9e3779b97f4a7c15u;
@@ -97,7 +97,7 @@ void make_stand(struct table *t, uint32_t job, uint32_t first, uint32_t second, 
     put_word(t->bytes, record + 2, holder);
 }
 
-/* The jobs 1 to n, falling, so that each put before the others of its chain leaves rising chains; or in a random order. */
+/* Lists 1 to n, falling, so that each job put before the others of its chain leaves rising chains; or at random. */
 static void order_jobs(uint32_t *jobs, uint32_t n, struct random *r)
 {
     for (uint32_t i = 0; i < n; i++)

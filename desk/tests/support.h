@@ -19,23 +19,23 @@ struct random {
 
 uint64_t random_next(struct random *r);
 
-/* A number of 0 to n - 1; n is not 0. */
+/* Gives a number of 0 to n - 1; n is not 0. */
 uint32_t random_below(struct random *r, uint32_t n);
 
-/* A number of `least` to `most`. */
+/* Gives a number of `least` to `most`. */
 uint32_t random_within(struct random *r, uint32_t least, uint32_t most);
 
-/* The seed that the command line names, else the given one. */
+/* Gives the seed that the command line names, else the given one. */
 uint64_t seed_of(int argc, char **argv, uint64_t seed);
 
-/* FNV-1a, 64 bits. */
+/* Hashes by FNV-1a, 64 bits. */
 uint64_t hash_of(const uint8_t *bytes, size_t length);
 
-/* Words have 16 bits, low byte first. */
+/* Reads or writes word i: 16 bits, low byte first. */
 uint32_t word_at(const uint8_t *bytes, size_t i);
 void put_word(uint8_t *bytes, size_t i, uint32_t word);
 
-/* Memory of exactly that length, never NULL; the test ends where there is none. */
+/* Gives memory of exactly that length, never NULL; the test ends where there is none. */
 uint8_t *memory(size_t length);
 uint8_t *copy_of(const uint8_t *bytes, size_t length);
 
@@ -48,7 +48,7 @@ struct table {
 /* Writes an empty table by hand, without the calls that are tested. */
 void make_empty(struct table *t, uint32_t benches, uint32_t jobs);
 
-/* Job `job` stands; `holder` is 1 for the first-named bench and 2 for the second. Chains are made afterwards. */
+/* Makes job `job` stand; `holder` is 1 for the first-named bench and 2 for the second. Chains are made afterwards. */
 void make_stand(struct table *t, uint32_t job, uint32_t first, uint32_t second, uint32_t holder);
 
 /* Makes all chains and counts the standing jobs. Chains rise, or are in a random order if r is not NULL. */

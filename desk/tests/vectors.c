@@ -45,7 +45,7 @@ static void read_table(struct file *f, const char *folder, const char *name)
     snprintf(f->name, sizeof f->name, "%s", name);
 }
 
-/* A call on a fresh copy of the table; the copy is the caller's. */
+/* Makes a call on a fresh copy of the table; the copy is the caller's. */
 static struct answer on_copy(const struct file *f, const struct call *call, uint8_t **left)
 {
     *left = copy_of(f->bytes, f->length);
@@ -63,7 +63,7 @@ static struct answer ask(const struct file *f, enum kind kind, uint32_t number)
     return a;
 }
 
-/* The loads of all benches as words, hashed. */
+/* Hashes the loads of all benches, as words. */
 static uint64_t loads_hash(const struct file *f)
 {
     uint8_t loads[2 * JOBBOARD_MOST_BENCHES];
@@ -77,7 +77,7 @@ static uint64_t loads_hash(const struct file *f)
     return hash_of(loads, 2 * (size_t)benches);
 }
 
-/* The row of `index` that the calls give, without the file's name. */
+/* Writes the row of `index` that the calls give, without the file's name. */
 static void row_of(const struct file *f, char row[LINE])
 {
     struct answer form = ask(f, CHECK, 0), level = ask(f, LEVEL_CHECK, 0), heaviest = ask(f, HEAVIEST, 0);
@@ -110,7 +110,7 @@ static unsigned run_index(const char *tables, const char *data)
     return rows;
 }
 
-/* "A 27 19 2" */
+/* Reads a call, such as "A 27 19 2". */
 static struct call call_of(const char *text)
 {
     static const char letters[] = "ADLSO";
@@ -129,7 +129,7 @@ static struct call call_of(const char *text)
     return call;
 }
 
-/* The answer in the file's words: "19 19 0", "3 level", "R 2". */
+/* Writes the answer in the file's words: "19 19 0", "3 level", "R 2". */
 static void answer_words(enum kind kind, struct answer a, char text[LINE])
 {
     const uint32_t *v = a.values;
@@ -145,7 +145,7 @@ static void answer_words(enum kind kind, struct answer a, char text[LINE])
         snprintf(text, LINE, "%u %u", (unsigned)v[0], (unsigned)v[1]);
 }
 
-/* Chain heads and next words zeroed; a table whose sizes do not fit stays as it is. */
+/* Zeroes chain heads and next words; a table whose sizes do not fit stays as it is. */
 static void forget_chains(uint8_t *table, size_t length)
 {
     if (jobboard_check(table, length) == JOBBOARD_SIZES)
@@ -157,7 +157,7 @@ static void forget_chains(uint8_t *table, size_t length)
         put_word(table, 4 + benches + 4 * (size_t)j + 3, 0);
 }
 
-/* What the call gives, in the words of `calls`: answer and both hashes. */
+/* Writes what the call gives, in the words of `calls`: answer and both hashes. */
 static void run_call(const struct file *f, const char *text, char result[2 * LINE])
 {
     char words[LINE];
