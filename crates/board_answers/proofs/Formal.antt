@@ -4,7 +4,7 @@ use mathlib.Core.List.{List}
 use mathlib.Core.Option.{some}
 use Prim.Native.Nat.{ℕ}
 use Rattle.spec_calls.specs.Answers.{refused, firstHolding}
-use Rattle.spec_calls.specs.Calls.{Call, formConditions, lentList, outcome}
+use Rattle.spec_calls.specs.Calls.{Call, formConditions, lentTo, outcome}
 use Rattle.spec_calls.proofs.Refusals.{form-stops, refused-by}
 use Rattle.table_refusals.specs.Refusals.{refusalOf}
 use Rattle.board_answers.specs.Answered.{Leaves}
@@ -12,11 +12,11 @@ use Rattle.table_refusals.specs.declared.Refusal.{Refusal}
 use Rattle.board_answers.specs.declared.Answer.the-variants.{Refused}
 
 -- a refused call leaves every lent byte
-pub refused-leaves : (r : Refusal) (c : Call) (t : List ℕ) → (outcome c t) .answer ≡ refused (refusalOf r) → Leaves (outcome c t) (Refused r) t (lentList c)
+pub refused-leaves : (r : Refusal) (c : Call) (t : List ℕ) → (outcome c t) .answer ≡ refused (refusalOf r) → Leaves (outcome c t) (Refused r) t (lentTo c)
 refused-leaves r c t e =
     let b = refused-by c t (refusalOf r) e in
-    record { answer = sym e; bytes = sym (b .table); listed = sym (b .list) }
+    record { answer = sym e; bytes = sym (b .table); lent = sym (b .lent) }
 
 -- 1 and 2
-pub form-refused : (r : Refusal) (c : Call) (t : List ℕ) → firstHolding (formConditions t) ≡ some (refusalOf r) → Leaves (outcome c t) (Refused r) t (lentList c)
+pub form-refused : (r : Refusal) (c : Call) (t : List ℕ) → firstHolding (formConditions t) ≡ some (refusalOf r) → Leaves (outcome c t) (Refused r) t (lentTo c)
 form-refused r c t e = refused-leaves r c t (form-stops c t (refusalOf r) e)

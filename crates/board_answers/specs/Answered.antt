@@ -14,17 +14,17 @@ use Rattle.board_answers.specs.declared.Answer.the-variants as told
 -- the answer
 abbrev pub answerOf : Answer → paper.Answer
 answerOf (told.Refused r) = paper.refused (refusalOf r)
-answerOf told.Blanked = paper.blanked
+answerOf told.Blanked = paper.said paper.blanked
 answerOf (told.Arrived holder rose moved) = paper.arrived holder rose moved
 answerOf (told.Closed fell moved) = paper.closed fell moved
-answerOf (told.Load n) = paper.loadIs n
-answerOf (told.Heaviest n) = paper.heaviestIs n
-answerOf (told.TightSet benches inside) = paper.tightSetIs benches inside
-answerOf told.Sound = paper.isSound
-answerOf told.Level = paper.levelYes
-answerOf told.NotLevel = paper.levelNo
-answerOf (told.Levelled paths) = paper.levelled paths
-answerOf (told.Stopped paths) = paper.stopped paths
+answerOf (told.Load n) = paper.said (paper.loadIs n)
+answerOf (told.Heaviest n) = paper.said (paper.heaviestIs n)
+answerOf (told.TightSet benches inside) = paper.said (paper.tightSetIs benches inside)
+answerOf told.Sound = paper.said paper.isSound
+answerOf told.Level = paper.said paper.levelYes
+answerOf told.NotLevel = paper.said paper.levelNo
+answerOf (told.Levelled paths) = paper.said (paper.levelled paths)
+answerOf (told.Stopped paths) = paper.said (paper.stopped paths)
 
 -- what is returned: the refusal's number, 0 for an accepted call
 abbrev pub returned : paper.Answer → ℕ
@@ -34,14 +34,15 @@ returned a = getD (paper.inNumbers a) 0 0
 abbrev pub valuesOf : Values → List ℕ
 valuesOf v = take (v .count) (v .first ∷ v .second ∷ v .third ∷ [])
 
--- the call answered r and left these bytes of the table and of the lent list ([] for none), as the outcome o says
-pub record Leaves (o : paper.Outcome) (r : Answer) (table list : List ℕ) : Type 0 where
+-- the call answered r and left these bytes of the table and of what was lent beside it ([] for nothing), as the
+-- outcome o says
+pub record Leaves (o : paper.Outcome) (r : Answer) (table beside : List ℕ) : Type 0 where
   pub answer : answerOf r ≡ o .answer
   pub bytes : table ≡ o .table
-  pub listed : list ≡ o .list
+  pub lent : beside ≡ o .lent
 
 -- a call that meets its contract, as demand 3 sees it: what was lent, answered and left
 pub record Does (c : Call) (t : List ℕ) (o : paper.Outcome) : Type 0 where
   pub result : Answer
   pub told : o .answer ≡ answerOf result
-  pub leaves : Leaves (outcome c t) result (o .table) (o .list)
+  pub leaves : Leaves (outcome c t) result (o .table) (o .lent)

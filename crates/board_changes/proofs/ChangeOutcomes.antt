@@ -10,8 +10,8 @@ use borrow.Author.Tests.{eqb-false}
 use Rattle.spec_lists.specs.Lists.{within}
 use Rattle.spec_table.specs.Board.{Board, stands, namesFit}
 use Rattle.spec_table.specs.Table.{sizesFit, blankTable, decode}
-use Rattle.spec_calls.specs.Answers.{arrived, closed, levelled, stopped}
-use Rattle.spec_calls.specs.Calls.{MayArrive, arrival, closing, levelling, outcome, blanking, arrivalOutcome, closingOutcome, levellingOutcome}
+use Rattle.spec_calls.specs.Answers.{arrived, closed, said, levelled, stopped}
+use Rattle.spec_calls.specs.Calls.{Arriving, MayArrive, arrival, closing, levelling, outcome, blanking, arrivalOutcome, closingOutcome, levellingOutcome}
 use Rattle.spec_lists.proofs.Tests.{true→T, T→true, false→not, not-false, not→false}
 use Rattle.spec_table.proofs.Named.{pair-fits}
 use Rattle.spec_calls.proofs.Outcomes.{arrival-accepted, closing-accepted, levelling-accepted}
@@ -42,19 +42,23 @@ pub blanking-left : (benches jobs : ℕ) (t : List ℕ) {u : List ℕ} {h : Bool
 unfolding blanking
 blanking-left benches jobs t {u} {h} true e b w =
     let f : sizesFit (length t) benches jobs ≡ true = sym e ∙ w in
-    record { answer = rw f; bytes = rw f (rw w at b); listed = rw f }
+    record { answer = rw f; bytes = rw f (rw w at b); lent = rw f }
 blanking-left benches jobs t {u} {h} false e b w =
     let f : sizesFit (length t) benches jobs ≡ false = sym e ∙ w in
-    record { answer = rw f; bytes = rw f (rw w at b); listed = rw f }
+    record { answer = rw f; bytes = rw f (rw w at b); lent = rw f }
 
 -- what a levelling answers, by whether it ended level
 abbrev levelAnswer : Bool → ℕ → Answer
 levelAnswer true paths = Levelled paths
 levelAnswer false paths = Stopped paths
 
-level-told : (v : Bool) {m n : ℕ} → m ≡ n → answerOf (levelAnswer v m) ≡ cond v (levelled n) (stopped n)
-level-told true e = ap levelled e
-level-told false e = ap stopped e
+level-told : (v : Bool) {m n : ℕ} → m ≡ n → answerOf (levelAnswer v m) ≡ said (cond v (levelled n) (stopped n))
+level-told true e = ap (λ (k : ℕ). said (levelled k)) e
+level-told false e = ap (λ (k : ℕ). said (stopped k)) e
+
+-- an arrival with two benches
+abbrev pub arriving : ℕ → ℕ → ℕ → Arriving
+arriving j x y = record { job = j; given = x ∷ y ∷ [] }
 
 -- an arrival whose numbers are not refused
 pub record Numbered (b : Board) (j x y : ℕ) : Type 0 where
@@ -62,7 +66,7 @@ pub record Numbered (b : Board) (j x y : ℕ) : Type 0 where
   pub fit : T (namesFit (b .benches) (x ∷ y ∷ []))
 
 -- an arrival may go through where its numbers passed and no such job stands
-pub may-arrive : {b : Board} {j x y : ℕ} {h : Bool} → Numbered b j x y → h ≡ stands b j → h ≡ false → MayArrive b j x y
+pub may-arrive : {b : Board} {j x y : ℕ} {h : Bool} → Numbered b j x y → h ≡ stands b j → h ≡ false → MayArrive b (arriving j x y)
 may-arrive {b} {j} n e w =
     record { number = n .number; free = false→not (stands b j) (sym e ∙ w); fit = n .fit }
 
@@ -76,22 +80,22 @@ passed {h} {w} e n = not-false w (ap not (sym e) ∙ n)
 
 module _ {t : List ℕ} {s : Size} (z : SoundTable t s) where
   -- 3
-  pub arrival-number : (j x y : ℕ) {h : Bool} → h ≡ within 1 (s .jobs) j → not h ≡ true → Leaves (outcome (arrival j x y) t) (Refused JobNumber) t []
+  pub arrival-number : (j x y : ℕ) {h : Bool} → h ≡ within 1 (s .jobs) j → not h ≡ true → Leaves (outcome (arrival (arriving j x y)) t) (Refused JobNumber) t []
   arrival-number j x y e n =
-      refused-leaves JobNumber (arrival j x y) t (arrival-number-refused t (z .sound) j x y (failed (job-of-board z j e) n))
+      refused-leaves JobNumber (arrival (arriving j x y)) t (arrival-number-refused t (z .sound) (arriving j x y) (failed (job-of-board z j e) n))
 
-  pub closing-number : (j : ℕ) {h : Bool} → h ≡ within 1 (s .jobs) j → not h ≡ true → Leaves (outcome (closing j) t) (Refused JobNumber) t []
+  pub closing-number : (j : ℕ) {h : Bool} → h ≡ within 1 (s .jobs) j → not h ≡ true → Leaves (outcome (closing (record { job = j })) t) (Refused JobNumber) t []
   closing-number j e n =
-      refused-leaves JobNumber (closing j) t (closing-number-refused t (z .sound) j (failed (job-of-board z j e) n))
+      refused-leaves JobNumber (closing (record { job = j })) t (closing-number-refused t (z .sound) (record { job = j }) (failed (job-of-board z j e) n))
 
   -- bench x is not one of 1 to B
   pub bench-wrong : (x : ℕ) {h : Bool} → h ≡ within 1 (s .benches) x → not h ≡ true → within 1 ((decode t) .benches) x ≡ false
   bench-wrong x e n = failed (bench-of-board z x e) n
 
   -- 4
-  pub arrival-bench : (j x y : ℕ) {h : Bool} → h ≡ within 1 (s .jobs) j → not h ≡ false → (within 1 ((decode t) .benches) x ≡ false) ⊎ (within 1 ((decode t) .benches) y ≡ false) ⊎ (x ≡ y) → Leaves (outcome (arrival j x y) t) (Refused BenchNumber) t []
+  pub arrival-bench : (j x y : ℕ) {h : Bool} → h ≡ within 1 (s .jobs) j → not h ≡ false → (within 1 ((decode t) .benches) x ≡ false) ⊎ (within 1 ((decode t) .benches) y ≡ false) ⊎ (x ≡ y) → Leaves (outcome (arrival (arriving j x y)) t) (Refused BenchNumber) t []
   arrival-bench j x y e n w =
-      refused-leaves BenchNumber (arrival j x y) t (arrival-bench-refused t (z .sound) j x y (T→true (within 1 (length ((decode t) .named)) j) (passed (job-of-board z j e) n)) w)
+      refused-leaves BenchNumber (arrival (arriving j x y)) t (arrival-bench-refused t (z .sound) j x y (T→true (within 1 (length ((decode t) .named)) j) (passed (job-of-board z j e) n)) w)
 
   -- a job of 1 to J can be read
   pub readable : (j : ℕ) {h : Bool} → h ≡ within 1 (s .jobs) j → not h ≡ false → HoldsBoard t s × JobIn s j
@@ -106,32 +110,32 @@ module _ {t : List ℕ} {s : Size} (z : SoundTable t s) where
       }
 
   -- 5
-  pub arrival-standing : (j x y : ℕ) {h : Bool} → Numbered (decode t) j x y → h ≡ stands (decode t) j → h ≡ true → Leaves (outcome (arrival j x y) t) (Refused AlreadyStanding) t []
+  pub arrival-standing : (j x y : ℕ) {h : Bool} → Numbered (decode t) j x y → h ≡ stands (decode t) j → h ≡ true → Leaves (outcome (arrival (arriving j x y)) t) (Refused AlreadyStanding) t []
   arrival-standing j x y n e w =
-      refused-leaves AlreadyStanding (arrival j x y) t (arrival-standing-refused t (z .sound) j x y (n .fit) (true→T (stands (decode t) j) (sym e ∙ w)))
+      refused-leaves AlreadyStanding (arrival (arriving j x y)) t (arrival-standing-refused t (z .sound) (arriving j x y) (n .fit) (true→T (stands (decode t) j) (sym e ∙ w)))
 
   -- 6
-  pub closing-standing : (j : ℕ) {h g : Bool} → h ≡ within 1 (s .jobs) j → not h ≡ false → g ≡ stands (decode t) j → not g ≡ true → Leaves (outcome (closing j) t) (Refused NotStanding) t []
+  pub closing-standing : (j : ℕ) {h g : Bool} → h ≡ within 1 (s .jobs) j → not h ≡ false → g ≡ stands (decode t) j → not g ≡ true → Leaves (outcome (closing (record { job = j })) t) (Refused NotStanding) t []
   closing-standing j e n d w =
-      refused-leaves NotStanding (closing j) t (closing-standing-refused t (z .sound) j (T→true (within 1 (length ((decode t) .named)) j) (passed (job-of-board z j e) n)) (failed d w))
+      refused-leaves NotStanding (closing (record { job = j })) t (closing-standing-refused t (z .sound) (record { job = j }) (T→true (within 1 (length ((decode t) .named)) j) (passed (job-of-board z j e) n)) (failed d w))
 
   -- an accepted arrival
-  pub arrival-left : {u : List ℕ} (j x y : ℕ) {r : Arrival} → MayArrive (decode t) j x y → ArrivalOf t u j x y r → Leaves (outcome (arrival j x y) t) (Arrived (r .holder) (r .rose) (r .moved)) u []
+  pub arrival-left : {u : List ℕ} (j x y : ℕ) {r : Arrival} → MayArrive (decode t) (arriving j x y) → ArrivalOf t u j x y r → Leaves (outcome (arrival (arriving j x y)) t) (Arrived (r .holder) (r .rose) (r .moved)) u []
   unfolding arrivalOutcome
   arrival-left j x y m a =
-      let e = (arrival-accepted t (z .sound) j x y ((arrival-exact t (z .sound) j x y) .1 m)) .is in
-      rw e (record { answer = λ i. arrived (a .holder i) (a .rose i) (a .moved i); bytes = a .bytes; listed = refl })
+      let e = (arrival-accepted t (z .sound) (arriving j x y) ((arrival-exact t (z .sound) (arriving j x y)) .1 m)) .is in
+      rw e (record { answer = λ i. arrived (a .holder i) (a .rose i) (a .moved i); bytes = a .bytes; lent = refl })
 
   -- an accepted closing
-  pub closing-left : {u : List ℕ} (j : ℕ) {r : Flip} → T (stands (decode t) j) → ClosingOf t u j r → Leaves (outcome (closing j) t) (Closed (r .bench) (r .jobs)) u []
+  pub closing-left : {u : List ℕ} (j : ℕ) {r : Flip} → T (stands (decode t) j) → ClosingOf t u j r → Leaves (outcome (closing (record { job = j })) t) (Closed (r .bench) (r .jobs)) u []
   unfolding closingOutcome
   closing-left j p a =
-      let e = (closing-accepted t (z .sound) j ((closing-exact t (z .sound) j) .1 p)) .is in
-      rw e (record { answer = λ i. closed (a .fell i) (a .moved i); bytes = a .bytes; listed = refl })
+      let e = (closing-accepted t (z .sound) (record { job = j }) ((closing-exact t (z .sound) (record { job = j })) .1 p)) .is in
+      rw e (record { answer = λ i. closed (a .fell i) (a .moved i); bytes = a .bytes; lent = refl })
 
   -- a levelling
   pub levelling-left : {u : List ℕ} (allowance : ℕ) {r : Levelling} (v : Bool) → LevellingOf t u allowance r → r .level ≡ v → Leaves (outcome (levelling allowance) t) (levelAnswer v (r .paths)) u []
   unfolding levellingOutcome
   levelling-left allowance v a w =
       let e = (levelling-accepted t (z .sound) allowance) .is in
-      rw (e, sym (a .ended) ∙ w) (record { answer = level-told v (a .paths); bytes = a .bytes; listed = refl })
+      rw (e, sym (a .ended) ∙ w) (record { answer = level-told v (a .paths); bytes = a .bytes; lent = refl })

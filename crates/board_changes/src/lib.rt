@@ -1,5 +1,5 @@
 // The calls that write a table: blanking, arrival, closing, levelling.
-ghost use mathlib.Core.List.{[]};
+ghost use mathlib.Core.List.{[], _∷_};
 ghost use Rattle.spec_calls.specs.Calls.{blanking, outcome, arrival, closing, levelling};
 ghost use Rattle.table_size.specs.Sizes.{SoundTable};
 ghost use Rattle.board_answers.specs.Answered.{Leaves};
@@ -23,7 +23,8 @@ pub fn blank(t: &mut [u8], benches: usize, jobs: usize) -> Answer
 // Takes in a job on a sound table, or refuses with 3, 4 or 5, in this order.
 fn arrival_on(t: &mut [u8], s: Size, job: usize, first: usize, second: usize) -> Answer
     requires { ⌜ SoundTable (now t) s ⌝ }
-    ensures { λ r. ⌜ Leaves (outcome (arrival job first second) (now (t .entry))) r (now (t .exit)) [] ⌝ }
+    ensures { λ r. ⌜ Leaves (outcome (arrival (record { job = job; given = first ∷ second ∷ [] })) (now (t .entry))) r
+        (now (t .exit)) [] ⌝ }
 {
     if !s.has_job(job) {
         return Answer::Refused(Refusal::JobNumber);
@@ -40,7 +41,8 @@ fn arrival_on(t: &mut [u8], s: Size, job: usize, first: usize, second: usize) ->
 
 // Takes in a job that names two benches.
 pub fn arrival(t: &mut [u8], job: usize, first: usize, second: usize) -> Answer
-    ensures { λ r. ⌜ Leaves (outcome (arrival job first second) (now (t .entry))) r (now (t .exit)) [] ⌝ }
+    ensures { λ r. ⌜ Leaves (outcome (arrival (record { job = job; given = first ∷ second ∷ [] })) (now (t .entry))) r
+        (now (t .exit)) [] ⌝ }
 {
     match table_form::check(t) {
         Form::Refused(r) => Answer::Refused(r),
@@ -51,7 +53,7 @@ pub fn arrival(t: &mut [u8], job: usize, first: usize, second: usize) -> Answer
 // Closes a job on a sound table, or refuses with 3 or 6, in this order.
 fn closing_on(t: &mut [u8], s: Size, job: usize) -> Answer
     requires { ⌜ SoundTable (now t) s ⌝ }
-    ensures { λ r. ⌜ Leaves (outcome (closing job) (now (t .entry))) r (now (t .exit)) [] ⌝ }
+    ensures { λ r. ⌜ Leaves (outcome (closing (record { job = job })) (now (t .entry))) r (now (t .exit)) [] ⌝ }
 {
     if !s.has_job(job) {
         return Answer::Refused(Refusal::JobNumber);
@@ -65,7 +67,7 @@ fn closing_on(t: &mut [u8], s: Size, job: usize) -> Answer
 
 // Closes a standing job.
 pub fn closing(t: &mut [u8], job: usize) -> Answer
-    ensures { λ r. ⌜ Leaves (outcome (closing job) (now (t .entry))) r (now (t .exit)) [] ⌝ }
+    ensures { λ r. ⌜ Leaves (outcome (closing (record { job = job })) (now (t .entry))) r (now (t .exit)) [] ⌝ }
 {
     match table_form::check(t) {
         Form::Refused(r) => Answer::Refused(r),

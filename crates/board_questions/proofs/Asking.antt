@@ -13,7 +13,7 @@ use Rattle.spec_table.specs.Table.{mostBenches, bytesOf, decode}
 use Rattle.spec_sharing.specs.Paths.{steps}
 use Rattle.spec_sharing.specs.Sharing.{level, tightSet}
 use Rattle.spec_calls.specs.Answers.{Outcome}
-use Rattle.spec_calls.specs.Calls.{loadOf, heaviestLoad, tightSetOf, formCheck, levelCheck, conditions, accepted, outcome, tightSetOutcome}
+use Rattle.spec_calls.specs.Calls.{ask, loadOf, heaviestLoad, tightSetOf, formCheck, levelCheck, questionConditions, conditions, asked, accepted, outcome, tightSetTold}
 use Rattle.spec_lists.proofs.Tests.{within-both}
 use Rattle.spec_lists.proofs.Elements.{in-getD}
 use Rattle.spec_lists.proofs.Counting.{greatest-most}
@@ -62,40 +62,40 @@ bench-low b v h p =
 -- what is left
 
 -- an outcome that has just this answer and these bytes
-answered-leaves : {o : Outcome} {r : Answer} {t list : List ℕ} → o ≡ record { answer = answerOf r; table = t; list = list } → Leaves o r t list
+answered-leaves : {o : Outcome} {r : Answer} {t list : List ℕ} → o ≡ record { answer = answerOf r; table = t; lent = list } → Leaves o r t list
 answered-leaves {o} {r} {t} {list} e =
-    subst (λ q. Leaves q r t list) (sym e) (record { answer = refl; bytes = refl; listed = refl })
+    subst (λ q. Leaves q r t list) (sym e) (record { answer = refl; bytes = refl; lent = refl })
 
 module _ {t : List ℕ} {s : Size} (z : SoundTable t s) where
   -- form check
-  pub form-sound : Leaves (outcome formCheck t) told.Sound t []
-  unfolding conditions accepted
-  form-sound = answered-leaves (sound-outcome formCheck t (z .sound))
+  pub form-sound : Leaves (outcome (ask formCheck []) t) told.Sound t []
+  unfolding questionConditions conditions asked accepted
+  form-sound = answered-leaves (sound-outcome (ask formCheck []) t (z .sound))
 
   -- level check
-  pub level-told : (y : Bool) → y ≡ level (decode t) → Leaves (outcome levelCheck t) (cond y told.Level told.NotLevel) t []
-  unfolding conditions accepted
-  level-told true e = answered-leaves (sound-outcome levelCheck t (z .sound) ∙ rw (sym e))
-  level-told false e = answered-leaves (sound-outcome levelCheck t (z .sound) ∙ rw (sym e))
+  pub level-told : (y : Bool) → y ≡ level (decode t) → Leaves (outcome (ask levelCheck []) t) (cond y told.Level told.NotLevel) t []
+  unfolding questionConditions conditions asked accepted
+  level-told true e = answered-leaves (sound-outcome (ask levelCheck []) t (z .sound) ∙ rw (sym e))
+  level-told false e = answered-leaves (sound-outcome (ask levelCheck []) t (z .sound) ∙ rw (sym e))
 
   -- the heaviest load
-  pub heaviest-told : (n : ℕ) → n ≡ heaviest (decode t) → Leaves (outcome heaviestLoad t) (told.Heaviest n) t []
-  unfolding conditions accepted
-  heaviest-told n e = answered-leaves (sound-outcome heaviestLoad t (z .sound) ∙ rw e)
+  pub heaviest-told : (n : ℕ) → n ≡ heaviest (decode t) → Leaves (outcome (ask heaviestLoad []) t) (told.Heaviest n) t []
+  unfolding questionConditions conditions asked accepted
+  heaviest-told n e = answered-leaves (sound-outcome (ask heaviestLoad []) t (z .sound) ∙ rw e)
 
   module _ (x : ℕ) where
     -- the load of a bench of 1 to B ..
-    pub load-told : {h : Bool} (n : ℕ) → h ≡ within 1 (s .benches) x → h ≡ true → n ≡ load ((decode t) .holders) x → Leaves (outcome (loadOf x) t) (told.Load n) t []
-    unfolding conditions accepted
-    load-told n b w e = answered-leaves (sound-outcome (loadOf x) t (z .sound) ∙ rw (sym (bench-of-board z x b) ∙ w, e))
+    pub load-told : {h : Bool} (n : ℕ) → h ≡ within 1 (s .benches) x → h ≡ true → n ≡ load ((decode t) .holders) x → Leaves (outcome (ask (loadOf x) []) t) (told.Load n) t []
+    unfolding questionConditions conditions asked accepted
+    load-told n b w e = answered-leaves (sound-outcome (ask (loadOf x) []) t (z .sound) ∙ rw (sym (bench-of-board z x b) ∙ w, e))
 
     -- .. and 4 for any other number
-    pub bench-refused : {h : Bool} → h ≡ within 1 (s .benches) x → h ≡ false → Leaves (outcome (loadOf x) t) (told.Refused code.BenchNumber) t []
-    bench-refused b w = refused-leaves code.BenchNumber (loadOf x) t (load-refused t (z .sound) x (sym (bench-of-board z x b) ∙ w))
+    pub bench-refused : {h : Bool} → h ≡ within 1 (s .benches) x → h ≡ false → Leaves (outcome (ask (loadOf x) []) t) (told.Refused code.BenchNumber) t []
+    bench-refused b w = refused-leaves code.BenchNumber (ask (loadOf x) []) t (load-refused t (z .sound) x (sym (bench-of-board z x b) ∙ w))
 
   -- a height of 0 gives 7
-  pub zero-refused : (h : ℕ) (list : List ℕ) → h ≡ 0 → Leaves (outcome (tightSetOf h list) t) (told.Refused code.Height) t list
-  zero-refused h list p = refused-leaves code.Height (tightSetOf h list) t (tight-height-refused t (z .sound) h list (inl p))
+  pub zero-refused : (h : ℕ) (list : List ℕ) → h ≡ 0 → Leaves (outcome (ask (tightSetOf h) list) t) (told.Refused code.Height) t list
+  zero-refused h list p = refused-leaves code.Height (ask (tightSetOf h) list) t (tight-height-refused t (z .sound) h list (inl p))
 
   module _ {h : ℕ} {marks : List Bool} {r : Extent} (m : TightSet (decode t) s h marks r) where
     -- the set has at most B benches
@@ -108,10 +108,10 @@ module _ {t : List ℕ} {s : Size} (z : SoundTable t s) where
       list-room f = omega (arith, m .benches, ap length (m .set))
 
       -- a height of 1 or more whose set has no bench gives 7
-      pub high-refused : h ≢ 0 → r .benches ≡ 0 → Leaves (outcome (tightSetOf h list) t) (told.Refused code.Height) t list
+      pub high-refused : h ≢ 0 → r .benches ≡ 0 → Leaves (outcome (ask (tightSetOf h) list) t) (told.Refused code.Height) t list
       high-refused p e =
           let high = empty-high (decode t) (z .storable .valid) h p (sym (m .benches) ∙ e) in
-          refused-leaves code.Height (tightSetOf h list) t (tight-height-refused t (z .sound) h list (inr high))
+          refused-leaves code.Height (ask (tightSetOf h) list) t (tight-height-refused t (z .sound) h list (inr high))
 
       module _ (p : h ≢ 0) (e : r .benches ≢ 0) where
         low : 1 ≤ h
@@ -121,12 +121,12 @@ module _ {t : List ℕ} {s : Size} (z : SoundTable t s) where
         high = bench-low (decode t) (z .storable .valid) h (λ k. e (m .benches ∙ k))
 
         -- a list that is shorter than the set's words gives 8
-        pub short-refused : length list < 2 * r .benches → Leaves (outcome (tightSetOf h list) t) (told.Refused code.ListTooShort) t list
+        pub short-refused : length list < 2 * r .benches → Leaves (outcome (ask (tightSetOf h) list) t) (told.Refused code.ListTooShort) t list
         short-refused f =
-            refused-leaves code.ListTooShort (tightSetOf h list) t (tight-list-refused t (z .sound) h list low high (omega (arith, m .benches)))
+            refused-leaves code.ListTooShort (ask (tightSetOf h) list) t (tight-list-refused t (z .sound) h list low high (omega (arith, m .benches)))
 
         -- in any other the marked benches are the set
-        pub set-told : (u : List ℕ) → 2 * r .benches ≤ length list → u ≡ bytesOf (marked s marks) ++ drop (2 * length (marked s marks)) list → Leaves (outcome (tightSetOf h list) t) (told.TightSet (r .benches) (r .jobs)) t u
-        unfolding tightSetOutcome
+        pub set-told : (u : List ℕ) → 2 * r .benches ≤ length list → u ≡ bytesOf (marked s marks) ++ drop (2 * length (marked s marks)) list → Leaves (outcome (ask (tightSetOf h) list) t) (told.TightSet (r .benches) (r .jobs)) t u
+        unfolding tightSetTold
         set-told u f w =
             answered-leaves (tight-answered t (z .sound) h list low high (omega (arith, m .benches)) ∙ rw (w, m .set, m .benches, m .jobs))

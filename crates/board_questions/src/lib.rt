@@ -1,6 +1,6 @@
 // The questions: they change no table byte.
 ghost use mathlib.Core.List.{[]};
-ghost use Rattle.spec_calls.specs.Calls.{outcome, loadOf, heaviestLoad, tightSetOf, formCheck, levelCheck};
+ghost use Rattle.spec_calls.specs.Calls.{outcome, ask, loadOf, heaviestLoad, tightSetOf, formCheck, levelCheck};
 ghost use Rattle.table_size.specs.Sizes.{SoundTable};
 ghost use Rattle.board_answers.specs.Answered.{Leaves};
 use board_answers::Answer;
@@ -10,7 +10,7 @@ use table_size::Size;
 
 // Checks the form: sound, or the refusal.
 pub fn form_check(t: &[u8]) -> Answer
-    ensures { λ r. ⌜ Leaves (outcome formCheck (now (t .entry))) r (now (t .entry)) [] ⌝ }
+    ensures { λ r. ⌜ Leaves (outcome (ask formCheck []) (now (t .entry))) r (now (t .entry)) [] ⌝ }
 {
     match table_form::check(t) {
         Form::Refused(r) => Answer::Refused(r),
@@ -20,7 +20,7 @@ pub fn form_check(t: &[u8]) -> Answer
 
 // Checks whether no path improves.
 pub fn level_check(t: &[u8]) -> Answer
-    ensures { λ r. ⌜ Leaves (outcome levelCheck (now (t .entry))) r (now (t .entry)) [] ⌝ }
+    ensures { λ r. ⌜ Leaves (outcome (ask levelCheck []) (now (t .entry))) r (now (t .entry)) [] ⌝ }
 {
     match table_form::check(t) {
         Form::Refused(r) => Answer::Refused(r),
@@ -36,7 +36,7 @@ pub fn level_check(t: &[u8]) -> Answer
 
 // Answers the load of a bench.
 pub fn load(t: &[u8], bench: usize) -> Answer
-    ensures { λ r. ⌜ Leaves (outcome (loadOf bench) (now (t .entry))) r (now (t .entry)) [] ⌝ }
+    ensures { λ r. ⌜ Leaves (outcome (ask (loadOf bench) []) (now (t .entry))) r (now (t .entry)) [] ⌝ }
 {
     match table_form::check(t) {
         Form::Refused(r) => Answer::Refused(r),
@@ -52,7 +52,7 @@ pub fn load(t: &[u8], bench: usize) -> Answer
 
 // Answers the heaviest load.
 pub fn heaviest(t: &[u8]) -> Answer
-    ensures { λ r. ⌜ Leaves (outcome heaviestLoad (now (t .entry))) r (now (t .entry)) [] ⌝ }
+    ensures { λ r. ⌜ Leaves (outcome (ask heaviestLoad []) (now (t .entry))) r (now (t .entry)) [] ⌝ }
 {
     match table_form::check(t) {
         Form::Refused(r) => Answer::Refused(r),
@@ -63,8 +63,8 @@ pub fn heaviest(t: &[u8]) -> Answer
 // Lists the tight set on a sound table, or refuses with 7 or 8, in this order.
 fn tight_set_on(t: &[u8], s: Size, height: usize, list: &mut [u8]) -> Answer
     requires { ⌜ SoundTable (now t) s ⌝ }
-    ensures { λ r. ⌜ Leaves (outcome (tightSetOf height (now (list .entry))) (now (t .entry))) r (now (t .entry))
-        (now (list .exit)) ⌝ }
+    ensures { λ r. ⌜ Leaves (outcome (ask (tightSetOf height) (now (list .entry))) (now (t .entry))) r
+        (now (t .entry)) (now (list .exit)) ⌝ }
 {
     if height == 0 {
         return Answer::Refused(Refusal::Height);
@@ -84,8 +84,8 @@ fn tight_set_on(t: &[u8], s: Size, height: usize, list: &mut [u8]) -> Answer
 
 // Lists the tight set of a height: its benches, rising, as words at the list's beginning.
 pub fn tight_set(t: &[u8], height: usize, list: &mut [u8]) -> Answer
-    ensures { λ r. ⌜ Leaves (outcome (tightSetOf height (now (list .entry))) (now (t .entry))) r (now (t .entry))
-        (now (list .exit)) ⌝ }
+    ensures { λ r. ⌜ Leaves (outcome (ask (tightSetOf height) (now (list .entry))) (now (t .entry))) r
+        (now (t .entry)) (now (list .exit)) ⌝ }
 {
     match table_form::check(t) {
         Form::Refused(r) => Answer::Refused(r),

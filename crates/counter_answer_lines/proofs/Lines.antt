@@ -8,7 +8,7 @@ use mathlib.Core.List.{List, [], _∷_, _++_}
 use lib.ListN.{drop}
 use Rattle.spec_lists.specs.Lists.{nth}
 use Rattle.spec_calls.specs.Answers.{Refusal, sizes, unsound, jobNumber, benchNumber, alreadyStanding, notStanding, height, listTooShort, countFull, unreadable, refusalNumber}
-use Rattle.spec_calls.specs.Answers.{Answer, refused, blanked, arrived, closed, loadIs, heaviestIs, tightSetIs, isSound, levelYes, levelNo, levelled, stopped, isRefused, inNumbers}
+use Rattle.spec_calls.specs.Answers.{Answer, refused, arrived, closed, said, isRefused, inNumbers}
 use Rattle.board_answers.specs.Answered.{returned}
 use Rattle.spec_counter.specs.Counter.{lineFeed, space, digits, printed}
 use Rattle.counter_printing.specs.Wrote.{Wrote, spaced}
@@ -31,17 +31,9 @@ refusal-positive unreadable = omega arith
 -- .. so the number that is returned tells whether a call was refused; a refusal has no other number
 pub refused-or-not : (a : Answer) → ((1 ≤ returned a) × (isRefused a ≡ true) × (inNumbers a ≡ returned a ∷ [])) ⊎ ((returned a ≡ 0) × (isRefused a ≡ false))
 refused-or-not (refused r) = inl (refusal-positive r, refl, refl)
-refused-or-not blanked = inr (refl, refl)
 refused-or-not (arrived holder rose moved) = inr (refl, refl)
 refused-or-not (closed fell moved) = inr (refl, refl)
-refused-or-not (loadIs n) = inr (refl, refl)
-refused-or-not (heaviestIs n) = inr (refl, refl)
-refused-or-not (tightSetIs benches inside) = inr (refl, refl)
-refused-or-not isSound = inr (refl, refl)
-refused-or-not levelYes = inr (refl, refl)
-refused-or-not levelNo = inr (refl, refl)
-refused-or-not (levelled paths) = inr (refl, refl)
-refused-or-not (stopped paths) = inr (refl, refl)
+refused-or-not (said f) = inr (refl, refl)
 
 -- the line of an answer whose number is not 0 ..
 pub refused-text : (letter : ℕ) (repeated : List ℕ) (a : Answer) (listed : List ℕ) → 1 ≤ returned a → refusalText (returned a) ≡ answerText letter repeated a listed

@@ -11,8 +11,8 @@ use lib.Seq.{take-at, length-take-le, length-front}
 use Rattle.spec_lists.specs.Lists.{nth}
 use Rattle.spec_table.specs.Table.{words, bytesOf, lengthFor, sizesFit, decode, blankTable, mostBenches}
 use Rattle.spec_sharing.specs.Sharing.{tightSet}
-use Rattle.spec_calls.specs.Answers.{Outcome, Refusal, inNumbers, refusedOr, firstHolding, sizes, blanked, refusalNumber}
-use Rattle.spec_calls.specs.Calls.{outcome, blanking, arrival, closing, heaviestLoad, tightSetOf, answering, accepted, tightSetOutcome, formConditions, conditions}
+use Rattle.spec_calls.specs.Answers.{Outcome, Refusal, inNumbers, refusedOr, firstHolding, sizes, said, blanked, refusalNumber}
+use Rattle.spec_calls.specs.Calls.{outcome, blanking, arrival, closing, ask, heaviestLoad, tightSetOf, telling, answering, asked, accepted, tightSetTold, refusals}
 use Rattle.spec_calls.specs.Tally.{Tally, zeroTally, noted}
 use Rattle.spec_calls.proofs.Blanking.{blanking-refused}
 use Rattle.spec_table.proofs.Words.{length-bytesOf}
@@ -50,11 +50,11 @@ replied {next} {n} {tally} {text} {text'} {bytes} {out} {out'} {at} {r} l h t y 
     }
 
 -- a tight set's benches are in the list that is left; a refusal has none
-pub listed-fits : (t list : List ℕ) (h : ℕ) {u l : List ℕ} {a : Answer} → Leaves (outcome (tightSetOf h list) t) a u l → 2 * nth (inNumbers (answerOf a)) 2 0 ≤ length l
-unfolding outcome accepted tightSetOutcome
-listed-fits t list h v = rw (v .answer, v .listed) (go (firstHolding (formConditions t ++ conditions (tightSetOf h list) (decode t))))
+pub listed-fits : (t list : List ℕ) (h : ℕ) {u l : List ℕ} {a : Answer} → Leaves (outcome (ask (tightSetOf h) list) t) a u l → 2 * nth (inNumbers (answerOf a)) 2 0 ≤ length l
+unfolding outcome asked accepted tightSetTold
+listed-fits t list h v = rw (v .answer, v .lent) (go (firstHolding (refusals (ask (tightSetOf h) list) t)))
   where
-    go : (f : Option Refusal) → let o = refusedOr f t list (accepted (tightSetOf h list) t (decode t)) in 2 * nth (inNumbers (o .answer)) 2 0 ≤ length (o .list)
+    go : (f : Option Refusal) → let o = refusedOr f t list (accepted (ask (tightSetOf h) list) t (decode t)) in 2 * nth (inNumbers (o .answer)) 2 0 ≤ length (o .lent)
     go none = let set = tightSet (decode t) h in omega (arith, length-append (bytesOf set) (drop (2 * length set) list), length-bytesOf set)
     go (some r) = omega arith
 
@@ -63,7 +63,7 @@ pub list-short : (l : List ℕ) {list : List ℕ} → list ≡ counterList → l
 list-short l e k = omega (arith, ap length e, list-holds-all)
 
 -- where the sizes fit, blanking does not look at the old bytes
-blanks : (benches jobs : ℕ) (t : List ℕ) → sizesFit (length t) benches jobs ≡ true → blanking benches jobs t ≡ answering (blankTable benches jobs) blanked
+blanks : (benches jobs : ℕ) (t : List ℕ) → sizesFit (length t) benches jobs ≡ true → blanking benches jobs t ≡ answering (blankTable benches jobs) (telling blanked [])
 unfolding blanking
 blanks benches jobs t e = rw e
 
@@ -94,7 +94,7 @@ module _ {c : Counter} {d : List ℕ} (room : Room c d) where
 
     module _ {a : Answer} {u ns : List ℕ} where
       -- "H heaviest"
-      pub heaviest-replies : Leaves (outcome heaviestLoad (take (c .length) d)) a u [] → ns ≡ [] → AnswerPrinted (c .length) (tallyOf (c .tally)) (answerText (code "H") ns (answerOf a) []) out out' at r → Performs askHeaviest (counterOf c d) d out out' at r
+      pub heaviest-replies : Leaves (outcome (ask heaviestLoad []) (take (c .length) d)) a u [] → ns ≡ [] → AnswerPrinted (c .length) (tallyOf (c .tally)) (answerText (code "H") ns (answerOf a) []) out out' at r → Performs askHeaviest (counterOf c d) d out out' at r
       unfolding lineFor done after
       heaviest-replies v e told = stays (λ i. answerText (code "H") (e i) (v .answer i) []) told
 
@@ -109,12 +109,12 @@ module _ {c : Counter} {d : List ℕ} (room : Room c d) where
             (λ i. answerText letter (e i) (v .answer i) []) told
 
         -- "A job, holder, bench that rose, moved"
-        pub arrival-replies : (j x y : ℕ) → Leaves (outcome (arrival j x y) (take (c .length) d)) a u [] → length u ≡ length (take (c .length) d) → ns ≡ j ∷ [] → AnswerPrinted n t (answerText (code "A") ns (answerOf a) []) out out' at r → Performs (takeIn j x y) (counterOf c d) (u ++ drop (c .length) d) out out' at r
+        pub arrival-replies : (j x y : ℕ) → Leaves (outcome (arrival (record { job = j; given = x ∷ y ∷ [] })) (take (c .length) d)) a u [] → length u ≡ length (take (c .length) d) → ns ≡ j ∷ [] → AnswerPrinted n t (answerText (code "A") ns (answerOf a) []) out out' at r → Performs (takeIn j x y) (counterOf c d) (u ++ drop (c .length) d) out out' at r
         unfolding lineFor done after
         arrival-replies j x y v kept e told = changes (code "A") v kept e told
 
         -- "D job, bench that fell, moved"
-        pub closing-replies : (j : ℕ) → Leaves (outcome (closing j) (take (c .length) d)) a u [] → length u ≡ length (take (c .length) d) → ns ≡ j ∷ [] → AnswerPrinted n t (answerText (code "D") ns (answerOf a) []) out out' at r → Performs (closeJob j) (counterOf c d) (u ++ drop (c .length) d) out out' at r
+        pub closing-replies : (j : ℕ) → Leaves (outcome (closing (record { job = j })) (take (c .length) d)) a u [] → length u ≡ length (take (c .length) d) → ns ≡ j ∷ [] → AnswerPrinted n t (answerText (code "D") ns (answerOf a) []) out out' at r → Performs (closeJob j) (counterOf c d) (u ++ drop (c .length) d) out out' at r
         unfolding lineFor done after
         closing-replies j v kept e told = changes (code "D") v kept e told
 
@@ -128,13 +128,13 @@ module _ {c : Counter} {d : List ℕ} (room : Room c d) where
           let same = fit-sizing benches jobs s e in
           let fits = sizes-fit (lengthFor benches jobs) benches jobs s e (omega arith) in
           let theirs = blanks benches jobs (paper.room benches jobs) (ap (λ (m : ℕ). sizesFit m benches jobs) (room-fits benches jobs fits) ∙ fits) in
-          let w : answerOf a ≡ blanked = v .answer ∙ ap (λ (o : Outcome). o .answer) own in
+          let w : answerOf a ≡ said blanked = v .answer ∙ ap (λ (o : Outcome). o .answer) own in
           rw theirs
           (replied (k .1 ∙ room .long) within (k .0 ∙ v .bytes ∙ ap (λ (o : Outcome). o .table) own) z (λ i. answerText (code "B") (f i) (w i) []) told)
 
   -- "S height, benches, inside jobs, then the benches"
-  pub tight-replies : (h : ℕ) {list l u ns out out' : List ℕ} {at next : ℕ} {a : Answer} → list ≡ counterList → Leaves (outcome (tightSetOf h list) (take (c .length) d)) a u l → ns ≡ h ∷ [] → Wrote out out' at next (answerText (code "S") ns (answerOf a) (take (nth (inNumbers (answerOf a)) 2 0) (words l))) → next ≤ at + lineMost → Performs (askTightSet h) (counterOf c d) d out out' at (record { counter = c; at = next })
+  pub tight-replies : (h : ℕ) {list l u ns out out' : List ℕ} {at next : ℕ} {a : Answer} → list ≡ counterList → Leaves (outcome (ask (tightSetOf h) list) (take (c .length) d)) a u l → ns ≡ h ∷ [] → Wrote out out' at next (answerText (code "S") ns (answerOf a) (take (nth (inNumbers (answerOf a)) 2 0) (words l))) → next ≤ at + lineMost → Performs (askTightSet h) (counterOf c d) d out out' at (record { counter = c; at = next })
   unfolding lineFor done after
   tight-replies h {list} {l} {u} {ns} {out} {out'} {at} {next} {a} f w e wrote short =
-      let v = subst (λ (k : List ℕ). Leaves (outcome (tightSetOf h k) (take (c .length) d)) a u l) f w in
-      stays refl (printed-as c (λ i. answerText (code "S") (e i) (v .answer i) (take (nth (inNumbers (v .answer i)) 2 0) (words (v .listed i)))) wrote short)
+      let v = subst (λ (k : List ℕ). Leaves (outcome (ask (tightSetOf h) k) (take (c .length) d)) a u l) f w in
+      stays refl (printed-as c (λ i. answerText (code "S") (e i) (v .answer i) (take (nth (inNumbers (v .answer i)) 2 0) (words (v .lent i)))) wrote short)

@@ -9,9 +9,9 @@ use lib.ListN.{length}
 use Rattle.spec_lists.specs.Lists.{bit, member, range, all, empty}
 use Rattle.spec_table.specs.Board.{Board, holderOf, namesOf, stands, load, heaviest}
 use Rattle.spec_table.specs.Table.{mostBenches, mostJobs, sound, decode}
-use Rattle.spec_sharing.specs.Sharing.{Levelled, arrive, close, relevel, level, tightSet, inside}
-use Rattle.spec_calls.specs.Answers.{Answer, Outcome, isRefused, refused, blanked, arrived, closed, loadIs, heaviestIs, tightSetIs, isSound, levelYes, levelNo, levelled, stopped}
-use Rattle.spec_calls.specs.Calls.{Call, arrival, closing, levelling, loadOf, heaviestLoad, tightSetOf, formCheck, levelCheck, accepted, outcome, arrivalOutcome, closingOutcome, levellingOutcome, tightSetOutcome}
+use Rattle.spec_sharing.specs.Sharing.{Levelled, close, relevel, level, tightSet, inside}
+use Rattle.spec_calls.specs.Answers.{Answer, Outcome, isRefused, refused, arrived, closed, said, levelYes, levelNo, levelled, stopped}
+use Rattle.spec_calls.specs.Calls.{Arriving, Closing, Question, loadOf, heaviestLoad, tightSetOf, formCheck, levelCheck, Call, arrival, closing, levelling, ask, refusals, asked, accepted, outcome, arrivalOutcome, closingOutcome, levellingOutcome, tightSetTold}
 use Rattle.spec_sharing.specs.Demand2.{handed}
 use Rattle.spec_lists.proofs.Tests.{true→T, false→not, not-false, within-high}
 use Rattle.spec_lists.proofs.Elements.{is-empty, length-filter}
@@ -22,13 +22,13 @@ use Rattle.spec_table.proofs.Sound.{sound-storable}
 use Rattle.spec_sharing.proofs.Paths.{holder-bench, holder-none}
 use Rattle.spec_sharing.proofs.TightSet.{tight-rising}
 use Rattle.spec_calls.proofs.Refusals.{accepted-by}
-use Rattle.spec_calls.proofs.Outcomes.{arrival-accepted, levelling-accepted}
+use Rattle.spec_calls.proofs.Outcomes.{arriveOn, arrival-accepted, levelling-accepted}
 use Rattle.spec_calls.proofs.Results.{arrival-result, closing-result}
-use Rattle.spec_calls.proofs.Questions.{heaviest-answered, tight-says}
 use Rattle.jobboard_report.specs.Report.{Fitting}
 
 -- a call that is not refused was lent a sound table
 accepted-sound : (c : Call) (t : List ℕ) → isRefused ((outcome c t) .answer) ≡ false → T (sound t)
+unfolding refusals
 accepted-sound c t n = not-false (sound t) ((accepted-by c t n) .0 .1 .0)
 
 -- at most all jobs move
@@ -78,82 +78,59 @@ module _ (t : List ℕ) (s : T (sound t)) where
   heaviest-small = greatest-most ((decode t) .benches) (load ((decode t) .holders)) 4000 (λ x l h. load-small x)
 
 -- an arrival: the holder, the bench that rose, the moved jobs
-arrival-fits : (t : List ℕ) (j x y holder rose moved : ℕ) → (outcome (arrival j x y) t) .answer ≡ arrived holder rose moved → (holder < 65536) × (rose < 65536) × (moved < 65536)
-arrival-fits t j x y holder rose moved e =
-    let s = accepted-sound (arrival j x y) t (ap isRefused e) in
-    let u = (outcome (arrival j x y) t) .table in
-    let r = arrival-result t s j x y holder rose moved e in
-    let after = (arrival-accepted t s j x y (ap isRefused e)) .writes .sound in
-    (omega (arith, r .inTheEnd, holder-small u after j), omega (arith, r .oneRose .bench, benches-small t s), omega (arith, r .others, handed-most j (decode t) (decode u), jobs-small t s))
+arrival-fits : (t : List ℕ) (a : Arriving) (holder rose moved : ℕ) → (outcome (arrival a) t) .answer ≡ arrived holder rose moved → (holder < 65536) × (rose < 65536) × (moved < 65536)
+arrival-fits t a holder rose moved e =
+    let s = accepted-sound (arrival a) t (ap isRefused e) in
+    let u = (outcome (arrival a) t) .table in
+    let r = arrival-result t s a holder rose moved e in
+    let after = (arrival-accepted t s a (ap isRefused e)) .writes .sound in
+    (omega (arith, r .inTheEnd, holder-small u after (a .job)), omega (arith, r .oneRose .bench, benches-small t s), omega (arith, r .others, handed-most (a .job) (decode t) (decode u), jobs-small t s))
 
 -- a closing: the bench that fell, the moved jobs
-closing-fits : (t : List ℕ) (j fell moved : ℕ) → (outcome (closing j) t) .answer ≡ closed fell moved → (fell < 65536) × (moved < 65536)
-closing-fits t j fell moved e =
-    let s = accepted-sound (closing j) t (ap isRefused e) in
-    let r = closing-result t s j fell moved e in
-    (omega (arith, r .oneFell .bench, benches-small t s), omega (arith, r .others, handed-most j (decode t) (decode ((outcome (closing j) t) .table)), jobs-small t s))
-
--- a load
-load-fits : (t : List ℕ) (x n : ℕ) → (outcome (loadOf x) t) .answer ≡ loadIs n → n < 65536
-unfolding accepted
-load-fits t x n e =
-    let s = accepted-sound (loadOf x) t (ap isRefused e) in
-    let a = accepted-by (loadOf x) t (ap isRefused e) in
-    let d : loadIs (load ((decode t) .holders) x) ≡ loadIs n = ap (λ o. o .answer) (sym (a .1)) ∙ e in
-    let same : load ((decode t) .holders) x ≡ n = cc in
-    omega (arith, same, load-small t s x)
-
--- the heaviest load
-heaviest-fits : (t : List ℕ) (n : ℕ) → (outcome heaviestLoad t) .answer ≡ heaviestIs n → n < 65536
-heaviest-fits t n e =
-    let s = accepted-sound heaviestLoad t (ap isRefused e) in
-    let d : heaviestIs (heaviest (decode t)) ≡ heaviestIs n = sym (heaviest-answered t s) ∙ e in
-    let same : heaviest (decode t) ≡ n = cc in
-    omega (arith, same, heaviest-small t s)
-
--- a tight set: its benches, the inside jobs
-tight-fits : (t : List ℕ) (h : ℕ) (list : List ℕ) (benches inside : ℕ) → (outcome (tightSetOf h list) t) .answer ≡ tightSetIs benches inside → (benches < 65536) × (inside < 65536)
-tight-fits t h list benches inside e =
-    let s = accepted-sound (tightSetOf h list) t (ap isRefused e) in
-    let a = tight-says t s h list benches inside e in
-    (omega (arith, a .benches, tight-most (decode t) h, benches-small t s), omega (arith, a .insideJobs, inside-most (tightSet (decode t) h) ((decode t) .named), jobs-small t s))
+closing-fits : (t : List ℕ) (c : Closing) (fell moved : ℕ) → (outcome (closing c) t) .answer ≡ closed fell moved → (fell < 65536) × (moved < 65536)
+closing-fits t c fell moved e =
+    let s = accepted-sound (closing c) t (ap isRefused e) in
+    let r = closing-result t s c fell moved e in
+    (omega (arith, r .oneFell .bench, benches-small t s), omega (arith, r .others, handed-most (c .job) (decode t) (decode ((outcome (closing c) t) .table)), jobs-small t s))
 
 -- a refusal has no values
 unless-refused : (a : Answer) → (isRefused a ≡ false → Fitting a) → Fitting a
 unless-refused (refused r) f = tt
-unless-refused blanked f = tt
 unless-refused (arrived holder rose moved) f = f refl
 unless-refused (closed fell moved) f = f refl
-unless-refused (loadIs n) f = f refl
-unless-refused (heaviestIs n) f = f refl
-unless-refused (tightSetIs benches inside) f = f refl
-unless-refused isSound f = tt
-unless-refused levelYes f = f refl
-unless-refused levelNo f = f refl
-unless-refused (levelled paths) f = f refl
-unless-refused (stopped paths) f = f refl
+unless-refused (said k) f = f refl
 
 -- the call's number that bounds a value fits 32 bits: a levelling turns no more paths than it is allowed
 abbrev pub Bounded : Call → Type 0
-Bounded (arrival j x y) = Unit {0}
-Bounded (closing j) = Unit {0}
+Bounded (arrival a) = Unit {0}
+Bounded (closing c) = Unit {0}
 Bounded (levelling allowance) = allowance < 4294967296
-Bounded (loadOf x) = Unit {0}
-Bounded heaviestLoad = Unit {0}
-Bounded (tightSetOf h list) = Unit {0}
-Bounded formCheck = Unit {0}
-Bounded levelCheck = Unit {0}
+Bounded (ask q lent) = Unit {0}
+
+-- the values that a question tells of a sound table
+asked-fits : (q : Question) (lent t : List ℕ) → T (sound t) → Fitting (said ((asked q lent (decode t)) .fact))
+unfolding asked tightSetTold
+asked-fits (loadOf x) lent t s = (omega (arith, load-small t s x), tt)
+asked-fits heaviestLoad lent t s = (omega (arith, heaviest-small t s), tt)
+asked-fits (tightSetOf h) lent t s =
+    (omega (arith, tight-most (decode t) h, benches-small t s), (omega (arith, inside-most (tightSet (decode t) h) ((decode t) .named), jobs-small t s), tt))
+asked-fits formCheck lent t s = tt
+asked-fits levelCheck lent t s = go (level (decode t))
+  where
+    go : (z : Bool) → Fitting (said (cond z levelYes levelNo))
+    go true = (omega arith, tt)
+    go false = (omega arith, tt)
 
 -- the values of an accepted call
 accepted-fits : (c : Call) (t : List ℕ) → Bounded c → T (sound t) → outcome c t ≡ accepted c t (decode t) → Fitting ((accepted c t (decode t)) .answer)
-unfolding accepted arrivalOutcome closingOutcome levellingOutcome tightSetOutcome
-accepted-fits (arrival j x y) t b s e =
-    let d = arrive (decode t) j (x ∷ y ∷ []) in
-    let f = arrival-fits t j x y (holderOf (d .board) j) (d .bench) (length (d .moved)) (ap (λ o. o .answer) e) in
+unfolding accepted arrivalOutcome closingOutcome levellingOutcome
+accepted-fits (arrival a) t b s e =
+    let d = arriveOn t a in
+    let f = arrival-fits t a (holderOf (d .board) (a .job)) (d .bench) (length (d .moved)) (ap (λ o. o .answer) e) in
     (omega (arith, f .0), (omega (arith, f .1), (omega (arith, f .2), tt)))
-accepted-fits (closing j) t b s e =
-    let d = close (decode t) j in
-    let f = closing-fits t j (d .bench) (length (d .moved)) (ap (λ o. o .answer) e) in
+accepted-fits (closing c) t b s e =
+    let d = close (decode t) (c .job) in
+    let f = closing-fits t c (d .bench) (length (d .moved)) (ap (λ o. o .answer) e) in
     (omega (arith, f .0), (omega (arith, f .1), tt))
 accepted-fits (levelling allowance) t b s e = go (level (r .board))
   where
@@ -163,21 +140,10 @@ accepted-fits (levelling allowance) t b s e = go (level (r .board))
     small : r .paths < 4294967296
     small = omega (arith, b, (levelling-accepted t s allowance) .does .report .allowed)
 
-    go : (z : Bool) → Fitting (cond z (levelled (r .paths)) (stopped (r .paths)))
+    go : (z : Bool) → Fitting (said (cond z (levelled (r .paths)) (stopped (r .paths))))
     go true = (small, (omega arith, tt))
     go false = (small, (omega arith, tt))
-accepted-fits (loadOf x) t b s e = (omega (arith, load-fits t x (load ((decode t) .holders) x) (ap (λ o. o .answer) e)), tt)
-accepted-fits heaviestLoad t b s e = (omega (arith, heaviest-fits t (heaviest (decode t)) (ap (λ o. o .answer) e)), tt)
-accepted-fits (tightSetOf h list) t b s e =
-    let set = tightSet (decode t) h in
-    let f = tight-fits t h list (length set) (inside set ((decode t) .named)) (ap (λ o. o .answer) e) in
-    (omega (arith, f .0), (omega (arith, f .1), tt))
-accepted-fits formCheck t b s e = tt
-accepted-fits levelCheck t b s e = go (level (decode t))
-  where
-    go : (z : Bool) → Fitting (cond z levelYes levelNo)
-    go true = (omega arith, tt)
-    go false = (omega arith, tt)
+accepted-fits (ask q lent) t b s e = asked-fits q lent t s
 
 -- the values of any call's answer fit 32 bits
 pub values-fit : (c : Call) (t : List ℕ) → Bounded c → Fitting ((outcome c t) .answer)

@@ -17,4 +17,4 @@ answer-fits c t l b = subst Fitting (sym (l .answer)) (values-fit c t b)
 -- a call whose answer is delivered reports its outcome
 pub reported : {o : Outcome} {a : Answer} {r : ℕ} {table list lent left : List ℕ} → Leaves o a table list → Delivered (answerOf a) r lent left → Reported o r table list lent left
 reported {lent} l d =
-    record { number = d .number ∙ ap returned (l .answer); bytes = l .bytes; listed = l .listed; values = d .values ∙ ap (λ b. results b lent) (l .answer) }
+    record { number = d .number ∙ ap returned (l .answer); bytes = l .bytes; lent = l .lent; values = d .values ∙ ap (λ b. results b lent) (l .answer) }

@@ -6,10 +6,10 @@ use Rattle.spec_calls.specs.Answers.{Outcome}
 use Rattle.board_answers.specs.Answered.{returned}
 use Rattle.jobboard_report.specs.Report.{results}
 
--- the call returned r, left these bytes of the table and of the lent list ([] for none), and made `left` of the lent
--- numbers, as the outcome o says
-pub record Reported (o : Outcome) (r : ℕ) (table list lent left : List ℕ) : Type 0 where
+-- the call returned r, left these bytes of the table and of what was lent beside it ([] for nothing), and made
+-- `after` of the lent numbers `before`, as the outcome o says
+pub record Reported (o : Outcome) (r : ℕ) (table beside before after : List ℕ) : Type 0 where
   pub number : r ≡ returned (o .answer)
   pub bytes : table ≡ o .table
-  pub listed : list ≡ o .list
-  pub values : left ≡ results (o .answer) lent
+  pub lent : beside ≡ o .lent
+  pub values : after ≡ results (o .answer) before

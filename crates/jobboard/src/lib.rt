@@ -1,7 +1,7 @@
 // The calls for C programs, over numbers and the table's bytes; a slice is passed as a pointer and its length in
 // bytes. Each returns the refusal's number, or 0. Results go through lent numbers, which a refused call leaves alone.
 ghost use mathlib.Core.List.{[], _∷_};
-ghost use Rattle.spec_calls.specs.Calls.{outcome, blanking, arrival, closing, levelling, loadOf, heaviestLoad, tightSetOf, formCheck, levelCheck};
+ghost use Rattle.spec_calls.specs.Calls.{outcome, blanking, arrival, closing, levelling, ask, loadOf, heaviestLoad, tightSetOf, formCheck, levelCheck};
 ghost use Rattle.jobboard.specs.Desk.{Reported};
 
 // Writes a table without jobs; 1 where the length is not that of so many benches and jobs.
@@ -15,7 +15,7 @@ pub extern "C" fn jobboard_blank(table: &mut [u8], benches: u32, jobs: u32) -> u
 // Checks the form: 0 for a sound table, 1 where its sizes do not fit, else 2.
 #[no_mangle]
 pub extern "C" fn jobboard_check(table: &[u8]) -> u32
-    ensures { λ r. ⌜ Reported (outcome formCheck (now (table .entry))) r (now (table .entry)) [] [] [] ⌝ }
+    ensures { λ r. ⌜ Reported (outcome (ask formCheck []) (now (table .entry))) r (now (table .entry)) [] [] [] ⌝ }
 {
     board_questions::form_check(table).number()
 }
@@ -32,8 +32,8 @@ pub extern "C" fn jobboard_arrival(
     rose: &mut u32,
     moved: &mut u32,
 ) -> u32
-    ensures { λ r. ⌜ Reported (outcome (arrival job first second) (now (table .entry))) r (now (table .exit)) []
-        (now (holder .entry) ∷ now (rose .entry) ∷ now (moved .entry) ∷ [])
+    ensures { λ r. ⌜ Reported (outcome (arrival (record { job = job; given = first ∷ second ∷ [] })) (now (table .entry)))
+        r (now (table .exit)) [] (now (holder .entry) ∷ now (rose .entry) ∷ now (moved .entry) ∷ [])
         (now (holder .exit) ∷ now (rose .exit) ∷ now (moved .exit) ∷ []) ⌝ }
 {
     jobboard_report::three(
@@ -52,7 +52,7 @@ pub extern "C" fn jobboard_closing(
     fell: &mut u32,
     moved: &mut u32,
 ) -> u32
-    ensures { λ r. ⌜ Reported (outcome (closing job) (now (table .entry))) r (now (table .exit)) []
+    ensures { λ r. ⌜ Reported (outcome (closing (record { job = job })) (now (table .entry))) r (now (table .exit)) []
         (now (fell .entry) ∷ now (moved .entry) ∷ []) (now (fell .exit) ∷ now (moved .exit) ∷ []) ⌝ }
 {
     jobboard_report::two(board_changes::closing(table, job as usize), fell, moved)
@@ -75,7 +75,7 @@ pub extern "C" fn jobboard_levelling(
 // Checks whether no path improves. Result: 1 for yes, 0 for no.
 #[no_mangle]
 pub extern "C" fn jobboard_level_check(table: &[u8], level: &mut u32) -> u32
-    ensures { λ r. ⌜ Reported (outcome levelCheck (now (table .entry))) r (now (table .entry)) []
+    ensures { λ r. ⌜ Reported (outcome (ask levelCheck []) (now (table .entry))) r (now (table .entry)) []
         (now (level .entry) ∷ []) (now (level .exit) ∷ []) ⌝ }
 {
     jobboard_report::one(board_questions::level_check(table), level)
@@ -84,7 +84,7 @@ pub extern "C" fn jobboard_level_check(table: &[u8], level: &mut u32) -> u32
 // Reports the load of a bench.
 #[no_mangle]
 pub extern "C" fn jobboard_load(table: &[u8], bench: u32, load: &mut u32) -> u32
-    ensures { λ r. ⌜ Reported (outcome (loadOf bench) (now (table .entry))) r (now (table .entry)) []
+    ensures { λ r. ⌜ Reported (outcome (ask (loadOf bench) []) (now (table .entry))) r (now (table .entry)) []
         (now (load .entry) ∷ []) (now (load .exit) ∷ []) ⌝ }
 {
     jobboard_report::one(board_questions::load(table, bench as usize), load)
@@ -93,7 +93,7 @@ pub extern "C" fn jobboard_load(table: &[u8], bench: u32, load: &mut u32) -> u32
 // Reports the heaviest load.
 #[no_mangle]
 pub extern "C" fn jobboard_heaviest(table: &[u8], load: &mut u32) -> u32
-    ensures { λ r. ⌜ Reported (outcome heaviestLoad (now (table .entry))) r (now (table .entry)) []
+    ensures { λ r. ⌜ Reported (outcome (ask heaviestLoad []) (now (table .entry))) r (now (table .entry)) []
         (now (load .entry) ∷ []) (now (load .exit) ∷ []) ⌝ }
 {
     jobboard_report::one(board_questions::heaviest(table), load)
@@ -109,7 +109,7 @@ pub extern "C" fn jobboard_tight_set(
     benches: &mut u32,
     jobs: &mut u32,
 ) -> u32
-    ensures { λ r. ⌜ Reported (outcome (tightSetOf height (now (list .entry))) (now (table .entry))) r
+    ensures { λ r. ⌜ Reported (outcome (ask (tightSetOf height) (now (list .entry))) (now (table .entry))) r
         (now (table .entry)) (now (list .exit)) (now (benches .entry) ∷ now (jobs .entry) ∷ [])
         (now (benches .exit) ∷ now (jobs .exit) ∷ []) ⌝ }
 {

@@ -23,6 +23,7 @@ use Rattle.spec_sharing.proofs.Choice.{arrival-choice}
 use Rattle.spec_sharing.proofs.Sets.{lightestNamed-in}
 use Rattle.spec_sharing.proofs.Flip.{path-jobs, flip-moves, flip-keeps}
 use Rattle.spec_calls.specs.Calls.{MayArrive}
+use Rattle.spec_calls.proofs.Outcomes.{namable-fit}
 use Rattle.table_size.specs.Sizes.{BenchIn, JobIn, SoundTable}
 use Rattle.table_size.specs.declared.Size.{Size}
 use Rattle.table_size.proofs.Sizes.{board-job, board-bench}
@@ -53,14 +54,14 @@ flipped-on {u} {v} {s} {b} {r} choice end e t =
 getting-in : (holders : List ℕ) (x y : ℕ) {g : ℕ} → g ≡ lightestNamed holders (x ∷ y ∷ []) → In g (x ∷ y ∷ [])
 getting-in holders x y e = rw e (lightestNamed-in holders (x ∷ y ∷ []) tt)
 
-module _ {t : List ℕ} {s : Size} {j x y : ℕ} (z : SoundTable t s) (m : MayArrive (decode t) j x y) where
+module _ {t : List ℕ} {s : Size} {j x y : ℕ} (z : SoundTable t s) (m : MayArrive (decode t) (record { job = j; given = x ∷ y ∷ [] })) where
   -- the arriving job's number is one of 1 to J ..
   pub arriving-job : JobIn s j
   arriving-job = board-job j (z .size) (m .number)
 
   -- .. it names benches of 1 to B ..
   pub arriving-bench : {a : ℕ} → In a (x ∷ y ∷ []) → BenchIn s a
-  arriving-bench {a} i = board-bench a (z .size) (fit-bench ((decode t) .benches) (x ∷ y ∷ []) a (m .fit) i)
+  arriving-bench {a} i = board-bench a (z .size) (fit-bench ((decode t) .benches) (x ∷ y ∷ []) a (namable-fit (decode t) (x ∷ y ∷ []) (m .fit)) i)
 
   -- .. so the one that gets it is one, too ..
   pub getting-bench : {g : ℕ} → g ≡ lightestNamed ((decode t) .holders) (x ∷ y ∷ []) → BenchIn s g
@@ -72,7 +73,7 @@ module _ {t : List ℕ} {s : Size} {j x y : ℕ} (z : SoundTable t s) (m : MayAr
       record {
         job = arriving-job;
         pair = refl;
-        fit = subst (λ (n : ℕ). T (namesFit n (x ∷ y ∷ []))) (z .size .board-benches) (m .fit);
+        fit = subst (λ (n : ℕ). T (namesFit n (x ∷ y ∷ []))) (z .size .board-benches) (namable-fit (decode t) (x ∷ y ∷ []) (m .fit));
         held = in-member g (x ∷ y ∷ []) (getting-in ((decode t) .holders) x y e);
       }
 
@@ -127,7 +128,7 @@ handed-by u c j x h n none r b k e m = record { board = b; holder = k; rose = e;
 handed-by u c j x h n (some p) r b k e m = record { board = b; holder = k; rose = e; moved = m }
 
 -- the job is put on the board, and the path flipped
-pub arrival-handed : {t u v : List ℕ} {s : Size} {j x y g h n : ℕ} {r : Flip} → SoundTable t s → MayArrive (decode t) j x y → g ≡ lightestNamed ((decode t) .holders) (x ∷ y ∷ []) → Holds u s (put (decode t) j (x ∷ y ∷ []) g) → Flipped u v s (arrivalChoice (decode u) g) (lastOf g (arrivalChoice (decode u) g)) r → HolderOf v s j h → Strayed h g n → Handed v j (arrive (decode t) j (x ∷ y ∷ [])) h n r
+pub arrival-handed : {t u v : List ℕ} {s : Size} {j x y g h n : ℕ} {r : Flip} → SoundTable t s → MayArrive (decode t) (record { job = j; given = x ∷ y ∷ [] }) → g ≡ lightestNamed ((decode t) .holders) (x ∷ y ∷ []) → Holds u s (put (decode t) j (x ∷ y ∷ []) g) → Flipped u v s (arrivalChoice (decode u) g) (lastOf g (arrivalChoice (decode u) g)) r → HolderOf v s j h → Strayed h g n → Handed v j (arrive (decode t) j (x ∷ y ∷ [])) h n r
 unfolding arrive
 arrival-handed {t} {u} {v} {s} {j} {x} {y} {g} {h} {n} {r} z m e a f k d = rw (sym e) handed
   where

@@ -71,7 +71,7 @@ fn improve_to(t: &mut [u8], s: Size, x: usize) -> Flip
 // Takes in job j for two benches.
 pub fn arrive(t: &mut [u8], s: Size, j: usize, first: usize, second: usize) -> Arrival
     requires { ⌜ SoundTable (now t) s ⌝ }
-    requires { ⌜ MayArrive (decode (now t)) j first second ⌝ }
+    requires { ⌜ MayArrive (decode (now t)) (record { job = j; given = first ∷ second ∷ [] }) ⌝ }
     ensures { λ r. ⌜ ArrivalOf (now (t .entry)) (now (t .exit)) j first second r ⌝ }
 {
     let lightest_named = lighter(t, s, first, second);

@@ -10,7 +10,7 @@ use borrow.Author.Tests.{ne-eqb}
 use Rattle.spec_lists.specs.Lists.{within, filter, empty}
 use Rattle.spec_table.specs.Board.{Board, Shares, namesFit}
 use Rattle.spec_table.specs.Table.{paired, mostBenches, mostJobs, sizesFit, firstHeld, entriesFrom, layoutOf, entryWords, flat, sound, decode, encode, blankTable, Storable}
-use Rattle.spec_calls.specs.Answers.{Outcome, blanked, refused, sizes}
+use Rattle.spec_calls.specs.Answers.{Outcome, said, blanked, refused, sizes}
 use Rattle.spec_calls.specs.Calls.{blanking}
 use Rattle.spec_lists.proofs.Tests.{true→T}
 use Rattle.spec_lists.proofs.Elements.{each-replicate}
@@ -67,7 +67,7 @@ blank-decodes benches jobs b j = rw (blank-is-encoded benches jobs) (decode-enco
 
 -- blanking whatever bytes of a fitting length leaves a sound table without jobs
 pub record Blanked (benches jobs : ℕ) (o : Outcome) : Type 0 where
-  pub answer : o .answer ≡ blanked
+  pub answer : o .answer ≡ said blanked
   pub sound : T (sound (o .table))
   pub board : decode (o .table) ≡ emptyBoard benches jobs
 
@@ -83,6 +83,6 @@ blanking-leaves benches jobs t e =
     })
 
 -- and where the length does not fit, it is refused with 1 and leaves all bytes
-pub blanking-refused : (benches jobs : ℕ) (t : List ℕ) → sizesFit (length t) benches jobs ≡ false → blanking benches jobs t ≡ record { answer = refused sizes; table = t; list = [] }
+pub blanking-refused : (benches jobs : ℕ) (t : List ℕ) → sizesFit (length t) benches jobs ≡ false → blanking benches jobs t ≡ record { answer = refused sizes; table = t; lent = [] }
 unfolding blanking
 blanking-refused benches jobs t e = rw e

@@ -1,6 +1,6 @@
--- "The order of jobs on a chain is free and no answer depends on it": two sound tables that hold the same board are answered
--- alike, and changed into the same bytes.
-use mathlib.Core.Path.{_≡_, refl, sym, ap, _∙_}
+-- "The order of jobs on a chain is free and no answer depends on it": two sound tables that hold the same board are
+-- answered alike, get the same bytes beside them, and are changed into the same bytes.
+use mathlib.Core.Path.{_≡_, refl, sym, ap, subst, _∙_}
 use mathlib.Core.Bool.{false, not}
 use mathlib.Core.List.{List, _++_}
 use mathlib.Core.Option.{Option, none, some}
@@ -8,8 +8,8 @@ use Prim.Native.Nat.{ℕ}
 use lib.Dec.{T}
 use Rattle.spec_table.specs.Board.{Board}
 use Rattle.spec_table.specs.Table.{fits, sound, decode}
-use Rattle.spec_calls.specs.Answers.{Refusal, Answer, Condition, firstHolding, isRefused, refusedOr}
-use Rattle.spec_calls.specs.Calls.{Call, arrival, closing, levelling, loadOf, heaviestLoad, tightSetOf, formCheck, levelCheck, formConditions, conditions, lentList, accepted, outcome, tightSetOutcome}
+use Rattle.spec_calls.specs.Answers.{Refusal, Outcome, Condition, firstHolding, isRefused, refusedOr}
+use Rattle.spec_calls.specs.Calls.{Call, arrival, closing, levelling, ask, formConditions, conditions, refusals, lentTo, accepted, outcome}
 use Rattle.spec_lists.proofs.Tests.{T→true}
 use Rattle.spec_table.proofs.Clauses.{sound-fits}
 use Rattle.spec_calls.proofs.Refusals.{isQuestion, accepted-by}
@@ -19,50 +19,47 @@ pub form-passes : (t : List ℕ) → T (sound t) → (cs : List Condition) → f
 form-passes t s cs = rw (T→true (fits t) (sound-fits t s), T→true (sound t) s)
 
 -- what is left of a call's outcome on a sound table
-pub sound-outcome : (c : Call) (t : List ℕ) → T (sound t) → outcome c t ≡ refusedOr (firstHolding (conditions c (decode t))) t (lentList c) (accepted c t (decode t))
-unfolding outcome
-sound-outcome c t s = ap (λ o. refusedOr o t (lentList c) (accepted c t (decode t))) (form-passes t s (conditions c (decode t)))
+pub sound-outcome : (c : Call) (t : List ℕ) → T (sound t) → outcome c t ≡ refusedOr (firstHolding (conditions c (decode t))) t (lentTo c) (accepted c t (decode t))
+unfolding outcome refusals
+sound-outcome c t s = ap (λ o. refusedOr o t (lentTo c) (accepted c t (decode t))) (form-passes t s (conditions c (decode t)))
 
--- an accepted call's answer is the board's
-accepted-answer : (c : Call) (t u : List ℕ) (b : Board) → (accepted c t b) .answer ≡ (accepted c u b) .answer
-unfolding accepted tightSetOutcome
-accepted-answer (arrival j x y) t u b = refl
-accepted-answer (closing j) t u b = refl
-accepted-answer (levelling allowance) t u b = refl
-accepted-answer (loadOf x) t u b = refl
-accepted-answer heaviestLoad t u b = refl
-accepted-answer (tightSetOf h list) t u b = refl
-accepted-answer formCheck t u b = refl
-accepted-answer levelCheck t u b = refl
+-- what an outcome leaves besides the table
+pub record Alike (o p : Outcome) : Type 0 where
+  pub answer : o .answer ≡ p .answer
+  pub lent : o .lent ≡ p .lent
 
--- no answer depends on the order of the chains
-pub answer-order-free : (c : Call) (t u : List ℕ) → T (sound t) → T (sound u) → decode t ≡ decode u → (outcome c t) .answer ≡ (outcome c u) .answer
+-- an accepted call's answer, and what it leaves in the lent bytes, are the board's
+accepted-alike : (c : Call) (t u : List ℕ) (b : Board) → Alike (accepted c t b) (accepted c u b)
+unfolding accepted
+accepted-alike (arrival a) t u b = record { answer = refl; lent = refl }
+accepted-alike (closing c) t u b = record { answer = refl; lent = refl }
+accepted-alike (levelling allowance) t u b = record { answer = refl; lent = refl }
+accepted-alike (ask q lent) t u b = record { answer = refl; lent = refl }
+
+-- no answer depends on the order of the chains, and no byte lent beside the table
+pub answer-order-free : (c : Call) (t u : List ℕ) → T (sound t) → T (sound u) → decode t ≡ decode u → Alike (outcome c t) (outcome c u)
 answer-order-free c t u s r e =
-    ap (λ o. o .answer) (sound-outcome c t s) ∙ ap answerOn e ∙ other (firstHolding (conditions c (decode u))) ∙ ap (λ o. o .answer) (sym (sound-outcome c u r))
+    subst (λ o. Alike o (outcome c u)) (sym (sound-outcome c t s ∙ ap on e)) (subst (Alike (on (decode u))) (sym (sound-outcome c u r)) (other (firstHolding (conditions c (decode u)))))
   where
-    answerOn : Board → Answer
-    answerOn b = (refusedOr (firstHolding (conditions c b)) t (lentList c) (accepted c t b)) .answer
+    on : Board → Outcome
+    on b = refusedOr (firstHolding (conditions c b)) t (lentTo c) (accepted c t b)
 
-    other : (o : Option Refusal) → (refusedOr o t (lentList c) (accepted c t (decode u))) .answer ≡ (refusedOr o u (lentList c) (accepted c u (decode u))) .answer
-    other none = accepted-answer c t u (decode u)
-    other (some k) = refl
+    other : (o : Option Refusal) → Alike (refusedOr o t (lentTo c) (accepted c t (decode u))) (refusedOr o u (lentTo c) (accepted c u (decode u)))
+    other none = accepted-alike c t u (decode u)
+    other (some k) = record { answer = refl; lent = refl }
 
 -- what an accepted arrival, closing or levelling writes is the board's
 accepted-table : (c : Call) (t u : List ℕ) (b : Board) → T (not (isQuestion c)) → (accepted c t b) .table ≡ (accepted c u b) .table
 unfolding accepted
-accepted-table (arrival j x y) t u b q = refl
-accepted-table (closing j) t u b q = refl
+accepted-table (arrival a) t u b q = refl
+accepted-table (closing c) t u b q = refl
 accepted-table (levelling allowance) t u b q = refl
-accepted-table (loadOf x) t u b q = absurd q
-accepted-table heaviestLoad t u b q = absurd q
-accepted-table (tightSetOf h list) t u b q = absurd q
-accepted-table formCheck t u b q = absurd q
-accepted-table levelCheck t u b q = absurd q
+accepted-table (ask k lent) t u b q = absurd q
 
 -- and no byte that such a call leaves does
 pub change-order-free : (c : Call) (t u : List ℕ) → T (sound t) → T (sound u) → decode t ≡ decode u → T (not (isQuestion c)) → isRefused ((outcome c t) .answer) ≡ false → (outcome c t) .table ≡ (outcome c u) .table
 change-order-free c t u s r e q n =
-    let m : isRefused ((outcome c u) .answer) ≡ false = ap isRefused (sym (answer-order-free c t u s r e)) ∙ n in
+    let m : isRefused ((outcome c u) .answer) ≡ false = ap isRefused (sym ((answer-order-free c t u s r e) .answer)) ∙ n in
     ap (λ o. o .table) ((accepted-by c t n) .1)
     ∙ ap (λ b. (accepted c t b) .table) e
     ∙ accepted-table c t u (decode u) q

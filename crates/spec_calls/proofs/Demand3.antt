@@ -9,9 +9,9 @@ use lib.ListN.{length, getD, replicate}
 use Rattle.spec_table.specs.Board.{Board, Valid, holderOf, stands, Shares, excess}
 use Rattle.spec_lists.specs.Lists.{empty}
 use Rattle.spec_table.specs.Table.{sizesFit, lengthFor, sound, decode}
-use Rattle.spec_sharing.specs.Sharing.{arrive, close, level, Levelled, relevel}
+use Rattle.spec_sharing.specs.Sharing.{close, level, Levelled, relevel}
 use Rattle.spec_calls.specs.Answers.{Answer, Outcome, isRefused}
-use Rattle.spec_calls.specs.Calls.{Call, arrival, closing, levelling, loadOf, heaviestLoad, tightSetOf, formCheck, levelCheck, blanking, outcome, arrivalOutcome, closingOutcome, levellingOutcome}
+use Rattle.spec_calls.specs.Calls.{Arriving, Closing, Call, arrival, closing, levelling, ask, blanking, outcome, arrivalOutcome, closingOutcome, levellingOutcome}
 use Rattle.spec_sharing.specs.Demand2.{Demand2}
 use Rattle.spec_calls.specs.JobBook.{Book, entered, tableAfter, OneLoad, Runs, AsDefined, Start, fromBlank, fromLevel, Claim, Demand3}
 use Rattle.spec_lists.proofs.Tests.{true→T}
@@ -24,7 +24,7 @@ use Rattle.spec_calls.proofs.JobBook.{refused-enters, question-enters}
 use Rattle.spec_sharing.proofs.Levels.{level-least, level-demand2}
 use Rattle.spec_sharing.proofs.KeepsLevel.{arrival-keeps-level, closing-keeps-level}
 use Rattle.spec_sharing.proofs.Levelling.{level-rests}
-use Rattle.spec_calls.proofs.Outcomes.{WritesBoard, AcceptedArrival, AcceptedClosing, Relevelled, Left, by-call}
+use Rattle.spec_calls.proofs.Outcomes.{WritesBoard, namable-some, namable-fit, arriveOn, AcceptedArrival, AcceptedClosing, Relevelled, Left, by-call}
 
 -- what a call leaves of a sound level table: such a table again, its jobs as the book has them, one load changed as the answer says
 record Carried (c : Call) (t : List ℕ) (o : Outcome) : Type 0 where
@@ -47,40 +47,39 @@ carried-as c t o a d e w l b n one =
 
 -- a refused call and a question change no load, and nothing in the book
 idle-load : (c : Call) (a : Answer) (b d : Board) → (isRefused a ≡ true) ⊎ T (isQuestion c) → OneLoad c a b d
-idle-load (arrival j x y) a b d (inl r) = λ n. absurd (false≢true (sym n ∙ r))
-idle-load (arrival j x y) a b d (inr q) = absurd q
-idle-load (closing j) a b d (inl r) = λ n. absurd (false≢true (sym n ∙ r))
-idle-load (closing j) a b d (inr q) = absurd q
+idle-load (arrival k) a b d (inl r) = λ n. absurd (false≢true (sym n ∙ r))
+idle-load (arrival k) a b d (inr q) = absurd q
+idle-load (closing k) a b d (inl r) = λ n. absurd (false≢true (sym n ∙ r))
+idle-load (closing k) a b d (inr q) = absurd q
 idle-load (levelling allowance) a b d i = tt
-idle-load (loadOf x) a b d i = tt
-idle-load heaviestLoad a b d i = tt
-idle-load (tightSetOf h list) a b d i = tt
-idle-load formCheck a b d i = tt
-idle-load levelCheck a b d i = tt
+idle-load (ask q lent) a b d i = tt
 
 idle-enters : (c : Call) (a : Answer) (k : Book) → (isRefused a ≡ true) ⊎ T (isQuestion c) → entered c (isRefused a) k ≡ k
 idle-enters c a k (inl r) = ap (λ (z : Bool). entered c z k) r ∙ refused-enters c k
-idle-enters c a k (inr q) = question-enters c (isRefused a) k q
+idle-enters (arrival c) a k (inr q) = absurd q
+idle-enters (closing c) a k (inr q) = absurd q
+idle-enters (levelling allowance) a k (inr q) = refl
+idle-enters (ask c lent) a k (inr q) = question-enters c lent (isRefused a) k
 
 module _ (t : List ℕ) (s : T (sound t)) (l : T (level (decode t))) where
   v : Valid (decode t)
   v = (sound-storable t s) .valid
 
-  carried-arrival : (j x y : ℕ) → AcceptedArrival t j x y (arrive (decode t) j (x ∷ y ∷ [])) → Carried (arrival j x y) t (outcome (arrival j x y) t)
+  carried-arrival : (k : Arriving) → AcceptedArrival t k (arriveOn t k) → Carried (arrival k) t (outcome (arrival k) t)
   unfolding arrivalOutcome
-  carried-arrival j x y a =
-      let c = arrive (decode t) j (x ∷ y ∷ []) in
+  carried-arrival k a =
+      let c = arriveOn t k in
       let m = a .may in
-      carried-as (arrival j x y) t (outcome (arrival j x y) t) ((arrivalOutcome j c) .answer) (c .board) (ap (λ o. o .answer) (a .is)) (a .writes)
-      (arrival-keeps-level (decode t) v l j (x ∷ y ∷ []) (m .number) (m .free) tt (m .fit))
-      (a .does .benches) (a .does .named) (λ n. (holderOf (c .board) j, c .bench, length (c .moved), refl, a .rose))
+      carried-as (arrival k) t (outcome (arrival k) t) ((arrivalOutcome (k .job) c) .answer) (c .board) (ap (λ o. o .answer) (a .is)) (a .writes)
+      (arrival-keeps-level (decode t) v l (k .job) (k .given) (m .number) (m .free) (namable-some (decode t) (k .given) (m .fit)) (namable-fit (decode t) (k .given) (m .fit)))
+      (a .does .benches) (a .does .named) (λ n. (holderOf (c .board) (k .job), c .bench, length (c .moved), refl, a .rose))
 
-  carried-closing : (j : ℕ) → AcceptedClosing t j (close (decode t) j) → Carried (closing j) t (outcome (closing j) t)
+  carried-closing : (k : Closing) → AcceptedClosing t k (close (decode t) (k .job)) → Carried (closing k) t (outcome (closing k) t)
   unfolding closingOutcome
-  carried-closing j a =
-      let c = close (decode t) j in
-      carried-as (closing j) t (outcome (closing j) t) ((closingOutcome c) .answer) (c .board) (ap (λ o. o .answer) (a .is)) (a .writes)
-      (closing-keeps-level (decode t) v l j (a .stood)) (a .does .benches) (a .does .named) (λ n. (c .bench, length (c .moved), refl, a .fell))
+  carried-closing k a =
+      let c = close (decode t) (k .job) in
+      carried-as (closing k) t (outcome (closing k) t) ((closingOutcome c) .answer) (c .board) (ap (λ o. o .answer) (a .is)) (a .writes)
+      (closing-keeps-level (decode t) v l (k .job) (a .stood)) (a .does .benches) (a .does .named) (λ n. (c .bench, length (c .moved), refl, a .fell))
 
   -- a levelling finds nothing to turn
   carried-levelling : (allowance : ℕ) → Relevelled t allowance (relevel allowance (decode t)) → Carried (levelling allowance) t (outcome (levelling allowance) t)

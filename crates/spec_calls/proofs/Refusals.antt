@@ -1,5 +1,5 @@
--- Demand 1 of the definitions: a call is refused exactly if a condition of it holds, with the lowest number whose condition
--- holds; a refused call and a question leave the table as it was.
+-- Demand 1 of the definitions: a call is refused exactly if a condition of it holds, with the first of its order whose
+-- condition holds; a refused call and a question leave the table as it was.
 use Prim.Native.Nat.{ℕ}
 use mathlib.Core.Path.{_≡_, refl, sym, ap, _∙_}
 use mathlib.Core.Logic.{_⊎_, inl, inr}
@@ -11,16 +11,35 @@ use Rattle.spec_lists.specs.Lists.{range, Each}
 use Rattle.spec_table.specs.Table.{decode}
 use Rattle.spec_sharing.specs.Sharing.{level, relevel}
 use Rattle.spec_table.specs.Board.{Board}
-use Rattle.spec_calls.specs.Answers.{Refusal, Condition, refusalNumber, inNumbers, firstHolding, isRefused, refusedOr, refused, levelYes, levelNo, levelled, stopped, sizes, unsound, jobNumber, benchNumber, alreadyStanding, notStanding, height, listTooShort, countFull, unreadable}
-use Rattle.spec_calls.specs.Calls.{Call, arrival, closing, levelling, loadOf, heaviestLoad, tightSetOf, formCheck, levelCheck, formConditions, conditions, lentList, accepted, outcome, arrivalOutcome, closingOutcome, levellingOutcome, tightSetOutcome}
+use Rattle.spec_calls.specs.Answers.{Refusal, Condition, refusalNumber, inNumbers, firstHolding, isRefused, refusedOr, refused, said, levelYes, levelNo, levelled, stopped, sizes, unsound, jobNumber, benchNumber, alreadyStanding, notStanding, height, listTooShort, countFull, unreadable}
+use Rattle.spec_calls.specs.Calls.{Question, loadOf, heaviestLoad, tightSetOf, formCheck, levelCheck, Call, arrival, closing, levelling, ask, formConditions, questionConditions, conditions, refusals, questionOrder, order, lentTo, accepted, outcome, arrivalOutcome, closingOutcome, levellingOutcome}
 
 -- "returned": 1 to 10, in the table's order
 pub refusals-told : map refusalNumber (sizes ∷ unsound ∷ jobNumber ∷ benchNumber ∷ alreadyStanding ∷ notStanding ∷ height ∷ listTooShort ∷ countFull ∷ unreadable ∷ []) ≡ range 1 10
 refusals-told = refl
 
 -- a level check's and a levelling's answers in numbers: yes and level are 1, no and stopped 0
-pub level-told : (n : ℕ) → map inNumbers (levelYes ∷ levelNo ∷ levelled n ∷ stopped n ∷ []) ≡ (0 ∷ 1 ∷ []) ∷ (0 ∷ 0 ∷ []) ∷ (0 ∷ n ∷ 1 ∷ []) ∷ (0 ∷ n ∷ 0 ∷ []) ∷ []
+pub level-told : (n : ℕ) → map (λ f. inNumbers (said f)) (levelYes ∷ levelNo ∷ levelled n ∷ stopped n ∷ []) ≡ (0 ∷ 1 ∷ []) ∷ (0 ∷ 0 ∷ []) ∷ (0 ∷ n ∷ 1 ∷ []) ∷ (0 ∷ n ∷ 0 ∷ []) ∷ []
 level-told n = refl
+
+-- the numbers of conditions, in their order
+abbrev numbersOf : List Condition → List ℕ
+numbersOf = map (λ k. refusalNumber (k .refusal))
+
+-- a call's conditions stand in the call's own order
+pub conditions-ordered : (c : Call) (t : List ℕ) → numbersOf (refusals c t) ≡ order c
+unfolding refusals conditions questionConditions
+conditions-ordered (arrival a) t = refl
+conditions-ordered (closing c) t = refl
+conditions-ordered (levelling allowance) t = refl
+conditions-ordered (ask q lent) t = asked q
+  where
+    asked : (q : Question) → numbersOf (formConditions t ++ questionConditions q lent (decode t)) ≡ questionOrder q
+    asked (loadOf x) = refl
+    asked heaviestLoad = refl
+    asked (tightSetOf h) = refl
+    asked formCheck = refl
+    asked levelCheck = refl
 
 -- each number is below the next
 abbrev rise : List ℕ → Bool
@@ -28,17 +47,19 @@ rise [] = true
 rise (m ∷ []) = true
 rise (m ∷ n ∷ l) = ltb m n && rise (n ∷ l)
 
--- the numbers of a call's conditions rise in their order, so that the first that holds is the lowest
-pub conditions-rise : (c : Call) (t : List ℕ) → T (rise (map (λ k. refusalNumber (k .refusal)) (formConditions t ++ conditions c (decode t))))
-unfolding conditions
-conditions-rise (arrival j x y) t = tt
-conditions-rise (closing j) t = tt
-conditions-rise (levelling allowance) t = tt
-conditions-rise (loadOf x) t = tt
-conditions-rise heaviestLoad t = tt
-conditions-rise (tightSetOf h list) t = tt
-conditions-rise formCheck t = tt
-conditions-rise levelCheck t = tt
+-- "Where several apply, the lowest number is returned": in each call's order the numbers rise
+pub order-rises : (c : Call) → T (rise (order c))
+order-rises (arrival a) = tt
+order-rises (closing c) = tt
+order-rises (levelling allowance) = tt
+order-rises (ask q lent) = asked q
+  where
+    asked : (q : Question) → T (rise (questionOrder q))
+    asked (loadOf x) = tt
+    asked heaviestLoad = tt
+    asked (tightSetOf h) = tt
+    asked formCheck = tt
+    asked levelCheck = tt
 
 -- r is the refusal of a condition that holds, and no condition before it does
 abbrev pub FirstIs : Refusal → List Condition → Type 0
@@ -74,86 +95,60 @@ first-stays (c ∷ cs) ds r e = go (c .holds) e (λ d. first-stays cs ds r d)
 
 -- an accepted call's answer is no refusal
 pub accepted-answers : (c : Call) (t : List ℕ) (b : Board) → isRefused ((accepted c t b) .answer) ≡ false
-unfolding accepted arrivalOutcome closingOutcome levellingOutcome tightSetOutcome
-accepted-answers (arrival j x y) t b = refl
-accepted-answers (closing j) t b = refl
-accepted-answers (levelling allowance) t b = go (level ((relevel allowance b) .board))
-  where
-    go : (z : Bool) → isRefused (cond z (levelled ((relevel allowance b) .paths)) (stopped ((relevel allowance b) .paths))) ≡ false
-    go true = refl
-    go false = refl
-accepted-answers (loadOf x) t b = refl
-accepted-answers heaviestLoad t b = refl
-accepted-answers (tightSetOf h list) t b = refl
-accepted-answers formCheck t b = refl
-accepted-answers levelCheck t b = go (level b)
-  where
-    go : (z : Bool) → isRefused (cond z levelYes levelNo) ≡ false
-    go true = refl
-    go false = refl
+unfolding accepted arrivalOutcome closingOutcome levellingOutcome
+accepted-answers (arrival a) t b = refl
+accepted-answers (closing c) t b = refl
+accepted-answers (levelling allowance) t b = refl
+accepted-answers (ask q lent) t b = refl
 
 -- a table that 1 or 2 refuses is refused so by every call
 pub form-stops : (c : Call) (t : List ℕ) (r : Refusal) → firstHolding (formConditions t) ≡ some r → (outcome c t) .answer ≡ refused r
-unfolding outcome
+unfolding outcome refusals
 form-stops c t r e = rw (first-stays (formConditions t) (conditions c (decode t)) r e)
 
 -- a refused call names the first condition that holds, and leaves every lent byte
 pub record RefusedBy (r : Refusal) (c : Call) (t : List ℕ) : Type 0 where
-  pub condition : FirstIs r (formConditions t ++ conditions c (decode t))
+  pub condition : FirstIs r (refusals c t)
   pub table : (outcome c t) .table ≡ t
-  pub list : (outcome c t) .list ≡ lentList c
+  pub lent : (outcome c t) .lent ≡ lentTo c
 
 pub refused-by : (c : Call) (t : List ℕ) (r : Refusal) → (outcome c t) .answer ≡ refused r → RefusedBy r c t
 unfolding outcome
 refused-by c t r e = go (firstHolding cs) refl e
   where
     cs : List Condition
-    cs = formConditions t ++ conditions c (decode t)
+    cs = refusals c t
 
-    go : (o : Option Refusal) → firstHolding cs ≡ o → (refusedOr o t (lentList c) (accepted c t (decode t))) .answer ≡ refused r → RefusedBy r c t
+    go : (o : Option Refusal) → firstHolding cs ≡ o → (refusedOr o t (lentTo c) (accepted c t (decode t))) .answer ≡ refused r → RefusedBy r c t
     go none f d = absurd (false≢true (sym (accepted-answers c t (decode t)) ∙ ap isRefused d))
     go (some s) f d =
         let same : s ≡ r = cc in
-        record { condition = first-is cs r (f ∙ ap {B = Option Refusal} some same); table = ap (λ o. (refusedOr o t (lentList c) (accepted c t (decode t))) .table) f; list = ap (λ o. (refusedOr o t (lentList c) (accepted c t (decode t))) .list) f }
+        record { condition = first-is cs r (f ∙ ap {B = Option Refusal} some same); table = ap (λ o. (refusedOr o t (lentTo c) (accepted c t (decode t))) .table) f; lent = ap (λ o. (refusedOr o t (lentTo c) (accepted c t (decode t))) .lent) f }
 
 -- a call that is not refused does what it says: no condition holds, and the outcome is the accepted one
-pub accepted-by : (c : Call) (t : List ℕ) → isRefused ((outcome c t) .answer) ≡ false → Each (λ k. k .holds ≡ false) (formConditions t ++ conditions c (decode t)) × (outcome c t ≡ accepted c t (decode t))
+pub accepted-by : (c : Call) (t : List ℕ) → isRefused ((outcome c t) .answer) ≡ false → Each (λ k. k .holds ≡ false) (refusals c t) × (outcome c t ≡ accepted c t (decode t))
 unfolding outcome
 accepted-by c t e = go (firstHolding cs) refl e
   where
     cs : List Condition
-    cs = formConditions t ++ conditions c (decode t)
+    cs = refusals c t
 
-    go : (o : Option Refusal) → firstHolding cs ≡ o → isRefused ((refusedOr o t (lentList c) (accepted c t (decode t))) .answer) ≡ false → Each (λ k. k .holds ≡ false) cs × (outcome c t ≡ accepted c t (decode t))
-    go none f d = (none-holds cs f, ap (λ o. refusedOr o t (lentList c) (accepted c t (decode t))) f)
+    go : (o : Option Refusal) → firstHolding cs ≡ o → isRefused ((refusedOr o t (lentTo c) (accepted c t (decode t))) .answer) ≡ false → Each (λ k. k .holds ≡ false) cs × (outcome c t ≡ accepted c t (decode t))
+    go none f d = (none-holds cs f, ap (λ o. refusedOr o t (lentTo c) (accepted c t (decode t))) f)
     go (some s) f d = absurd (false≢true (sym d))
 
 -- the calls that ask and change nothing
 abbrev pub isQuestion : Call → Bool
-isQuestion (arrival j x y) = false
-isQuestion (closing j) = false
+isQuestion (arrival a) = false
+isQuestion (closing c) = false
 isQuestion (levelling allowance) = false
-isQuestion (loadOf x) = true
-isQuestion heaviestLoad = true
-isQuestion (tightSetOf h list) = true
-isQuestion formCheck = true
-isQuestion levelCheck = true
+isQuestion (ask q lent) = true
 
 -- "the questions, which change no table byte"
-pub question-leaves : (c : Call) (t : List ℕ) → T (isQuestion c) → (outcome c t) .table ≡ t
-unfolding outcome accepted tightSetOutcome
-question-leaves c t q = go (firstHolding (formConditions t ++ conditions c (decode t)))
+pub question-leaves : (q : Question) (lent t : List ℕ) → (outcome (ask q lent) t) .table ≡ t
+unfolding outcome accepted
+question-leaves q lent t = go (firstHolding (refusals (ask q lent) t))
   where
-    asked : (c : Call) → T (isQuestion c) → (accepted c t (decode t)) .table ≡ t
-    asked (arrival j x y) p = absurd p
-    asked (closing j) p = absurd p
-    asked (levelling allowance) p = absurd p
-    asked (loadOf x) p = refl
-    asked heaviestLoad p = refl
-    asked (tightSetOf h list) p = refl
-    asked formCheck p = refl
-    asked levelCheck p = refl
-
-    go : (o : Option Refusal) → (refusedOr o t (lentList c) (accepted c t (decode t))) .table ≡ t
-    go none = asked c q
+    go : (o : Option Refusal) → (refusedOr o t lent (accepted (ask q lent) t (decode t))) .table ≡ t
+    go none = refl
     go (some s) = refl

@@ -6,7 +6,7 @@ use mathlib.Core.Logic.{_↔_}
 use mathlib.Core.Bool.{Bool, true, false, cond, _&&_, false≢true}
 use mathlib.Core.Option.{none, some, Option·some-injective, Option·none-ne-some, Option·some-ne-none}
 use lib.Dec.{T, leb}
-use Rattle.spec_calls.specs.Answers.{Refusal, Answer, countFull, refused, blanked, arrived, closed, loadIs, heaviestIs, tightSetIs, isSound, levelYes, levelNo, levelled, stopped}
+use Rattle.spec_calls.specs.Answers.{Refusal, Answer, countFull, refused, arrived, closed, said}
 use Rattle.spec_calls.specs.Tally.{Tally, Noted, mostCount, countsFit, raised, unchanged, noted}
 use Rattle.spec_lists.proofs.Tests.{true→T, both, left, right, T-leb, leb-T}
 
@@ -84,15 +84,7 @@ abbrev pub isChange : Answer → Bool
 isChange (arrived holder rose moved) = true
 isChange (closed fell moved) = true
 isChange (refused r) = false
-isChange blanked = false
-isChange (loadIs n) = false
-isChange (heaviestIs n) = false
-isChange (tightSetIs benches inside) = false
-isChange isSound = false
-isChange levelYes = false
-isChange levelNo = false
-isChange (levelled paths) = false
-isChange (stopped paths) = false
+isChange (said f) = false
 
 -- the three ways of noting an answer
 pub data Noting (t : Tally) : Answer → Noted → Type 0 where
@@ -105,15 +97,7 @@ unfolding noted
 noted-is t (arrived holder rose moved) = ofArrival holder rose moved
 noted-is t (closed fell moved) = ofClosing fell moved
 noted-is t (refused r) = ofOther (refused r) refl
-noted-is t blanked = ofOther blanked refl
-noted-is t (loadIs n) = ofOther (loadIs n) refl
-noted-is t (heaviestIs n) = ofOther (heaviestIs n) refl
-noted-is t (tightSetIs benches inside) = ofOther (tightSetIs benches inside) refl
-noted-is t isSound = ofOther isSound refl
-noted-is t levelYes = ofOther levelYes refl
-noted-is t levelNo = ofOther levelNo refl
-noted-is t (levelled paths) = ofOther (levelled paths) refl
-noted-is t (stopped paths) = ofOther (stopped paths) refl
+noted-is t (said f) = ofOther (said f) refl
 
 -- .. and "noting a refusal or another call's answer changes none"
 pub other-noted : (t : Tally) (a : Answer) → isChange a ≡ false → noted t a ≡ unchanged t

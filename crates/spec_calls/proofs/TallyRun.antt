@@ -11,9 +11,9 @@ use lib.ListN.{length}
 use Rattle.spec_lists.specs.Lists.{bit, within, filter, empty, update}
 use Rattle.spec_table.specs.Board.{Board, stands, standing}
 use Rattle.spec_table.specs.Table.{sizesFit, lengthFor, sound, decode, blankTable}
-use Rattle.spec_sharing.specs.Sharing.{arrive, close, relevel}
+use Rattle.spec_sharing.specs.Sharing.{close, relevel}
 use Rattle.spec_calls.specs.Answers.{Answer, Outcome}
-use Rattle.spec_calls.specs.Calls.{Call, arrival, closing, levelling, outcome, arrivalOutcome, closingOutcome, levellingOutcome}
+use Rattle.spec_calls.specs.Calls.{Arriving, Closing, Call, arrival, closing, levelling, outcome, arrivalOutcome, closingOutcome, levellingOutcome}
 use Rattle.spec_calls.specs.JobBook.{tableAfter, Runs, AsDefined}
 use Rattle.spec_calls.specs.Tally.{Tally, Noted, zeroTally, noted, tallyAfter, NoNine}
 use Rattle.spec_lists.proofs.Tests.{true→T, T→true, not→false, within-low, within-high}
@@ -21,7 +21,7 @@ use Rattle.spec_lists.proofs.Counting.{filter-update}
 use Rattle.spec_table.proofs.Places.{sized}
 use Rattle.spec_calls.proofs.Blanking.{standing-empty, blank-sound, blank-decodes}
 use Rattle.spec_sharing.proofs.Paths.{stands-within}
-use Rattle.spec_calls.proofs.Outcomes.{WritesBoard, AcceptedArrival, AcceptedClosing, levelling-quiet, by-call}
+use Rattle.spec_calls.proofs.Outcomes.{WritesBoard, namable-some, arriveOn, AcceptedArrival, AcceptedClosing, levelling-quiet, by-call}
 use Rattle.spec_calls.proofs.Tally.{isChange, raised-new, other-noted}
 
 -- arrivals are closings and the jobs standing together
@@ -48,27 +48,28 @@ keeps-as t o a d e w f =
     }
 
 module _ (t : List ℕ) (s : T (sound t)) where
-  keeps-arrival : (j x y : ℕ) → AcceptedArrival t j x y (arrive (decode t) j (x ∷ y ∷ [])) → Keeps t (outcome (arrival j x y) t)
+  keeps-arrival : (k : Arriving) → AcceptedArrival t k (arriveOn t k) → Keeps t (outcome (arrival k) t)
   unfolding arrivalOutcome noted
-  keeps-arrival j x y a =
-      let c = arrive (decode t) j (x ∷ y ∷ []) in
-      keeps-as t (outcome (arrival j x y) t) ((arrivalOutcome j c) .answer) (c .board) (ap (λ o. o .answer) (a .is)) (a .writes)
+  keeps-arrival k a =
+      let c = arriveOn t k in
+      keeps-as t (outcome (arrival k) t) ((arrivalOutcome (k .job) c) .answer) (c .board) (ap (λ o. o .answer) (a .is)) (a .writes)
       (λ z b n.
       let new : Tally = record { arrivals = z .arrivals + 1; closings = z .closings; moved = z .moved + length (c .moved) } in
       let r = raised-new z new n in
-      let q = standing-written (decode t) j (x ∷ y ∷ []) (c .board) (a .may .number) (a .does .named) in
-      omega (arith, ap (λ (u : Tally). u .arrivals) r, ap (λ (u : Tally). u .closings) r, ap bit (not→false (stands (decode t) j) (a .may .free))))
+      let q = standing-written (decode t) (k .job) (k .given) (c .board) (a .may .number) (a .does .named) in
+      let some : bit (not (empty (k .given))) ≡ 1 = ap bit (T→true (not (empty (k .given))) (namable-some (decode t) (k .given) (a .may .fit))) in
+      omega (arith, q, some, ap (λ (u : Tally). u .arrivals) r, ap (λ (u : Tally). u .closings) r, ap bit (not→false (stands (decode t) (k .job)) (a .may .free))))
 
-  keeps-closing : (j : ℕ) → AcceptedClosing t j (close (decode t) j) → Keeps t (outcome (closing j) t)
+  keeps-closing : (k : Closing) → AcceptedClosing t k (close (decode t) (k .job)) → Keeps t (outcome (closing k) t)
   unfolding closingOutcome noted
-  keeps-closing j a =
-      let c = close (decode t) j in
-      keeps-as t (outcome (closing j) t) ((closingOutcome c) .answer) (c .board) (ap (λ o. o .answer) (a .is)) (a .writes)
+  keeps-closing k a =
+      let c = close (decode t) (k .job) in
+      keeps-as t (outcome (closing k) t) ((closingOutcome c) .answer) (c .board) (ap (λ o. o .answer) (a .is)) (a .writes)
       (λ z b n.
       let new : Tally = record { arrivals = z .arrivals; closings = z .closings + 1; moved = z .moved + length (c .moved) } in
       let r = raised-new z new n in
-      let q = standing-written (decode t) j [] (c .board) (stands-within (decode t) j (a .stood)) (a .does .named) in
-      omega (arith, ap (λ (u : Tally). u .arrivals) r, ap (λ (u : Tally). u .closings) r, ap bit (T→true (stands (decode t) j) (a .stood))))
+      let q = standing-written (decode t) (k .job) [] (c .board) (stands-within (decode t) (k .job) (a .stood)) (a .does .named) in
+      omega (arith, ap (λ (u : Tally). u .arrivals) r, ap (λ (u : Tally). u .closings) r, ap bit (T→true (stands (decode t) (k .job)) (a .stood))))
 
   -- where nothing is counted, the same jobs stand
   keeps-quiet : (o : Outcome) (a : Answer) (d : Board) → o .answer ≡ a → WritesBoard (o .table) d → isChange a ≡ false → d .named ≡ (decode t) .named → Keeps t o

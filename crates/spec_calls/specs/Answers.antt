@@ -21,56 +21,56 @@ refusalNumber listTooShort = 8
 refusalNumber countFull = 9
 refusalNumber unreadable = 10
 
+-- what a call says that is neither an arrival's nor a closing's answer. A tight set: benches, inside jobs. A
+-- levelling: paths turned, and level or stopped
+pub data Fact : Type 0 where
+  blanked : Fact
+  loadIs : ℕ → Fact
+  heaviestIs : ℕ → Fact
+  tightSetIs : ℕ → ℕ → Fact
+  isSound : Fact
+  levelYes levelNo : Fact
+  levelled stopped : ℕ → Fact
+
 -- what a call answers. An arrival: the holder of the new job, the bench whose load rose, other jobs moved. A closing:
--- the bench whose load fell, jobs moved. A tight set: benches, inside jobs. A levelling: paths turned, and level or
--- stopped
+-- the bench whose load fell, jobs moved
 pub data Answer : Type 0 where
   refused : Refusal → Answer
-  blanked : Answer
   arrived : ℕ → ℕ → ℕ → Answer
   closed : ℕ → ℕ → Answer
-  loadIs : ℕ → Answer
-  heaviestIs : ℕ → Answer
-  tightSetIs : ℕ → ℕ → Answer
-  isSound : Answer
-  levelYes levelNo : Answer
-  levelled stopped : ℕ → Answer
+  said : Fact → Answer
 
--- an answer in this paper's numbers: the refusal's number, or 0 and the values; yes and level are 1, no and stopped 0
+-- a fact's values; yes and level are 1, no and stopped 0
+abbrev pub factValues : Fact → List ℕ
+factValues blanked = []
+factValues (loadIs n) = n ∷ []
+factValues (heaviestIs n) = n ∷ []
+factValues (tightSetIs benches inside) = benches ∷ inside ∷ []
+factValues isSound = []
+factValues levelYes = 1 ∷ []
+factValues levelNo = 0 ∷ []
+factValues (levelled paths) = paths ∷ 1 ∷ []
+factValues (stopped paths) = paths ∷ 0 ∷ []
+
+-- an answer in this paper's numbers: the refusal's number, or 0 and the values
 abbrev pub inNumbers : Answer → List ℕ
 inNumbers (refused r) = refusalNumber r ∷ []
-inNumbers blanked = 0 ∷ []
 inNumbers (arrived holder rose moved) = 0 ∷ holder ∷ rose ∷ moved ∷ []
 inNumbers (closed fell moved) = 0 ∷ fell ∷ moved ∷ []
-inNumbers (loadIs n) = 0 ∷ n ∷ []
-inNumbers (heaviestIs n) = 0 ∷ n ∷ []
-inNumbers (tightSetIs benches inside) = 0 ∷ benches ∷ inside ∷ []
-inNumbers isSound = 0 ∷ []
-inNumbers levelYes = 0 ∷ 1 ∷ []
-inNumbers levelNo = 0 ∷ 0 ∷ []
-inNumbers (levelled paths) = 0 ∷ paths ∷ 1 ∷ []
-inNumbers (stopped paths) = 0 ∷ paths ∷ 0 ∷ []
+inNumbers (said f) = 0 ∷ factValues f
 
 -- the call was refused
 abbrev pub isRefused : Answer → Bool
 isRefused (refused r) = true
-isRefused blanked = false
 isRefused (arrived holder rose moved) = false
 isRefused (closed fell moved) = false
-isRefused (loadIs n) = false
-isRefused (heaviestIs n) = false
-isRefused (tightSetIs benches inside) = false
-isRefused isSound = false
-isRefused levelYes = false
-isRefused levelNo = false
-isRefused (levelled paths) = false
-isRefused (stopped paths) = false
+isRefused (said f) = false
 
--- what a call leaves: its answer, the table's bytes, and the bytes of the lent list
+-- what a call leaves: its answer, the table's bytes, and the bytes lent beside the table
 pub record Outcome : Type 0 where
   pub answer : Answer
   pub table : List ℕ
-  pub list : List ℕ
+  pub lent : List ℕ
 
 -- a condition under which a call is refused
 pub record Condition : Type 0 where
@@ -89,9 +89,9 @@ firstHolding (c ∷ cs) = let r = firstHolding cs in cond (c .holds) (some (c .r
 
 -- the accepted outcome, or the refusal with every lent byte as it was: "A refused call changes no lent byte"
 abbrev pub refusedOr : Option Refusal → List ℕ → List ℕ → Outcome → Outcome
-refusedOr none table list accepted = accepted
-refusedOr (some r) table list accepted = record { answer = refused r; table = table; list = list }
+refusedOr none table lent accepted = accepted
+refusedOr (some r) table lent accepted = record { answer = refused r; table = table; lent = lent }
 
 -- the accepted outcome where no condition holds, else the refusal
 abbrev pub unless : List Condition → List ℕ → List ℕ → Outcome → Outcome
-unless conditions table list accepted = refusedOr (firstHolding conditions) table list accepted
+unless conditions table lent accepted = refusedOr (firstHolding conditions) table lent accepted

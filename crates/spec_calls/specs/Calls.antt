@@ -1,7 +1,7 @@
--- Each call as a function from what it is lent (table bytes, list bytes, numbers of any size) to what it leaves: its
--- answer, and every lent byte.
+-- Each call as a function from what it is lent (table bytes, bytes beside them, numbers of any size) to what it
+-- leaves: its answer, and every lent byte.
 use Prim.Native.Nat.{ℕ, _*_}
-use mathlib.Core.Bool.{Bool, cond, not, _||_}
+use mathlib.Core.Bool.{Bool, cond, not, _&&_, _||_}
 use mathlib.Core.List.{List, [], _∷_, _++_}
 use lib.Dec.{T, eqb, ltb}
 use lib.ListN.{length, drop}
@@ -9,18 +9,32 @@ use Rattle.spec_lists.specs.Lists.{within}
 use Rattle.spec_table.specs.Board.{Board, holderOf, stands, load, heaviest, namesFit}
 use Rattle.spec_table.specs.Table.{bytesOf, sizesFit, fits, sound, decode, encode, blankTable}
 use Rattle.spec_sharing.specs.Sharing.{Change, arrive, close, level, Levelled, relevel, tightSet, inside}
-use Rattle.spec_calls.specs.Answers.{Answer, Outcome, Condition, refuse, unless, sizes, unsound, jobNumber, benchNumber, alreadyStanding, notStanding, height, listTooShort, blanked, arrived, closed, loadIs, heaviestIs, tightSetIs, isSound, levelYes, levelNo, levelled, stopped}
+use Rattle.spec_calls.specs.Answers.{Fact, Outcome, Condition, refuse, unless, sizes, unsound, jobNumber, benchNumber, alreadyStanding, notStanding, height, listTooShort, arrived, closed, said, blanked, loadIs, heaviestIs, tightSetIs, isSound, levelYes, levelNo, levelled, stopped}
 
--- a call on a table: its numbers, and for a tight set the bytes of the lent list
+-- what an arrival is given: the job's number, and the benches it names
+pub record Arriving : Type 0 where
+  pub job : ℕ
+  pub given : List ℕ
+
+-- what a closing is given
+pub record Closing : Type 0 where
+  pub job : ℕ
+
+-- "the questions, which change no table byte": a bench's load, the heaviest load, the tight set of a height, the form
+-- check, the level check
+pub data Question : Type 0 where
+  loadOf : ℕ → Question
+  heaviestLoad : Question
+  tightSetOf : ℕ → Question
+  formCheck : Question
+  levelCheck : Question
+
+-- a call on a table; a levelling has its allowance, a question the bytes lent beside the table, [] for none
 pub data Call : Type 0 where
-  arrival : ℕ → ℕ → ℕ → Call
-  closing : ℕ → Call
+  arrival : Arriving → Call
+  closing : Closing → Call
   levelling : ℕ → Call
-  loadOf : ℕ → Call
-  heaviestLoad : Call
-  tightSetOf : ℕ → List ℕ → Call
-  formCheck : Call
-  levelCheck : Call
+  ask : Question → List ℕ → Call
 
 -- 1 and 2: what every call on a table tests first
 abbrev pub formConditions : List ℕ → List Condition
@@ -34,44 +48,64 @@ noJob b j = not (within 1 (length (b .named)) j)
 abbrev pub noBench : Board → ℕ → Bool
 noBench b x = not (within 1 (b .benches) x)
 
--- what 3, 4 and 5 leave through: a number of 1 to J that does not stand, and two different benches of 1 to B
-pub record MayArrive (b : Board) (j x y : ℕ) : Type 0 where
-  pub number : T (within 1 (length (b .named)) j)
-  pub free : T (not (stands b j))
-  pub fit : T (namesFit (b .benches) (x ∷ y ∷ []))
+-- what 4 denies of an arrival's benches: two different ones of 1 to B
+abbrev pub namable : Board → List ℕ → Bool
+namable b given = eqb (length given) 2 && namesFit (b .benches) given
+
+-- what 3, 4 and 5 leave through: a number of 1 to J that does not stand, and benches that a job may name
+pub record MayArrive (b : Board) (a : Arriving) : Type 0 where
+  pub number : T (within 1 (length (b .named)) (a .job))
+  pub free : T (not (stands b (a .job)))
+  pub fit : T (namable b (a .given))
+
+-- when each question is refused, from 3 on, in the order that counts
+unfoldable pub questionConditions : Question → List ℕ → Board → List Condition
+questionConditions (loadOf x) lent b = refuse benchNumber (noBench b x) ∷ []
+questionConditions heaviestLoad lent b = []
+questionConditions (tightSetOf h) lent b =
+    refuse height (eqb h 0 || ltb (heaviest b) h)
+    ∷ refuse listTooShort (ltb (length lent) (2 * length (tightSet b h)))
+    ∷ []
+questionConditions formCheck lent b = []
+questionConditions levelCheck lent b = []
 
 -- when each call is refused, from 3 on, in the order that counts
 unfoldable pub conditions : Call → Board → List Condition
-conditions (arrival j x y) b =
-    refuse jobNumber (noJob b j)
-    ∷ refuse benchNumber (noBench b x || noBench b y || eqb x y)
-    ∷ refuse alreadyStanding (stands b j)
+conditions (arrival a) b =
+    refuse jobNumber (noJob b (a .job))
+    ∷ refuse benchNumber (not (namable b (a .given)))
+    ∷ refuse alreadyStanding (stands b (a .job))
     ∷ []
-conditions (closing j) b = refuse jobNumber (noJob b j) ∷ refuse notStanding (not (stands b j)) ∷ []
+conditions (closing c) b =
+    refuse jobNumber (noJob b (c .job)) ∷ refuse notStanding (not (stands b (c .job))) ∷ []
 conditions (levelling allowance) b = []
-conditions (loadOf x) b = refuse benchNumber (noBench b x) ∷ []
-conditions heaviestLoad b = []
-conditions (tightSetOf h list) b =
-    refuse height (eqb h 0 || ltb (heaviest b) h)
-    ∷ refuse listTooShort (ltb (length list) (2 * length (tightSet b h)))
-    ∷ []
-conditions formCheck b = []
-conditions levelCheck b = []
+conditions (ask q lent) b = questionConditions q lent b
 
--- the bytes of the list that is lent to a call
-abbrev pub lentList : Call → List ℕ
-lentList (arrival j x y) = []
-lentList (closing j) = []
-lentList (levelling allowance) = []
-lentList (loadOf x) = []
-lentList heaviestLoad = []
-lentList (tightSetOf h list) = list
-lentList formCheck = []
-lentList levelCheck = []
+-- when each call is refused: the whole list, in the order that counts
+unfoldable pub refusals : Call → List ℕ → List Condition
+refusals c t = formConditions t ++ conditions c (decode t)
 
--- a question's outcome: the table's bytes as they were
-abbrev pub answering : List ℕ → Answer → Outcome
-answering t a = record { answer = a; table = t; list = [] }
+-- the numbers that a question may be refused with, in the order that counts
+abbrev pub questionOrder : Question → List ℕ
+questionOrder (loadOf x) = 1 ∷ 2 ∷ 4 ∷ []
+questionOrder heaviestLoad = 1 ∷ 2 ∷ []
+questionOrder (tightSetOf h) = 1 ∷ 2 ∷ 7 ∷ 8 ∷ []
+questionOrder formCheck = 1 ∷ 2 ∷ []
+questionOrder levelCheck = 1 ∷ 2 ∷ []
+
+-- the numbers that a call may be refused with, in the order that counts
+abbrev pub order : Call → List ℕ
+order (arrival a) = 1 ∷ 2 ∷ 3 ∷ 4 ∷ 5 ∷ []
+order (closing c) = 1 ∷ 2 ∷ 3 ∷ 6 ∷ []
+order (levelling allowance) = 1 ∷ 2 ∷ []
+order (ask q lent) = questionOrder q
+
+-- the bytes that are lent to a call beside the table
+abbrev pub lentTo : Call → List ℕ
+lentTo (arrival a) = []
+lentTo (closing c) = []
+lentTo (levelling allowance) = []
+lentTo (ask q lent) = lent
 
 -- "the bench that holds the new job in the end, the bench whose load rose, and the number of other jobs that changed
 -- holder"
@@ -80,50 +114,66 @@ arrivalOutcome j c =
     record {
       answer = arrived (holderOf (c .board) j) (c .bench) (length (c .moved));
       table = encode (c .board);
-      list = [];
+      lent = [];
     }
 
 -- "the bench whose load fell, and the jobs that changed holder"
 unfoldable pub closingOutcome : Change → Outcome
 closingOutcome c =
-    record { answer = closed (c .bench) (length (c .moved)); table = encode (c .board); list = [] }
+    record { answer = closed (c .bench) (length (c .moved)); table = encode (c .board); lent = [] }
 
 -- "It reports the paths turned, and "level" if no improving path is left, else "stopped"."
 unfoldable pub levellingOutcome : Levelled → Outcome
 levellingOutcome r =
     record {
-      answer = cond (level (r .board)) (levelled (r .paths)) (stopped (r .paths));
+      answer = said (cond (level (r .board)) (levelled (r .paths)) (stopped (r .paths)));
       table = encode (r .board);
-      list = [];
+      lent = [];
     }
+
+-- what a question tells: a fact, and what is now in the bytes lent to it
+pub record Told : Type 0 where
+  pub fact : Fact
+  pub lent : List ℕ
+
+-- a fact, and the lent bytes as they were
+abbrev pub telling : Fact → List ℕ → Told
+telling f lent = record { fact = f; lent = lent }
 
 -- "the number of benches, the number of jobs with both benches inside, and the bench numbers, rising, as words in a
 -- lent list of bytes; the list beyond them is untouched"
-unfoldable pub tightSetOutcome : List ℕ → Board → List ℕ → List ℕ → Outcome
-tightSetOutcome t b set list =
+unfoldable pub tightSetTold : Board → List ℕ → List ℕ → Told
+tightSetTold b set list =
     record {
-      answer = tightSetIs (length set) (inside set (b .named));
-      table = t;
-      list = bytesOf set ++ drop (2 * length set) list;
+      fact = tightSetIs (length set) (inside set (b .named));
+      lent = bytesOf set ++ drop (2 * length set) list;
     }
+
+-- what an accepted question tells of a board
+unfoldable pub asked : Question → List ℕ → Board → Told
+asked (loadOf x) lent b = telling (loadIs (load (b .holders) x)) lent
+asked heaviestLoad lent b = telling (heaviestIs (heaviest b)) lent
+asked (tightSetOf h) lent b = tightSetTold b (tightSet b h) lent
+asked formCheck lent b = telling isSound lent
+asked levelCheck lent b = telling (cond (level b) levelYes levelNo) lent
+
+-- what is told, the table's bytes as they were
+abbrev pub answering : List ℕ → Told → Outcome
+answering t r = record { answer = said (r .fact); table = t; lent = r .lent }
 
 -- what an accepted call leaves
 unfoldable pub accepted : Call → List ℕ → Board → Outcome
-accepted (arrival j x y) t b = arrivalOutcome j (arrive b j (x ∷ y ∷ []))
-accepted (closing j) t b = closingOutcome (close b j)
+accepted (arrival a) t b = arrivalOutcome (a .job) (arrive b (a .job) (a .given))
+accepted (closing c) t b = closingOutcome (close b (c .job))
 accepted (levelling allowance) t b = levellingOutcome (relevel allowance b)
-accepted (loadOf x) t b = answering t (loadIs (load (b .holders) x))
-accepted heaviestLoad t b = answering t (heaviestIs (heaviest b))
-accepted (tightSetOf h list) t b = tightSetOutcome t b (tightSet b h) list
-accepted formCheck t b = answering t isSound
-accepted levelCheck t b = answering t (cond (level b) levelYes levelNo)
+accepted (ask q lent) t b = answering t (asked q lent b)
 
--- what a call leaves of the table bytes t and its lent list
+-- what a call leaves of the table bytes t and of the bytes lent beside them
 unfoldable pub outcome : Call → List ℕ → Outcome
-outcome c t = unless (formConditions t ++ conditions c (decode t)) t (lentList c) (accepted c t (decode t))
+outcome c t = unless (refusals c t) t (lentTo c) (accepted c t (decode t))
 
 -- blanking: 1 alone can refuse it, by the numbers given and the length; old bytes are not looked at
 unfoldable pub blanking : ℕ → ℕ → List ℕ → Outcome
 blanking benches jobs t =
     unless (refuse sizes (not (sizesFit (length t) benches jobs)) ∷ []) t []
-    (answering (blankTable benches jobs) blanked)
+    (answering (blankTable benches jobs) (telling blanked []))

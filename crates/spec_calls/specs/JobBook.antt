@@ -10,7 +10,7 @@ use Rattle.spec_table.specs.Table.{lengthFor, sizesFit, sound, decode, blankTab
 use Rattle.spec_sharing.specs.Sharing.{level}
 use Rattle.spec_sharing.specs.Demand2.{OneMore}
 use Rattle.spec_calls.specs.Answers.{Answer, Outcome, isRefused, arrived, closed}
-use Rattle.spec_calls.specs.Calls.{Call, outcome, arrival, closing, levelling, loadOf, heaviestLoad, tightSetOf, formCheck, levelCheck}
+use Rattle.spec_calls.specs.Calls.{Call, outcome, arrival, closing, levelling, ask}
 
 -- "For each job number it has nothing, or the benches the job names, in their order"
 abbrev pub Book : Type 0
@@ -20,16 +20,12 @@ Book = List (List ℕ)
 -- call, a levelling and a question change nothing in it." It is fed the call's numbers and whether it was refused,
 -- nothing else
 abbrev pub entered : Call → Bool → Book → Book
-entered (arrival j x y) false k = update k j (x ∷ y ∷ [])
-entered (arrival j x y) true k = k
-entered (closing j) false k = update k j []
-entered (closing j) true k = k
+entered (arrival a) false k = update k (a .job) (a .given)
+entered (arrival a) true k = k
+entered (closing c) false k = update k (c .job) []
+entered (closing c) true k = k
 entered (levelling allowance) r k = k
-entered (loadOf x) r k = k
-entered heaviestLoad r k = k
-entered (tightSetOf h list) r k = k
-entered formCheck r k = k
-entered levelCheck r k = k
+entered (ask q lent) r k = k
 
 -- the book after a list of calls, fed for each whether it was refused
 abbrev pub bookAfter : Book → List Call → List Bool → Book
@@ -53,20 +49,16 @@ tableAfter t (o ∷ os) = tableAfter (o .table) os
 
 -- "each accepted arrival or closing changes one bench's load by one", the one that its answer says
 abbrev pub OneLoad : Call → Answer → Board → Board → Type 0
-OneLoad (arrival j x y) a before after =
+OneLoad (arrival c) a before after =
     isRefused a ≡ false →
     (holder : ℕ) × (rose : ℕ) × (moved : ℕ) × (a ≡ arrived holder rose moved)
     × OneMore (before .benches) (before .holders) (after .holders) rose
-OneLoad (closing j) a before after =
+OneLoad (closing c) a before after =
     isRefused a ≡ false →
     (fell : ℕ) × (moved : ℕ) × (a ≡ closed fell moved)
     × OneMore (before .benches) (after .holders) (before .holders) fell
 OneLoad (levelling allowance) a before after = Unit {0}
-OneLoad (loadOf x) a before after = Unit {0}
-OneLoad heaviestLoad a before after = Unit {0}
-OneLoad (tightSetOf h list) a before after = Unit {0}
-OneLoad formCheck a before after = Unit {0}
-OneLoad levelCheck a before after = Unit {0}
+OneLoad (ask q lent) a before after = Unit {0}
 
 -- so along the calls with their outcomes, each from the table that the last one left
 abbrev pub OneLoadEach : List ℕ → List Call → List Outcome → Type 0

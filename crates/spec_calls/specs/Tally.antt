@@ -5,7 +5,7 @@ use mathlib.Core.List.{List, [], _∷_}
 use mathlib.Core.Option.{Option, none, some}
 use mathlib.Core.Path.{_≡_}
 use lib.Dec.{leb}
-use Rattle.spec_calls.specs.Answers.{Refusal, Answer, Outcome, countFull, refused, blanked, arrived, closed, loadIs, heaviestIs, tightSetIs, isSound, levelYes, levelNo, levelled, stopped}
+use Rattle.spec_calls.specs.Answers.{Refusal, Answer, Outcome, countFull, refused, arrived, closed, said}
 
 -- "Three 32-bit counts: arrivals, closings, jobs moved"
 pub record Tally : Type 0 where
@@ -47,15 +47,7 @@ noted t (arrived holder rose moved) =
 noted t (closed fell moved) =
     raised t (record { arrivals = t .arrivals; closings = t .closings + 1; moved = t .moved + moved })
 noted t (refused r) = unchanged t
-noted t blanked = unchanged t
-noted t (loadIs n) = unchanged t
-noted t (heaviestIs n) = unchanged t
-noted t (tightSetIs benches inside) = unchanged t
-noted t isSound = unchanged t
-noted t levelYes = unchanged t
-noted t levelNo = unchanged t
-noted t (levelled paths) = unchanged t
-noted t (stopped paths) = unchanged t
+noted t (said f) = unchanged t
 
 -- "each answer is noted once"
 abbrev pub tallyAfter : Tally → List Outcome → Tally

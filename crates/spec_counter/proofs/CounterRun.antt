@@ -9,13 +9,12 @@ use mathlib.Core.Option.{none}
 use lib.Dec.{T}
 use lib.ListN.{length, replicate, length-take, length-replicate}
 use Rattle.spec_table.specs.Board.{heaviest, standing}
-use Rattle.spec_table.specs.Table.{mostBenches, mostJobs, sizesFit, lengthFor, layout, fits, formed, sound, boardOf, decode, layoutOf, flat, encode, blankTable}
-use Rattle.spec_sharing.specs.Paths.{steps, pathsFrom, improves, improvingFrom, improving, improvingTo, flip}
-use Rattle.spec_sharing.specs.Sharing.{arrivalChoice, closingChoice, levellingChoice, arrive, close, level, closureRound, tightSet}
-use Rattle.spec_calls.specs.Answers.{Outcome, isRefused, tightSetIs}
-use Rattle.spec_calls.specs.Calls.{arrival, closing, heaviestLoad, tightSetOf, conditions, arrivalOutcome, closingOutcome, levellingOutcome, tightSetOutcome, accepted, outcome, blanking}
+use Rattle.spec_table.specs.Table.{mostBenches, mostJobs, sizesFit, lengthFor, sound, decode, blankTable}
+use Rattle.spec_sharing.specs.Sharing.{tightSet}
+use Rattle.spec_calls.specs.Answers.{Outcome, isRefused, said, tightSetIs}
+use Rattle.spec_calls.specs.Calls.{arrival, closing, ask, heaviestLoad, tightSetOf, questionConditions, conditions, asked, accepted, outcome, blanking}
 use Rattle.spec_calls.specs.Tally.{zeroTally, noted}
-use Rattle.spec_counter.specs.Counter.{Counter, Command, setTable, takeIn, closeJob, askTightSet, askHeaviest, number, commandFor, command, printed, lineFor, done, after, prints, counter, atFirst, room, counterList}
+use Rattle.spec_counter.specs.Counter.{Counter, Command, setTable, takeIn, closeJob, askTightSet, askHeaviest, command, printed, lineFor, done, after, prints, atFirst, room, counterList}
 use Rattle.spec_counter.specs.Text.{text}
 use Rattle.spec_lists.proofs.Tests.{true→T, within-high}
 use Rattle.spec_table.proofs.Places.{sized}
@@ -55,11 +54,11 @@ question-keeps s o h = (refl, refl)
 module _ (t : List ℕ) (s : T (sound t)) where
   -- "H heaviest"
   pub heaviest-line : lineFor askHeaviest (done askHeaviest t) ≡ printed (code "H") (heaviest (decode t) ∷ [])
-  unfolding lineFor done conditions accepted
-  heaviest-line = rw (sound-outcome heaviestLoad t s)
+  unfolding lineFor done conditions questionConditions accepted asked
+  heaviest-line = rw (sound-outcome (ask heaviestLoad []) t s)
 
   -- "S height, benches, inside jobs, then the benches"
-  pub tight-line : (h n i : ℕ) → (outcome (tightSetOf h counterList) t) .answer ≡ tightSetIs n i → lineFor (askTightSet h) (done (askTightSet h) t) ≡ printed (code "S") (h ∷ n ∷ i ∷ tightSet (decode t) h)
+  pub tight-line : (h n i : ℕ) → (outcome (ask (tightSetOf h) counterList) t) .answer ≡ said (tightSetIs n i) → lineFor (askTightSet h) (done (askTightSet h) t) ≡ printed (code "S") (h ∷ n ∷ i ∷ tightSet (decode t) h)
   unfolding lineFor done
   tight-line h n i e = rw (e, (tight-list t s h counterList n i e) .benches)
 
@@ -83,12 +82,7 @@ counter-balanced (setTable benches jobs) s f b n = go (sizesFit (length (room be
         let d = blank-decodes benches jobs (z .benches-within) (z .jobs-within) in
         rw e (blank-sound benches jobs (z .benches-within) (z .jobs-within), omega (arith, ap standing d, standing-empty jobs))
     go false e = rw e (f, b)
-counter-balanced (takeIn j x y) s f b n = let k = keeps (s .table) f (arrival j x y) in (k .form, k .balance (s .tally) b n)
-counter-balanced (closeJob j) s f b n = let k = keeps (s .table) f (closing j) in (k .form, k .balance (s .tally) b n)
+counter-balanced (takeIn j x y) s f b n = let k = keeps (s .table) f (arrival (record { job = j; given = x ∷ y ∷ [] })) in (k .form, k .balance (s .tally) b n)
+counter-balanced (closeJob j) s f b n = let k = keeps (s .table) f (closing (record { job = j })) in (k .form, k .balance (s .tally) b n)
 counter-balanced (askTightSet h) s f b n = (f, b)
 counter-balanced askHeaviest s f b n = (f, b)
-
--- a run with every kind of line and of unreadable line
-pub counter-told : counter (text "H\nB 2 123\nA 9 1 2\nA 12 1 2\nA 99 1 2\nS 2\nB 501 4\nH\nA 9 1 2\nAB 1 1 2\nA 1 1 2 3\nD 9 x\n\nh\nA  1 1 2\nH\nD 12\nA 0 1 2\nD 65535\nD 65536\nS \n S 1\nS 0\nH\nA 7 1 2") ≡ text "R 1\nB 2 123\nA 9 1 1 0\nA 12 2 2 0\nA 99 1 1 0\nS 2 2 3 1 2\nR 1\nH 2\nR 5\nR 10\nR 10\nR 10\nR 10\nR 10\nR 10\nH 2\nD 12 1 1\nR 3\nR 3\nR 10\nR 10\nR 10\nR 7\nH 1\nR 10\n"
-unfolding flatMap heaviest sizesFit layout formed fits sound boardOf decode layoutOf flat encode blankTable steps pathsFrom improves improvingFrom improving improvingTo flip arrivalChoice closingChoice levellingChoice arrive close level closureRound tightSet conditions arrivalOutcome closingOutcome levellingOutcome tightSetOutcome accepted outcome blanking noted number commandFor command printed lineFor done after prints counter
-counter-told = refl

@@ -9,7 +9,7 @@ use lib.ListN.{length, take, drop, replicate}
 use Rattle.spec_lists.specs.Lists.{within, all, empty, nth}
 use Rattle.spec_table.specs.Table.{words, lengthFor, mostBenches, mostJobs}
 use Rattle.spec_calls.specs.Answers.{Outcome, inNumbers, isRefused, refused, unreadable}
-use Rattle.spec_calls.specs.Calls.{outcome, blanking, arrival, closing, heaviestLoad, tightSetOf}
+use Rattle.spec_calls.specs.Calls.{outcome, blanking, arrival, closing, ask, heaviestLoad, tightSetOf}
 use Rattle.spec_calls.specs.Tally.{Tally, zeroTally, noted}
 
 -- the byte that ends a line
@@ -117,7 +117,7 @@ abbrev pub listed : Command → Outcome → List ℕ
 listed (setTable benches jobs) o = []
 listed (takeIn j x y) o = []
 listed (closeJob j) o = []
-listed (askTightSet h) o = take (nth (inNumbers (o .answer)) 2 0) (words (o .list))
+listed (askTightSet h) o = take (nth (inNumbers (o .answer)) 2 0) (words (o .lent))
 listed askHeaviest o = []
 
 -- a command's line: "R and the refusal", or the letter, the command's numbers, the answer's values, and the benches
@@ -146,10 +146,10 @@ counterList = replicate 1000 0
 -- what a command's call leaves
 unfoldable pub done : Command → List ℕ → Outcome
 done (setTable benches jobs) t = blanking benches jobs (room benches jobs)
-done (takeIn j x y) t = outcome (arrival j x y) t
-done (closeJob j) t = outcome (closing j) t
-done (askTightSet h) t = outcome (tightSetOf h counterList) t
-done askHeaviest t = outcome heaviestLoad t
+done (takeIn j x y) t = outcome (arrival (record { job = j; given = x ∷ y ∷ [] })) t
+done (closeJob j) t = outcome (closing (record { job = j })) t
+done (askTightSet h) t = outcome (ask (tightSetOf h) counterList) t
+done askHeaviest t = outcome (ask heaviestLoad []) t
 
 -- the state after a command: "a refused B keeps the old table", an accepted one starts table and tally together
 unfoldable pub after : Command → Counter → Outcome → Counter

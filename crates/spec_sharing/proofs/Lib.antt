@@ -16,4 +16,3 @@ pub mod Distances
 pub mod Found
 pub mod Far
 pub mod Search
-pub mod SearchInstance

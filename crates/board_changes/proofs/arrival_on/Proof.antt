@@ -3,7 +3,7 @@ use mathlib.Core.Logic.{⊎-elim, inl, inr}
 use borrow.Author.Tests.{eqb-true}
 use Rattle.spec_table.specs.Table.{decode}
 use Rattle.spec_calls.specs.Calls.{MayArrive}
-use Rattle.board_changes.proofs.ChangeOutcomes.{Numbered, arrival-number, bench-wrong, arrival-bench, readable, arrival-numbered, arrival-standing, may-arrive, arrival-left}
+use Rattle.board_changes.proofs.ChangeOutcomes.{arriving, Numbered, arrival-number, bench-wrong, arrival-bench, readable, arrival-numbered, arrival-standing, may-arrive, arrival-left}
 use borrow.Author.Needs.{needs}
 use Rattle.board_changes.proofs.arrival_on.Statement.{statement}
 use Rattle.board_changes.proofs.arrival_on.Tie as tie
@@ -58,7 +58,7 @@ returns-3 c =
     arrival-standing (start .pre) (a .job) (a .first) (a .second) (passes tested) (c .before .stands .ensures) (c .if5 .taken)
 
 -- and no such job stands
-may : (c : tie.Else5) → let a = c .before .before .before .before .before .before .before .before .before .before .before .args in MayArrive (decode (a .t .now)) (a .job) (a .first) (a .second)
+may : (c : tie.Else5) → let a = c .before .before .before .before .before .before .before .before .before .before .before .args in MayArrive (decode (a .t .now)) (arriving (a .job) (a .first) (a .second))
 may c = may-arrive (passes (c .before .before .before)) (c .before .stands .ensures) (c .if5 .left)
 
 arrive-requires : tie.Need-arrive-requires

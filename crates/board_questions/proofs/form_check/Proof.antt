@@ -1,5 +1,6 @@
 -- The form check's refusal, or that the table is sound.
-use Rattle.spec_calls.specs.Calls.{formCheck}
+use mathlib.Core.List.{[]}
+use Rattle.spec_calls.specs.Calls.{ask, formCheck}
 use Rattle.board_answers.proofs.Formal.{form-refused}
 use Rattle.board_questions.proofs.Asking.{form-sound}
 use borrow.Author.Needs.{needs}
@@ -16,7 +17,7 @@ enum-told : tie.Need-enum-told
 enum-told c = search needs
 
 returns : tie.Need-returns
-returns c = form-refused _ formCheck _ (rw (c .before .r .given .1) at (c .before .before .before .check .ensures .says))
+returns c = form-refused _ (ask formCheck []) _ (rw (c .before .r .given .1) at (c .before .before .before .check .ensures .says))
 
 returns-2 : tie.Need-returns-2
 returns-2 c = form-sound (rw (c .enum-told .given .1) at (c .before .before .check .ensures .says))

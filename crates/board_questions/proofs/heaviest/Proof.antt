@@ -1,5 +1,6 @@
 -- The heaviest load of a sound table.
-use Rattle.spec_calls.specs.Calls.{heaviestLoad}
+use mathlib.Core.List.{[]}
+use Rattle.spec_calls.specs.Calls.{ask, heaviestLoad}
 use Rattle.table_size.specs.Sizes.{SoundTable}
 use Rattle.board_answers.proofs.Formal.{form-refused}
 use Rattle.board_questions.proofs.Asking.{heaviest-told}
@@ -24,7 +25,7 @@ heaviest-requires : tie.Need-heaviest-requires
 heaviest-requires c κs = sound-table c
 
 returns : tie.Need-returns
-returns c = form-refused _ heaviestLoad _ (rw (c .before .r .given .1) at (c .before .before .before .check .ensures .says))
+returns c = form-refused _ (ask heaviestLoad []) _ (rw (c .before .r .given .1) at (c .before .before .before .check .ensures .says))
 
 returns-2 : tie.Need-returns-2
 returns-2 c = heaviest-told (sound-table (c .before)) (c .heaviest .result) (c .heaviest .ensures)

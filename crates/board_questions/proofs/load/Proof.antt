@@ -1,6 +1,7 @@
 -- The load of a bench of a sound table, or that it has no such bench.
 use mathlib.Core.Path.{sym, _∙_}
-use Rattle.spec_calls.specs.Calls.{loadOf}
+use mathlib.Core.List.{[]}
+use Rattle.spec_calls.specs.Calls.{ask, loadOf}
 use Rattle.spec_lists.proofs.Tests.{true→T}
 use Rattle.table_size.specs.Sizes.{SoundTable}
 use Rattle.table_size.proofs.Sizes.{bench-in}
@@ -30,7 +31,7 @@ load-requires : tie.Need-load-requires
 load-requires c κs = (sound-table (c .before .before), bench-in _ _ (true→T _ (sym (c .before .has-bench .ensures) ∙ c .if1 .taken)))
 
 returns : tie.Need-returns
-returns c = form-refused _ (loadOf _) _ (rw (c .before .r .given .1) at (c .before .before .before .check .ensures .says))
+returns c = form-refused _ (ask (loadOf _) []) _ (rw (c .before .r .given .1) at (c .before .before .before .check .ensures .says))
 
 returns-2 : tie.Need-returns-2
 returns-2 c = load-told (sound-table (c .before .before .before)) _ (c .load .result) (c .before .before .has-bench .ensures) (c .before .if1 .taken) (c .load .ensures)
