@@ -1,14 +1,15 @@
--- A table whose form is refused: every call answers so, and leaves what it was lent.
+-- A table whose form is refused: every call answers so, and leaves what it was lent. And what a call left is its outcome.
 use mathlib.Core.Path.{_≡_, sym}
 use mathlib.Core.List.{List}
 use mathlib.Core.Option.{some}
 use Prim.Native.Nat.{ℕ}
-use Rattle.spec_calls.specs.Answers.{refused, firstHolding}
+use Rattle.spec_calls.specs.Answers.{Outcome, refused, firstHolding}
 use Rattle.spec_calls.specs.Calls.{Call, formConditions, lentTo, outcome}
 use Rattle.spec_calls.proofs.Refusals.{form-stops, refused-by}
 use Rattle.table_refusals.specs.Refusals.{refusalOf}
-use Rattle.board_answers.specs.Answered.{Leaves}
+use Rattle.board_answers.specs.Answered.{leftBy, Leaves}
 use Rattle.table_refusals.specs.declared.Refusal.{Refusal}
+use Rattle.board_answers.specs.declared.Answer.{Answer}
 use Rattle.board_answers.specs.declared.Answer.the-variants.{Refused}
 
 -- a refused call leaves every lent byte
@@ -20,3 +21,7 @@ refused-leaves r c t e =
 -- 1 and 2
 pub form-refused : (r : Refusal) (c : Call) (t : List ℕ) → firstHolding (formConditions t) ≡ some (refusalOf r) → Leaves (outcome c t) (Refused r) t (lentTo c)
 form-refused r c t e = refused-leaves r c t (form-stops c t (refusalOf r) e)
+
+-- what a call left, where its contract holds, is the outcome that the contract names
+pub leaves-outcome : {o : Outcome} {r : Answer} {table beside : List ℕ} → Leaves o r table beside → leftBy r table beside ≡ o
+leaves-outcome l = λ i. record { answer = l .answer i; table = l .bytes i; lent = l .lent i }

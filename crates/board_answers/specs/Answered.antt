@@ -5,7 +5,6 @@ use mathlib.Core.List.{List, [], _∷_}
 use Prim.Native.Nat.{ℕ}
 use lib.ListN.{getD, take}
 use Rattle.spec_calls.specs.Answers as paper
-use Rattle.spec_calls.specs.Calls.{Call, outcome}
 use Rattle.table_refusals.specs.Refusals.{refusalOf}
 use Rattle.board_answers.specs.declared.Answer.{Answer}
 use Rattle.board_answers.specs.declared.Values.{Values}
@@ -41,8 +40,6 @@ pub record Leaves (o : paper.Outcome) (r : Answer) (table beside : List ℕ) : T
   pub bytes : table ≡ o .table
   pub lent : beside ≡ o .lent
 
--- a call that meets its contract, as demand 3 sees it: what was lent, answered and left
-pub record Does (c : Call) (t : List ℕ) (o : paper.Outcome) : Type 0 where
-  pub result : Answer
-  pub told : o .answer ≡ answerOf result
-  pub leaves : Leaves (outcome c t) result (o .table) (o .lent)
+-- what a call left, in document 01's words
+abbrev pub leftBy : Answer → List ℕ → List ℕ → paper.Outcome
+leftBy r table beside = record { answer = answerOf r; table = table; lent = beside }

@@ -1,3 +1,3 @@
--- Refusals of what each change asks, and demand 3.
+-- Refusals of what each change asks, and the changes' contracts as demand 3 sees them.
 pub mod ChangeOutcomes
-pub mod Demands
+pub mod Contracts

@@ -7,7 +7,7 @@ use mathlib.Core.Logic.{_⊎_, inl, inr, ⊎-elim}
 use mathlib.Core.List.{List, [], _∷_, _++_}
 use lib.ListN.{drop}
 use Rattle.spec_lists.specs.Lists.{nth}
-use Rattle.spec_calls.specs.Answers.{Refusal, sizes, unsound, jobNumber, benchNumber, alreadyStanding, notStanding, height, listTooShort, countFull, unreadable, refusalNumber}
+use Rattle.spec_calls.proofs.Refusals.{refusal-positive}
 use Rattle.spec_calls.specs.Answers.{Answer, refused, arrived, closed, said, isRefused, inNumbers}
 use Rattle.board_answers.specs.Answered.{returned}
 use Rattle.spec_counter.specs.Counter.{lineFeed, space, digits, printed}
@@ -15,20 +15,7 @@ use Rattle.counter_printing.specs.Wrote.{Wrote, spaced}
 use Rattle.counter_printing.proofs.WrittenText.{wrote-start, wrote-then, wrote-more, printed-is, spaced-append}
 use Rattle.counter_answer_lines.specs.AnswerLines.{refusalText, answerText}
 
--- refusals are numbered from 1 on ..
-pub refusal-positive : (r : Refusal) → 1 ≤ refusalNumber r
-refusal-positive sizes = omega arith
-refusal-positive unsound = omega arith
-refusal-positive jobNumber = omega arith
-refusal-positive benchNumber = omega arith
-refusal-positive alreadyStanding = omega arith
-refusal-positive notStanding = omega arith
-refusal-positive height = omega arith
-refusal-positive listTooShort = omega arith
-refusal-positive countFull = omega arith
-refusal-positive unreadable = omega arith
-
--- .. so the number that is returned tells whether a call was refused; a refusal has no other number
+-- refusals are numbered from 1 on, so the number that is returned tells whether a call was refused; a refusal has no other number
 pub refused-or-not : (a : Answer) → ((1 ≤ returned a) × (isRefused a ≡ true) × (inNumbers a ≡ returned a ∷ [])) ⊎ ((returned a ≡ 0) × (isRefused a ≡ false))
 refused-or-not (refused r) = inl (refusal-positive r, refl, refl)
 refused-or-not (arrived holder rose moved) = inr (refl, refl)

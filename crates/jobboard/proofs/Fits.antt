@@ -11,9 +11,9 @@ use Rattle.spec_table.specs.Board.{Board, holderOf, namesOf, stands, load, heav
 use Rattle.spec_table.specs.Table.{mostBenches, mostJobs, sound, decode}
 use Rattle.spec_sharing.specs.Sharing.{Levelled, close, relevel, level, tightSet, inside}
 use Rattle.spec_calls.specs.Answers.{Answer, Outcome, isRefused, refused, arrived, closed, said, levelYes, levelNo, levelled, stopped}
-use Rattle.spec_calls.specs.Calls.{Arriving, Closing, Question, loadOf, heaviestLoad, tightSetOf, formCheck, levelCheck, Call, arrival, closing, levelling, ask, refusals, asked, accepted, outcome, arrivalOutcome, closingOutcome, levellingOutcome, tightSetTold}
+use Rattle.spec_calls.specs.Calls.{Arriving, Closing, Question, loadOf, heaviestLoad, tightSetOf, formCheck, levelCheck, Call, arrival, closing, levelling, ask, asked, accepted, outcome, arrivalOutcome, closingOutcome, levellingOutcome, tightSetTold}
 use Rattle.spec_sharing.specs.Demand2.{handed}
-use Rattle.spec_lists.proofs.Tests.{true→T, false→not, not-false, within-high}
+use Rattle.spec_lists.proofs.Tests.{true→T, false→not, within-high}
 use Rattle.spec_lists.proofs.Elements.{is-empty, length-filter}
 use Rattle.spec_lists.proofs.NumberLists.{length-range}
 use Rattle.spec_table.proofs.Named.{length-shares}
@@ -21,15 +21,10 @@ use Rattle.spec_lists.proofs.Counting.{bit-le, count-most, total-most, greatest
 use Rattle.spec_table.proofs.Sound.{sound-storable}
 use Rattle.spec_sharing.proofs.Paths.{holder-bench, holder-none}
 use Rattle.spec_sharing.proofs.TightSet.{tight-rising}
-use Rattle.spec_calls.proofs.Refusals.{accepted-by}
+use Rattle.spec_calls.proofs.Refusals.{accepted-by, accepted-sound}
 use Rattle.spec_calls.proofs.Outcomes.{arriveOn, arrival-accepted, levelling-accepted}
 use Rattle.spec_calls.proofs.Results.{arrival-result, closing-result}
 use Rattle.jobboard_report.specs.Report.{Fitting}
-
--- a call that is not refused was lent a sound table
-accepted-sound : (c : Call) (t : List ℕ) → isRefused ((outcome c t) .answer) ≡ false → T (sound t)
-unfolding refusals
-accepted-sound c t n = not-false (sound t) ((accepted-by c t n) .0 .1 .0)
 
 -- at most all jobs move
 handed-most : (j : ℕ) (b c : Board) → handed j b c ≤ length (b .named)

@@ -1,3 +1,4 @@
 -- What the C calls report.
 pub mod Fits
 pub mod Reports
+pub mod Contracts

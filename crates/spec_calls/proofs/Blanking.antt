@@ -1,16 +1,16 @@
 -- Blanking: whatever the bytes were, it leaves the table of the board without jobs.
 use Prim.Native.Nat.{ℕ, zero, suc, _+_, _*_, _≤_}
 use native.Mathlib.Omega.{arith}
-use mathlib.Core.Path.{_≡_, refl}
-use mathlib.Core.Bool.{true, false, not}
+use mathlib.Core.Path.{_≡_, refl, sym, subst, _∙_}
+use mathlib.Core.Bool.{Bool, true, false, not, false≢true}
 use mathlib.Core.List.{List, [], flatMap}
 use lib.Dec.{T}
 use lib.ListN.{length, replicate, length-replicate, replicate-append-replicate}
 use borrow.Author.Tests.{ne-eqb}
 use Rattle.spec_lists.specs.Lists.{within, filter, empty}
 use Rattle.spec_table.specs.Board.{Board, Shares, namesFit}
-use Rattle.spec_table.specs.Table.{paired, mostBenches, mostJobs, sizesFit, firstHeld, entriesFrom, layoutOf, entryWords, flat, sound, decode, encode, blankTable, Storable}
-use Rattle.spec_calls.specs.Answers.{Outcome, said, blanked, refused, sizes}
+use Rattle.spec_table.specs.Table.{paired, mostBenches, mostJobs, lengthFor, sizesFit, firstHeld, entriesFrom, layoutOf, entryWords, flat, sound, decode, encode, blankTable, Storable}
+use Rattle.spec_calls.specs.Answers.{Outcome, isRefused, said, blanked, refused, sizes}
 use Rattle.spec_calls.specs.Calls.{blanking}
 use Rattle.spec_lists.proofs.Tests.{true→T}
 use Rattle.spec_lists.proofs.Elements.{each-replicate}
@@ -81,6 +81,22 @@ blanking-leaves benches jobs t e =
       sound = blank-sound benches jobs (s .benches-within) (s .jobs-within);
       board = blank-decodes benches jobs (s .benches-within) (s .jobs-within);
     })
+
+-- where it is answered, they fit
+pub blanking-fits : (benches jobs : ℕ) (t : List ℕ) → isRefused ((blanking benches jobs t) .answer) ≡ false → sizesFit (length t) benches jobs ≡ true
+unfolding blanking
+blanking-fits benches jobs t n = go (sizesFit (length t) benches jobs) refl
+  where
+    go : (z : Bool) → sizesFit (length t) benches jobs ≡ z → z ≡ true
+    go true e = refl
+    go false e = absurd (false≢true (sym n ∙ rw e))
+
+-- .. and the table left is the blank one of these sizes
+pub blanking-blank : (benches jobs : ℕ) (t : List ℕ) → sizesFit (length t) benches jobs ≡ true → ((blanking benches jobs t) .table ≡ blankTable benches jobs) × (sizesFit (lengthFor benches jobs) benches jobs ≡ true)
+unfolding blanking
+blanking-blank benches jobs t e =
+    let z = sized (length t) benches jobs (true→T (sizesFit (length t) benches jobs) e) in
+    (rw e, subst (λ (n : ℕ). sizesFit n benches jobs ≡ true) (z .exact) e)
 
 -- and where the length does not fit, it is refused with 1 and leaves all bytes
 pub blanking-refused : (benches jobs : ℕ) (t : List ℕ) → sizesFit (length t) benches jobs ≡ false → blanking benches jobs t ≡ record { answer = refused sizes; table = t; lent = [] }

@@ -18,7 +18,7 @@ use Rattle.spec_lists.proofs.Tests.{true→T}
 use Rattle.spec_sharing.proofs.Paths.{jobless-level}
 use Rattle.spec_table.proofs.Places.{sized}
 use Rattle.spec_table.proofs.Sound.{sound-storable}
-use Rattle.spec_calls.proofs.Blanking.{emptyBoard, storable-empty, blank-sound, blank-decodes}
+use Rattle.spec_calls.proofs.Blanking.{blanking-blank, emptyBoard, storable-empty, blank-sound, blank-decodes}
 use Rattle.spec_calls.proofs.Refusals.{isQuestion}
 use Rattle.spec_calls.proofs.JobBook.{refused-enters, question-enters}
 use Rattle.spec_sharing.proofs.Levels.{level-least, level-demand2}
@@ -140,11 +140,11 @@ ended t k s l e (c ∷ cs) (o ∷ os) r =
     }
 
 -- whatever does the calls as they are defined makes a run of the definition
-as-defined : (Does : Call → List ℕ → Outcome → Type 0) → ((c : Call) (t : List ℕ) (o : Outcome) → Does c t o → AsDefined c t o) → (t : List ℕ) (cs : List Call) (os : List Outcome) → Runs Does t cs os → Runs AsDefined t cs os
-as-defined Does meets t [] [] r = tt
-as-defined Does meets t [] (o ∷ os) r = absurd r
-as-defined Does meets t (c ∷ cs) [] r = absurd r
-as-defined Does meets t (c ∷ cs) (o ∷ os) r = (meets c t o (r .0), as-defined Does meets (o .table) cs os (r .1))
+pub runs-defined : (Does : Call → List ℕ → Outcome → Type 0) → ((c : Call) (t : List ℕ) (o : Outcome) → Does c t o → AsDefined c t o) → (t : List ℕ) (cs : List Call) (os : List Outcome) → Runs Does t cs os → Runs AsDefined t cs os
+runs-defined Does meets t [] [] r = tt
+runs-defined Does meets t [] (o ∷ os) r = absurd r
+runs-defined Does meets t (c ∷ cs) [] r = absurd r
+runs-defined Does meets t (c ∷ cs) (o ∷ os) r = (meets c t o (r .0), runs-defined Does meets (o .table) cs os (r .1))
 
 -- a board without jobs is level
 pub empty-level : (benches jobs : ℕ) → Valid (emptyBoard benches jobs) → T (level (emptyBoard benches jobs))
@@ -170,10 +170,9 @@ started t k (fromLevel u s l) = (true→T (sound u) s, true→T (level (decode u
 
 -- what blanking leaves is such a start, whatever the bytes were
 pub blanking-starts : (benches jobs : ℕ) (t : List ℕ) → sizesFit (length t) benches jobs ≡ true → Start ((blanking benches jobs t) .table) (replicate jobs [])
-unfolding blanking
 blanking-starts benches jobs t e =
-    let z = sized (length t) benches jobs (true→T (sizesFit (length t) benches jobs) e) in
-    rw e (fromBlank benches jobs (subst (λ (n : ℕ). sizesFit n benches jobs ≡ true) (z .exact) e))
+    let b = blanking-blank benches jobs t e in
+    subst (λ (u : List ℕ). Start u (replicate jobs [])) (sym (b .0)) (fromBlank benches jobs (b .1))
 
 -- so every list of calls from a start ends
 from-start : (t : List ℕ) (k : Book) → Start t k → (cs : List Call) (os : List Outcome) → Runs AsDefined t cs os → Ended t k cs os
@@ -181,7 +180,7 @@ from-start t k start = let s = started t k start in ended t k (s .0) (s .1) (s .
 
 -- demand 3, whole
 pub demand-3 : Demand3
-demand-3 Does meets t k start cs os r = (from-start t k start cs os (as-defined Does meets t cs os r)) .claim
+demand-3 Does meets t k start cs os r = (from-start t k start cs os (runs-defined Does meets t cs os r)) .claim
 
 -- after every list of calls the table is sound and level ..
 pub level-after : (t : List ℕ) (k : Book) → Start t k → (cs : List Call) (os : List Outcome) → Runs AsDefined t cs os → T (sound (tableAfter t os)) × T (level (decode (tableAfter t os)))

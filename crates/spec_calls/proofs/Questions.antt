@@ -137,6 +137,10 @@ module _ (t : List ℕ) (s : T (sound t)) where
       says true e = tt
       says false e = true→T false cc
 
+  -- .. so that the board is level by its definition ..
+  pub level-check-level : (outcome (ask levelCheck []) t) .answer ≡ said levelYes → level (decode t) ≡ true
+  level-check-level e = T→true (level (decode t)) (level-exact (decode t) ((sound-storable t s) .valid) .1 (level-check-yes .0 e))
+
   -- .. and no exactly if one does
   pub level-check-no : ((outcome (ask levelCheck []) t) .answer ≡ said levelNo) ↔ ((p : BenchPath) × IsPath (decode t) p × T (improves (decode t) p))
   level-check-no =

@@ -1,6 +1,7 @@
 -- Demand 1 of the definitions: a call is refused exactly if a condition of it holds, with the first of its order whose
 -- condition holds; a refused call and a question leave the table as it was.
-use Prim.Native.Nat.{ℕ}
+use Prim.Native.Nat.{ℕ, _≤_}
+use native.Mathlib.Omega.{arith}
 use mathlib.Core.Path.{_≡_, refl, sym, ap, _∙_}
 use mathlib.Core.Logic.{_⊎_, inl, inr}
 use mathlib.Core.Bool.{Bool, true, false, cond, _&&_, false≢true}
@@ -8,9 +9,10 @@ use mathlib.Core.List.{List, [], _∷_, _++_, map}
 use mathlib.Core.Option.{Option, none, some, Option·some-injective, Option·none-ne-some, Option·some-ne-none}
 use lib.Dec.{T, ltb}
 use Rattle.spec_lists.specs.Lists.{range, Each}
-use Rattle.spec_table.specs.Table.{decode}
+use Rattle.spec_table.specs.Table.{sound, decode}
 use Rattle.spec_sharing.specs.Sharing.{level, relevel}
 use Rattle.spec_table.specs.Board.{Board}
+use Rattle.spec_lists.proofs.Tests.{not-false}
 use Rattle.spec_calls.specs.Answers.{Refusal, Condition, refusalNumber, inNumbers, firstHolding, isRefused, refusedOr, refused, said, levelYes, levelNo, levelled, stopped, sizes, unsound, jobNumber, benchNumber, alreadyStanding, notStanding, height, listTooShort, countFull, unreadable}
 use Rattle.spec_calls.specs.Calls.{Question, loadOf, heaviestLoad, tightSetOf, formCheck, levelCheck, Call, arrival, closing, levelling, ask, formConditions, questionConditions, conditions, refusals, questionOrder, order, lentTo, accepted, outcome, arrivalOutcome, closingOutcome, levellingOutcome}
 
@@ -136,6 +138,24 @@ accepted-by c t e = go (firstHolding cs) refl e
     go : (o : Option Refusal) → firstHolding cs ≡ o → isRefused ((refusedOr o t (lentTo c) (accepted c t (decode t))) .answer) ≡ false → Each (λ k. k .holds ≡ false) cs × (outcome c t ≡ accepted c t (decode t))
     go none f d = (none-holds cs f, ap (λ o. refusedOr o t (lentTo c) (accepted c t (decode t))) f)
     go (some s) f d = absurd (false≢true (sym d))
+
+-- a call that is not refused was lent a sound table
+pub accepted-sound : (c : Call) (t : List ℕ) → isRefused ((outcome c t) .answer) ≡ false → T (sound t)
+unfolding refusals
+accepted-sound c t n = not-false (sound t) ((accepted-by c t n) .0 .1 .0)
+
+-- refusals are numbered from 1 on ..
+pub refusal-positive : (r : Refusal) → 1 ≤ refusalNumber r
+refusal-positive sizes = omega arith
+refusal-positive unsound = omega arith
+refusal-positive jobNumber = omega arith
+refusal-positive benchNumber = omega arith
+refusal-positive alreadyStanding = omega arith
+refusal-positive notStanding = omega arith
+refusal-positive height = omega arith
+refusal-positive listTooShort = omega arith
+refusal-positive countFull = omega arith
+refusal-positive unreadable = omega arith
 
 -- the calls that ask and change nothing
 abbrev pub isQuestion : Call → Bool

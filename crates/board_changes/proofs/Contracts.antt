@@ -1,0 +1,26 @@
+-- Each change's own contract is all that demand 3 asks of it: whatever it was lent (a), answered (r) and left (s) is as
+-- defined.
+use mathlib.Core.Path.{_≡_}
+use mathlib.Core.List.{[], _∷_}
+use contract.Lifetimes.{Lfts}
+use Rattle.spec_calls.specs.Calls.{blanking, arrival, closing, levelling}
+use Rattle.spec_calls.specs.JobBook.{AsDefined}
+use Rattle.board_answers.specs.Answered.{leftBy}
+use Rattle.board_answers.proofs.Formal.{leaves-outcome}
+use Rattle.board_changes.proofs.blank.Reads as blank
+use Rattle.board_changes.proofs.arrival.Reads as arrive
+use Rattle.board_changes.proofs.closing.Reads as close
+use Rattle.board_changes.proofs.levelling.Reads as level
+
+module _ (κs : Lfts 1) where
+  pub blank-does : (a : _) (r : _) (s : _) → blank.Post κs a r s → leftBy r (s .0 .now) [] ≡ blanking (a .1 .0) (a .1 .1 .0) (a .0 .now)
+  blank-does a r s p = leaves-outcome p
+
+  pub arrival-does : (a : _) (r : _) (s : _) → arrive.Post κs a r s → AsDefined (arrival (record { job = a .1 .0; given = a .1 .1 .0 ∷ a .1 .1 .1 .0 ∷ [] })) (a .0 .now) (leftBy r (s .0 .now) [])
+  arrival-does a r s p = leaves-outcome p
+
+  pub closing-does : (a : _) (r : _) (s : _) → close.Post κs a r s → AsDefined (closing (record { job = a .1 .0 })) (a .0 .now) (leftBy r (s .0 .now) [])
+  closing-does a r s p = leaves-outcome p
+
+  pub levelling-does : (a : _) (r : _) (s : _) → level.Post κs a r s → AsDefined (levelling (a .1 .0)) (a .0 .now) (leftBy r (s .0 .now) [])
+  levelling-does a r s p = leaves-outcome p

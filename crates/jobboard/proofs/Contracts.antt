@@ -1,0 +1,42 @@
+-- Each C call's own contract, as demand 3 sees it: whatever it was lent (a), returned (r) and left (s) is reported of the
+-- call's defined outcome. Numbers alone do not tell a load from a heaviest load, so each call has its own.
+use mathlib.Core.List.{[], _∷_}
+use contract.Lifetimes.{Lfts}
+use Rattle.spec_calls.specs.Calls.{outcome, blanking, arrival, closing, levelling, ask, loadOf, heaviestLoad, tightSetOf, formCheck, levelCheck}
+use Rattle.jobboard.specs.Desk.{Reported}
+use Rattle.jobboard.proofs.jobboard_blank.Reads as c-blank
+use Rattle.jobboard.proofs.jobboard_check.Reads as c-check
+use Rattle.jobboard.proofs.jobboard_arrival.Reads as c-arrival
+use Rattle.jobboard.proofs.jobboard_closing.Reads as c-closing
+use Rattle.jobboard.proofs.jobboard_levelling.Reads as c-levelling
+use Rattle.jobboard.proofs.jobboard_level_check.Reads as c-level-check
+use Rattle.jobboard.proofs.jobboard_load.Reads as c-load
+use Rattle.jobboard.proofs.jobboard_heaviest.Reads as c-heaviest
+use Rattle.jobboard.proofs.jobboard_tight_set.Reads as c-tight-set
+
+pub blank-reports : (κs : Lfts 1) (a : _) (r : _) (s : _) → c-blank.Post κs a r s → Reported (blanking (a .1 .0) (a .1 .1 .0) (a .0 .now)) r (s .0 .now) [] [] []
+blank-reports κs a r s p = p
+
+pub check-reports : (κs : Lfts 1) (a : _) (r : _) (s : _) → c-check.Post κs a r s → Reported (outcome (ask formCheck []) (a .0 .now)) r (a .0 .now) [] [] []
+check-reports κs a r s p = p
+
+pub arrival-reports : (κs : Lfts 4) (a : _) (r : _) (s : _) → c-arrival.Post κs a r s → Reported (outcome (arrival (record { job = a .1 .0; given = a .1 .1 .0 ∷ a .1 .1 .1 .0 ∷ [] })) (a .0 .now)) r (s .0 .now) [] (a .1 .1 .1 .1 .0 .now ∷ a .1 .1 .1 .1 .1 .0 .now ∷ a .1 .1 .1 .1 .1 .1 .0 .now ∷ []) (s .1 .1 .1 .1 .0 .now ∷ s .1 .1 .1 .1 .1 .0 .now ∷ s .1 .1 .1 .1 .1 .1 .0 .now ∷ [])
+arrival-reports κs a r s p = p
+
+pub closing-reports : (κs : Lfts 3) (a : _) (r : _) (s : _) → c-closing.Post κs a r s → Reported (outcome (closing (record { job = a .1 .0 })) (a .0 .now)) r (s .0 .now) [] (a .1 .1 .0 .now ∷ a .1 .1 .1 .0 .now ∷ []) (s .1 .1 .0 .now ∷ s .1 .1 .1 .0 .now ∷ [])
+closing-reports κs a r s p = p
+
+pub levelling-reports : (κs : Lfts 3) (a : _) (r : _) (s : _) → c-levelling.Post κs a r s → Reported (outcome (levelling (a .1 .0)) (a .0 .now)) r (s .0 .now) [] (a .1 .1 .0 .now ∷ a .1 .1 .1 .0 .now ∷ []) (s .1 .1 .0 .now ∷ s .1 .1 .1 .0 .now ∷ [])
+levelling-reports κs a r s p = p
+
+pub level-check-reports : (κs : Lfts 2) (a : _) (r : _) (s : _) → c-level-check.Post κs a r s → Reported (outcome (ask levelCheck []) (a .0 .now)) r (a .0 .now) [] (a .1 .0 .now ∷ []) (s .1 .0 .now ∷ [])
+level-check-reports κs a r s p = p
+
+pub load-reports : (κs : Lfts 2) (a : _) (r : _) (s : _) → c-load.Post κs a r s → Reported (outcome (ask (loadOf (a .1 .0)) []) (a .0 .now)) r (a .0 .now) [] (a .1 .1 .0 .now ∷ []) (s .1 .1 .0 .now ∷ [])
+load-reports κs a r s p = p
+
+pub heaviest-reports : (κs : Lfts 2) (a : _) (r : _) (s : _) → c-heaviest.Post κs a r s → Reported (outcome (ask heaviestLoad []) (a .0 .now)) r (a .0 .now) [] (a .1 .0 .now ∷ []) (s .1 .0 .now ∷ [])
+heaviest-reports κs a r s p = p
+
+pub tight-set-reports : (κs : Lfts 4) (a : _) (r : _) (s : _) → c-tight-set.Post κs a r s → Reported (outcome (ask (tightSetOf (a .1 .0)) (a .1 .1 .0 .now)) (a .0 .now)) r (a .0 .now) (s .1 .1 .0 .now) (a .1 .1 .1 .0 .now ∷ a .1 .1 .1 .1 .0 .now ∷ []) (s .1 .1 .1 .0 .now ∷ s .1 .1 .1 .1 .0 .now ∷ [])
+tight-set-reports κs a r s p = p
