@@ -12,7 +12,7 @@
  *
  * MEMORY. All of it is the caller's. A call reads and writes only what it is lent, for as long as it runs; it allocates nothing and
  * keeps no pointer. For each call:
- * - no pointer may be NULL, not even where its length is 0;
+ * - `table` may be NULL where `table_bytes` is 0, and `list` where `list_bytes` is 0; no other pointer may be NULL;
  * - `table` points to `table_bytes` bytes, `list` to `list_bytes` bytes, at any alignment; each result is an aligned uint32_t of its own;
  * - table, list and results must not overlap one another.
  *
