@@ -1,9 +1,13 @@
 // Document 01's board "Five benches, one job for each pair, any arrival order: every load 2", in all 3,628,800
-// orders. They are taken in dictionary order, and the table of each prefix is kept, so that an order makes only the
-// arrivals after the prefix that it shares with the order before.
+// orders, beside a second solver that tries every sharing. Each table on the way is held against that solver's least
+// for the jobs that arrived. The orders are taken in dictionary order, and the table of each prefix is kept, so that
+// an order makes only the arrivals after the prefix that it shares with the order before.
 ghost use Prim.Native.Nat.{_≤_, _<_};
 use board_answers::Answer;
+use least::Least;
 use libc::STDOUT_FILENO;
+
+mod least;
 
 const BENCHES: usize = 5;
 
@@ -82,36 +86,61 @@ fn every_load_is_two(t: &[u8]) -> bool {
     true
 }
 
-// Makes one more arrival and keeps the table of the longer prefix; tells whether it was accepted.
-fn arrive_after(tables: &mut [u8; TABLES], jobs: usize, job: usize) -> bool
-    requires { ⌜ jobs < 10 ⌝ }
+// Gives the number of the set of an order's first jobs.
+fn set_of(order: &[u8; JOBS], jobs: usize) -> usize
+    requires { ⌜ jobs ≤ 10 ⌝ }
 {
-    let mut t = table_of(tables, jobs);
-    let accepted = arrives(&mut t, job);
-    keep_table(tables, jobs + 1, &t);
-    accepted
-}
-
-// Tells whether the jobs of an order from this place on are all accepted.
-fn all_arrive(tables: &mut [u8; TABLES], order: &[u8; JOBS], place: usize) -> bool {
-    let mut k = place;
-    while k < JOBS {
-        if !arrive_after(tables, k, wide(order[k])) {
-            return false;
-        }
+    let mut set: usize = 0;
+    let mut k = 0;
+    while k < jobs {
+        set = std::num::wrapping_add_usize(set, least::set_of_one(wide(order[k])));
         k += 1;
     }
-    true
+    set
 }
 
-// Takes an order whose tables up to this place are there; gives 0 if every load is 2 at its end, else 1.
-fn faults(tables: &mut [u8; TABLES], order: &[u8; JOBS], place: usize) -> u64 {
-    if all_arrive(tables, order, place) {
-        let t = table_of(tables, JOBS);
-        if every_load_is_two(&t) { 0 } else { 1 }
+// Gives 0 if the table of an order's first jobs agrees with the second solver, else 1.
+fn disagrees(tables: &[u8; TABLES], solved: &Least, order: &[u8; JOBS], jobs: usize) -> u64
+    requires { ⌜ jobs ≤ 10 ⌝ }
+{
+    let t = table_of(tables, jobs);
+    if least::agrees(solved, set_of(order, jobs), t) {
+        0
     } else {
         1
     }
+}
+
+// Makes the next arrival of an order and keeps the table of the longer prefix. Gives 0 if the arrival is accepted and
+// the table agrees with the second solver, else 1.
+fn arrive_next(tables: &mut [u8; TABLES], solved: &Least, order: &[u8; JOBS], jobs: usize) -> u64
+    requires { ⌜ jobs < 10 ⌝ }
+{
+    let mut t = table_of(tables, jobs);
+    let accepted = arrives(&mut t, wide(order[jobs]));
+    keep_table(tables, jobs + 1, &t);
+    if accepted {
+        disagrees(tables, solved, order, jobs + 1)
+    } else {
+        1
+    }
+}
+
+// Makes the arrivals of an order from this place on; counts those that are refused or leave a table that disagrees.
+fn arrive_all(tables: &mut [u8; TABLES], solved: &Least, order: &[u8; JOBS], place: usize) -> u64 {
+    let mut wrong: u64 = 0;
+    let mut k = place;
+    while k < JOBS {
+        wrong = std::num::wrapping_add_u64(wrong, arrive_next(tables, solved, order, k));
+        k += 1;
+    }
+    wrong
+}
+
+// Gives 0 if every load is 2 at the end of the order, else 1.
+fn ends_uneven(tables: &[u8; TABLES]) -> u64 {
+    let t = table_of(tables, JOBS);
+    if every_load_is_two(&t) { 0 } else { 1 }
 }
 
 fn swap(order: &mut [u8; JOBS], a: usize, b: usize)
@@ -178,6 +207,17 @@ fn print_count(n: u64, text: &[u8]) {
     io::write_all(STDOUT_FILENO, text);
 }
 
+fn report(orders: u64, uneven: u64, compared: u64, other: u64) {
+    print_count(orders, b" orders, ");
+    print_count(uneven, b" that do not end with every load 2\n");
+    print_count(compared, b" tables on the way, with ");
+    print_count(least::SETS as u64, b" sets of jobs: ");
+    print_count(
+        other,
+        b" with other jobs, or a heaviest load or an overhang that is not the second solver's least\n",
+    );
+}
+
 fn blank_tables() -> [u8; TABLES] {
     let mut tables = [0; TABLES];
     let mut t = zeros();
@@ -187,19 +227,24 @@ fn blank_tables() -> [u8; TABLES] {
 }
 
 fn main() {
+    let solved = least::of_every_set();
     let mut tables = blank_tables();
     let mut order = [1, 2, 3, 4, 5, 6, 7, 8, 9, 10];
     let mut place = 0;
     let mut orders: u64 = 0;
-    let mut wrong: u64 = 0;
+    let mut uneven: u64 = 0;
+    let mut compared: u64 = 1;
+    let mut other = disagrees(&tables, &solved, &order, 0);
     while orders < MANY {
         if place == JOBS {
             break;
         }
-        wrong = std::num::wrapping_add_u64(wrong, faults(&mut tables, &order, place));
+        let arrivals = std::num::wrapping_sub_usize(JOBS, place) as u64;
+        compared = std::num::wrapping_add_u64(compared, arrivals);
+        other = std::num::wrapping_add_u64(other, arrive_all(&mut tables, &solved, &order, place));
+        uneven = std::num::wrapping_add_u64(uneven, ends_uneven(&tables));
         orders += 1;
         place = next_order(&mut order);
     }
-    print_count(orders, b" orders, ");
-    print_count(wrong, b" with a refusal or a load other than 2\n");
+    report(orders, uneven, compared, other);
 }

@@ -1,6 +1,7 @@
 // Arrivals and closings, each held against what the book foretells and against the loads and holders before and
 // after; and the load of a bench.
 use crate::board::Board;
+use crate::board::MOST_JOBS;
 use crate::board_faults::loads;
 use crate::board_faults::same_loads;
 use crate::calls::Call;
@@ -10,7 +11,6 @@ use crate::counts;
 use crate::outcomes::Outcome;
 use crate::random;
 use test_solver::MOST_BENCHES;
-use test_solver::MOST_JOBS;
 use test_solver::bit;
 use test_solver::bytes;
 use test_solver::give;

@@ -3,6 +3,9 @@ use test_solver::Book;
 use test_solver::bytes;
 use test_solver::bytes::Table;
 
+// No board here has more jobs.
+pub const MOST_JOBS: usize = 8;
+
 pub struct Board {
     // The table is the first `length` bytes.
     pub table: Table,

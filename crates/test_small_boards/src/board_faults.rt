@@ -4,10 +4,8 @@ use crate::calls::Call;
 use crate::calls::perform;
 use crate::counts;
 use crate::tight_sets;
-use test_solver::Excesses;
 use test_solver::Loads;
 use test_solver::MOST_BENCHES;
-use test_solver::MOST_JOBS;
 use test_solver::bit;
 use test_solver::bytes;
 
@@ -31,18 +29,6 @@ pub fn loads(board: Board) -> Loads {
     loads
 }
 
-// Counts the loads by the holder words.
-fn loads_held(board: Board) -> Loads {
-    let mut loads = [0; 6];
-    let mut job = 1;
-    while job <= MOST_JOBS {
-        let more = test_solver::give(loads, board.holder(job));
-        loads = more;
-        job += 1;
-    }
-    loads
-}
-
 // Tells whether every bench has the same load in both.
 pub fn same_loads(a: Loads, b: Loads) -> bool {
     let mut same = true;
@@ -50,17 +36,6 @@ pub fn same_loads(a: Loads, b: Loads) -> bool {
     while bench <= MOST_BENCHES {
         same = same & (a[bench] == b[bench]);
         bench += 1;
-    }
-    same
-}
-
-// Tells whether the loads' excess is the least above every height.
-fn are_least(loads: Loads, least: Excesses) -> bool {
-    let mut same = true;
-    let mut height = 0;
-    while height <= MOST_JOBS {
-        same = same & (test_solver::excess(loads, height) == least[height]);
-        height += 1;
     }
     same
 }
@@ -73,7 +48,7 @@ fn loads_fault(board: Board, loads: Loads) -> usize {
     if perform(board, Call::Heaviest).first != heaviest {
         return counts::BAD_LOADS;
     }
-    let is_least = are_least(loads, test_solver::least_excesses(book));
+    let is_least = test_solver::are_least(loads, test_solver::least_excesses(book));
     if perform(board, Call::LevelCheck).first != bit(is_least) {
         return counts::BAD_LEVEL_CHECK;
     }
@@ -93,7 +68,7 @@ pub fn fault(board: Board) -> usize {
         return counts::BAD_RECORDS;
     }
     let loads = loads(board);
-    if !same_loads(loads_held(board), loads) {
+    if !same_loads(bytes::loads_held(t, board.benches, board.jobs), loads) {
         return counts::BAD_LOADS;
     }
     let fault = loads_fault(board, loads);

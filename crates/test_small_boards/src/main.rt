@@ -6,6 +6,7 @@
 // Boards are handed over and back by value, since a call with a `&mut` takes up to four times as long to prove;
 // conditions are joined by `&`, since each `&&` is a branch.
 use board::Board;
+use board::MOST_JOBS;
 use counts::Counts;
 use libc::STDOUT_FILENO;
 use outcomes::Outcome;
@@ -94,7 +95,7 @@ fn calls_of(begun: Outcome, seed: u64, before: Counts) -> Counts {
 fn run(seed: u64, before: Counts) -> Counts {
     let benches = std::num::wrapping_add_usize(random::within(seed, 1, 4), 1);
     let drawn = random::within(seed, 2, 16);
-    let jobs = if drawn < 8 { drawn } else { 8 };
+    let jobs = if drawn < MOST_JOBS { drawn } else { MOST_JOBS };
     let begun = starts::begin(benches, jobs, random::below(seed, 3, 3), seed);
     calls_of(begun, random::after(seed, 100), before)
 }

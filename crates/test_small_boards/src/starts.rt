@@ -1,12 +1,12 @@
 // Boards to start from: blank, or with random jobs that are held anyhow, levelled or not.
 use crate::board::Board;
+use crate::board::MOST_JOBS;
 use crate::calls::Call;
 use crate::calls::Reply;
 use crate::calls::perform;
 use crate::counts;
 use crate::outcomes::Outcome;
 use crate::random;
-use test_solver::MOST_JOBS;
 use test_solver::bytes;
 use test_solver::job_book;
 

@@ -1,10 +1,10 @@
 // Tight sets of every height, held against sets made anew from the holders.
 use crate::board::Board;
+use crate::board::MOST_JOBS;
 use board_answers::Answer;
 use test_solver::Book;
 use test_solver::Loads;
 use test_solver::MOST_BENCHES;
-use test_solver::MOST_JOBS;
 use test_solver::bench_of;
 use test_solver::bit;
 use test_solver::bytes;

@@ -2,12 +2,13 @@
 // beginning.
 ghost use Prim.Native.Nat.{_<_};
 use crate::Book;
+use crate::Loads;
 use crate::MOST_BENCHES;
 use crate::MOST_JOBS;
 use crate::bench_of;
 use crate::job_book::standing;
 
-// No table here is as long.
+// No table here is longer.
 pub const SPACE: usize = 98;
 
 const WORDS: usize = 49;
@@ -88,6 +89,20 @@ pub fn holder(t: Table, benches: usize, job: usize) -> usize {
         2 => field(t, benches, job, 1),
         _ => 0,
     }
+}
+
+// Counts the loads by the holder words. Counts in place, since a test asks millions of times.
+pub fn loads_held(t: Table, benches: usize, jobs: usize) -> Loads {
+    let mut loads = [0; 6];
+    let mut job = 0;
+    while job < jobs {
+        job += 1;
+        let bench = holder(t, benches, job);
+        if bench <= MOST_BENCHES {
+            loads[bench] = std::num::wrapping_add_usize(loads[bench], 1);
+        }
+    }
+    loads
 }
 
 // Tells whether a standing job's record names the book's benches and a holder, and any other is four zeros.

@@ -6,7 +6,7 @@ use crate::bit;
 
 // Gives the book of a blank board.
 pub fn empty() -> Book {
-    [0; 18]
+    [0; 22]
 }
 
 // Tells whether a job stands.

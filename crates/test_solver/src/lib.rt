@@ -3,26 +3,24 @@
 // value, since a call with a `&mut` takes up to four times as long to prove; conditions are joined by `&`, since each
 // `&&` is a branch.
 //
-// Benches are numbered 1 to 5 here, jobs 1 to 8.
+// Benches are numbered 1 to 5 here, jobs 1 to 10.
+use job_book::stands;
 
 pub mod bytes;
 pub mod job_book;
 
 pub const MOST_BENCHES: usize = 5;
 
-pub const MOST_JOBS: usize = 8;
+pub const MOST_JOBS: usize = 10;
 
 // At twice a job's number and the place after it, the benches that the job names; 0 and 0 for nothing.
-pub type Book = [usize; 18];
+pub type Book = [usize; 22];
 
 // The load of each bench; place 0 is for jobs on no bench, and is not looked at.
 pub type Loads = [usize; 6];
 
 // The excess above each height from 0.
-pub type Excesses = [usize; 9];
-
-// Ways to choose one of two benches for each of 8 jobs.
-const SHARINGS: usize = 256;
+pub type Excesses = [usize; 11];
 
 // No load or excess is as large.
 const LARGE: usize = 1000;
@@ -46,18 +44,31 @@ pub fn give(loads: Loads, bench: usize) -> Loads {
     more
 }
 
+// Counts the sharings: each standing job goes to one of two benches.
+fn sharings(book: Book) -> usize {
+    let mut n: usize = 1;
+    let mut job = 1;
+    while job <= MOST_JOBS {
+        if stands(book, job) {
+            n = std::num::wrapping_add_usize(n, n);
+        }
+        job += 1;
+    }
+    n
+}
+
 // Counts the loads of a sharing. Each binary digit of its number, from the lowest, says which of its two benches a
-// job goes to.
+// standing job goes to.
 fn loads_of(book: Book, sharing: usize) -> Loads {
     let mut loads = [0; 6];
     let mut rest = sharing;
     let mut job = 1;
     while job <= MOST_JOBS {
-        let bench = bench_of(book, job, rest % 2);
-        if bench <= MOST_BENCHES {
-            loads[bench] = std::num::wrapping_add_usize(loads[bench], 1);
+        if stands(book, job) {
+            let more = give(loads, bench_of(book, job, rest % 2));
+            loads = more;
+            rest = rest / 2;
         }
-        rest = rest / 2;
         job += 1;
     }
     loads
@@ -107,9 +118,10 @@ pub fn heaviest(loads: Loads) -> usize {
 
 // Gives the least heaviest load of all sharings.
 pub fn least_heaviest(book: Book) -> usize {
+    let end = sharings(book);
     let mut least = LARGE;
     let mut sharing = 0;
-    while sharing < SHARINGS {
+    while sharing < end {
         least = lesser(least, heaviest(loads_of(book, sharing)));
         sharing += 1;
     }
@@ -127,14 +139,26 @@ fn lower(least: Excesses, loads: Loads) -> Excesses {
     lowered
 }
 
-// Gives the least excess of all sharings above each height from 0 to 8.
+// Gives the least excess of all sharings above each height from 0 to 10.
 pub fn least_excesses(book: Book) -> Excesses {
-    let mut least = [LARGE; 9];
+    let end = sharings(book);
+    let mut least = [LARGE; 11];
     let mut sharing = 0;
-    while sharing < SHARINGS {
+    while sharing < end {
         let lowered = lower(least, loads_of(book, sharing));
         least = lowered;
         sharing += 1;
     }
     least
+}
+
+// Tells whether the loads' excess is the least above every height.
+pub fn are_least(loads: Loads, least: Excesses) -> bool {
+    let mut same = true;
+    let mut height = 0;
+    while height <= MOST_JOBS {
+        same = same & (excess(loads, height) == least[height]);
+        height += 1;
+    }
+    same
 }

@@ -5,22 +5,42 @@ use Rattle.test_five_benches.proofs.main.Statement.{statement}
 use Rattle.test_five_benches.proofs.main.Tie as tie
 
 abbrev Inv-loop : tie.InvT-loop
-Inv-loop tables₀ order₀ place₀ orders₀ wrong₀ t6 t7 tables order place orders wrong = orders ≤ 4000000
+Inv-loop solved tables₀ order₀ place₀ orders₀ uneven₀ compared₀ other₀ tables order place orders uneven compared other =
+    orders ≤ 4000000
 
 abbrev μ-loop : tie.MeasureT-loop
-μ-loop tables₀ order₀ place₀ orders₀ wrong₀ t6 t7 tables order place orders wrong = 4000000 - orders
+μ-loop solved tables₀ order₀ place₀ orders₀ uneven₀ compared₀ other₀ tables order place orders uneven compared other =
+    4000000 - orders
+
+of-every-set-requires : tie.Need-of-every-set-requires Inv-loop μ-loop
+of-every-set-requires c κs = search needs
 
 blank-tables-requires : tie.Need-blank-tables-requires Inv-loop μ-loop
 blank-tables-requires c κs = search needs
 
+disagrees-requires : tie.Need-disagrees-requires Inv-loop μ-loop
+disagrees-requires c κs = search needs
+
 loop-holds : tie.Need-loop-holds Inv-loop μ-loop
 loop-holds c = search needs
 
-faults-requires : tie.Need-faults-requires Inv-loop μ-loop
-faults-requires c κs = search needs
+wrapping-sub-usize-requires : tie.Need-wrapping-sub-usize-requires Inv-loop μ-loop
+wrapping-sub-usize-requires c κs = search needs
 
 wrapping-add-u64-requires : tie.Need-wrapping-add-u64-requires Inv-loop μ-loop
 wrapping-add-u64-requires c κs = search needs
+
+arrive-all-requires : tie.Need-arrive-all-requires Inv-loop μ-loop
+arrive-all-requires c κs = search needs
+
+wrapping-add-u64-requires-2 : tie.Need-wrapping-add-u64-requires-2 Inv-loop μ-loop
+wrapping-add-u64-requires-2 c κs = search needs
+
+ends-uneven-requires : tie.Need-ends-uneven-requires Inv-loop μ-loop
+ends-uneven-requires c κs = search needs
+
+wrapping-add-u64-requires-3 : tie.Need-wrapping-add-u64-requires-3 Inv-loop μ-loop
+wrapping-add-u64-requires-3 c κs = search needs
 
 add-orders : tie.Need-add-orders Inv-loop μ-loop
 add-orders c = search needs
@@ -34,17 +54,8 @@ loop-less c = search needs
 loop-again : tie.Need-loop-again Inv-loop μ-loop
 loop-again c = search needs
 
-slice-aggregate-print-count : tie.Need-slice-aggregate-print-count Inv-loop μ-loop
-slice-aggregate-print-count c = search needs
-
-print-count-requires : tie.Need-print-count-requires Inv-loop μ-loop
-print-count-requires c κs = search needs
-
-slice-aggregate-print-count-2 : tie.Need-slice-aggregate-print-count-2 Inv-loop μ-loop
-slice-aggregate-print-count-2 c = search needs
-
-print-count-requires-2 : tie.Need-print-count-requires-2 Inv-loop μ-loop
-print-count-requires-2 c κs = search needs
+report-requires : tie.Need-report-requires Inv-loop μ-loop
+report-requires c κs = search needs
 
 returns : tie.Need-returns Inv-loop μ-loop
 returns c = search needs
@@ -55,16 +66,19 @@ main-spec =
     (tie.spec
     Inv-loop
     μ-loop
+    of-every-set-requires
     blank-tables-requires
+    disagrees-requires
     loop-holds
-    faults-requires
+    wrapping-sub-usize-requires
     wrapping-add-u64-requires
+    arrive-all-requires
+    wrapping-add-u64-requires-2
+    ends-uneven-requires
+    wrapping-add-u64-requires-3
     add-orders
     next-order-requires
     loop-less
     loop-again
-    slice-aggregate-print-count
-    print-count-requires
-    slice-aggregate-print-count-2
-    print-count-requires-2
+    report-requires
     returns)

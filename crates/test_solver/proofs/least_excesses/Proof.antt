@@ -5,10 +5,13 @@ use Rattle.test_solver.proofs.least_excesses.Statement.{statement}
 use Rattle.test_solver.proofs.least_excesses.Tie as tie
 
 abbrev Inv-loop : tie.InvT-loop
-Inv-loop book least₀ sharing₀ least sharing = sharing ≤ 256
+Inv-loop book end least₀ sharing₀ least sharing = sharing ≤ end
 
 abbrev μ-loop : tie.MeasureT-loop
-μ-loop book least₀ sharing₀ least sharing = 256 - sharing
+μ-loop book end least₀ sharing₀ least sharing = end - sharing
+
+sharings-requires : tie.Need-sharings-requires Inv-loop μ-loop
+sharings-requires c κs = search needs
 
 loop-holds : tie.Need-loop-holds Inv-loop μ-loop
 loop-holds c = search needs
@@ -37,6 +40,7 @@ least-excesses-spec =
     (tie.spec
     Inv-loop
     μ-loop
+    sharings-requires
     loop-holds
     loads-of-requires
     lower-requires

@@ -5,31 +5,22 @@ use Rattle.test_solver.proofs.loads_of.Statement.{statement}
 use Rattle.test_solver.proofs.loads_of.Tie as tie
 
 abbrev Inv-loop : tie.InvT-loop
-Inv-loop book sharing loads₀ rest₀ job₀ loads rest job = job ≤ 9
+Inv-loop book sharing loads₀ rest₀ job₀ loads rest job = job ≤ 11
 
 abbrev μ-loop : tie.MeasureT-loop
-μ-loop book sharing loads₀ rest₀ job₀ loads rest job = 9 - job
+μ-loop book sharing loads₀ rest₀ job₀ loads rest job = 11 - job
 
 loop-holds : tie.Need-loop-holds Inv-loop μ-loop
 loop-holds c = search needs
 
+stands-requires : tie.Need-stands-requires Inv-loop μ-loop
+stands-requires c κs = search needs
+
 bench-of-requires : tie.Need-bench-of-requires Inv-loop μ-loop
 bench-of-requires c κs = search needs
 
-mul-wrapping-add-usize : tie.Need-mul-wrapping-add-usize Inv-loop μ-loop
-mul-wrapping-add-usize c = search needs
-
-array-read-wrapping-add-usize : tie.Need-array-read-wrapping-add-usize Inv-loop μ-loop
-array-read-wrapping-add-usize c = search needs
-
-wrapping-add-usize-requires : tie.Need-wrapping-add-usize-requires Inv-loop μ-loop
-wrapping-add-usize-requires c κs = search needs
-
-mul-loads : tie.Need-mul-loads Inv-loop μ-loop
-mul-loads c = search needs
-
-array-write-loads : tie.Need-array-write-loads Inv-loop μ-loop
-array-write-loads c = search needs
+give-requires : tie.Need-give-requires Inv-loop μ-loop
+give-requires c κs = search needs
 
 add-job : tie.Need-add-job Inv-loop μ-loop
 add-job c = search needs
@@ -50,12 +41,9 @@ loads-of-spec =
     Inv-loop
     μ-loop
     loop-holds
+    stands-requires
     bench-of-requires
-    mul-wrapping-add-usize
-    array-read-wrapping-add-usize
-    wrapping-add-usize-requires
-    mul-loads
-    array-write-loads
+    give-requires
     add-job
     loop-less
     loop-again

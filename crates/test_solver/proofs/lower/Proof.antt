@@ -5,10 +5,10 @@ use Rattle.test_solver.proofs.lower.Statement.{statement}
 use Rattle.test_solver.proofs.lower.Tie as tie
 
 abbrev Inv-loop : tie.InvT-loop
-Inv-loop loads lowered₀ height₀ lowered height = height ≤ 9
+Inv-loop loads lowered₀ height₀ lowered height = height ≤ 11
 
 abbrev μ-loop : tie.MeasureT-loop
-μ-loop loads lowered₀ height₀ lowered height = 9 - height
+μ-loop loads lowered₀ height₀ lowered height = 11 - height
 
 loop-holds : tie.Need-loop-holds Inv-loop μ-loop
 loop-holds c = search needs

@@ -5,10 +5,10 @@ use Rattle.test_solver.proofs.job_book.standing.Statement.{statement}
 use Rattle.test_solver.proofs.job_book.standing.Tie as tie
 
 abbrev Inv-loop : tie.InvT-loop
-Inv-loop book n₀ job₀ n job = job ≤ 9
+Inv-loop book n₀ job₀ n job = job ≤ 11
 
 abbrev μ-loop : tie.MeasureT-loop
-μ-loop book n₀ job₀ n job = 9 - job
+μ-loop book n₀ job₀ n job = 11 - job
 
 loop-holds : tie.Need-loop-holds Inv-loop μ-loop
 loop-holds c = search needs

@@ -1,14 +1,14 @@
 -- The measure is how many jobs are left.
-use Prim.Native.Nat.{_-_}
+use Prim.Native.Nat.{_≤_, _-_}
 use borrow.Author.Needs.{needs}
-use Rattle.test_five_benches.proofs.all_arrive.Statement.{statement}
-use Rattle.test_five_benches.proofs.all_arrive.Tie as tie
+use Rattle.test_five_benches.proofs.set_of.Statement.{statement}
+use Rattle.test_five_benches.proofs.set_of.Tie as tie
 
 abbrev Inv-loop : tie.InvT-loop
-Inv-loop tables₀ order place k₀ tables k = Unit {0}
+Inv-loop order jobs set₀ k₀ set k = k ≤ jobs
 
 abbrev μ-loop : tie.MeasureT-loop
-μ-loop tables₀ order place k₀ tables k = 10 - k
+μ-loop order jobs set₀ k₀ set k = jobs - k
 
 loop-holds : tie.Need-loop-holds Inv-loop μ-loop
 loop-holds c = search needs
@@ -19,11 +19,11 @@ element-copy-out-wide c = search needs
 wide-requires : tie.Need-wide-requires Inv-loop μ-loop
 wide-requires c κs = search needs
 
-arrive-after-requires : tie.Need-arrive-after-requires Inv-loop μ-loop
-arrive-after-requires c κs = search needs
+set-of-one-requires : tie.Need-set-of-one-requires Inv-loop μ-loop
+set-of-one-requires c κs = search needs
 
-returns : tie.Need-returns Inv-loop μ-loop
-returns c = search needs
+wrapping-add-usize-requires : tie.Need-wrapping-add-usize-requires Inv-loop μ-loop
+wrapping-add-usize-requires c κs = search needs
 
 add-k : tie.Need-add-k Inv-loop μ-loop
 add-k c = search needs
@@ -34,11 +34,11 @@ loop-less c = search needs
 loop-again : tie.Need-loop-again Inv-loop μ-loop
 loop-again c = search needs
 
-returns-2 : tie.Need-returns-2 Inv-loop μ-loop
-returns-2 c = search needs
+returns : tie.Need-returns Inv-loop μ-loop
+returns c = search needs
 
-pub all-arrive-spec : {M : Type 1} → statement M
-all-arrive-spec =
+pub set-of-spec : {M : Type 1} → statement M
+set-of-spec =
     tie.close
     (tie.spec
     Inv-loop
@@ -46,9 +46,9 @@ all-arrive-spec =
     loop-holds
     element-copy-out-wide
     wide-requires
-    arrive-after-requires
-    returns
+    set-of-one-requires
+    wrapping-add-usize-requires
     add-k
     loop-less
     loop-again
-    returns-2)
+    returns)

@@ -1,14 +1,14 @@
 -- The measure is how many heights are left.
 use Prim.Native.Nat.{_≤_, _-_}
 use borrow.Author.Needs.{needs}
-use Rattle.test_small_boards.proofs.board_faults.are_least.Statement.{statement}
-use Rattle.test_small_boards.proofs.board_faults.are_least.Tie as tie
+use Rattle.test_solver.proofs.are_least.Statement.{statement}
+use Rattle.test_solver.proofs.are_least.Tie as tie
 
 abbrev Inv-loop : tie.InvT-loop
-Inv-loop loads least same₀ height₀ same height = height ≤ 9
+Inv-loop loads least same₀ height₀ same height = height ≤ 11
 
 abbrev μ-loop : tie.MeasureT-loop
-μ-loop loads least same₀ height₀ same height = 9 - height
+μ-loop loads least same₀ height₀ same height = 11 - height
 
 loop-holds : tie.Need-loop-holds Inv-loop μ-loop
 loop-holds c = search needs
