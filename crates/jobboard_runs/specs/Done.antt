@@ -1,6 +1,6 @@
--- A call of one of the board's functions, by the function's own contract `Post`: its lifetimes (κs), what it was lent
--- (a), what it answered (r), and what it left of that (s). The lent bytes and numbers stand in their order: `a .0` is the table,
--- `a .1 .0` the first number.
+-- A call of one of the board's functions, by the function's own contract `Post`: for how long it was lent what (κs, a),
+-- what it answered (r), and what it left of the lent bytes (s). What is lent stands in the function's order: `a .0` is
+-- the table, `a .1 .0` what comes after it; `now` are its bytes.
 use mathlib.Core.Path.{_≡_}
 use mathlib.Core.List.{List, [], _∷_}
 use Prim.Native.Nat.{ℕ}
@@ -25,7 +25,8 @@ use Rattle.board_questions.proofs.tight_set.Reads as tight-set
 pub data Done : Call → List ℕ → Outcome → Type 0 where
   byArrival :
       (κs : Lfts 1) (a : _) (r : _) (s : _) → arrive.Post κs a r s →
-      Done (arrival (record { job = a .1 .0; given = a .1 .1 .0 ∷ a .1 .1 .1 .0 ∷ [] })) (a .0 .now) (leftBy r (s .0 .now) [])
+      Done (arrival (record { job = a .1 .0; given = a .1 .1 .0 ∷ a .1 .1 .1 .0 ∷ [] })) (a .0 .now)
+      (leftBy r (s .0 .now) [])
   byClosing :
       (κs : Lfts 1) (a : _) (r : _) (s : _) → close.Post κs a r s →
       Done (closing (record { job = a .1 .0 })) (a .0 .now) (leftBy r (s .0 .now) [])

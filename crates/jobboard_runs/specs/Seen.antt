@@ -102,8 +102,8 @@ pub data CStarted : List ℕ → Book → Type 0 where
       (κs : Lfts 2) (a : _) (r : _) (s : _) → c-level-check.Post κs a r s → r ≡ 0 → s .1 .0 .now ≡ 1 →
       CStarted (a .0 .now) ((decode (a .0 .now)) .named)
 
--- what demand 3 claims of a list of C calls: the claim of the defined outcomes, which are what the C program sees, call
--- by call, and the table it holds is theirs
+-- what demand 3 claims of a list of C calls: the claim of the defined outcomes, which are what the C program sees,
+-- call by call, and the table it holds is theirs
 pub record CClaim (t : List ℕ) (k : Book) (cs : List Call) (vs : List Seen) : Type 0 where
   pub claim : Claim t k cs (run t cs)
   pub reported : ReportedEach (run t cs) vs
