@@ -7,7 +7,7 @@ use mathlib.Core.List.{List, [], _∷_}
 use lib.Dec.{T, eqb}
 use Rattle.spec_lists.specs.Lists.{within, distinct, In, nth, bit, total}
 use Rattle.spec_table.specs.Board.{holderOf, stands, standing, load}
-use Rattle.spec_table.specs.Table.{Entry, vacant, follow, chains, decode}
+use Rattle.spec_table.specs.Table.{Entry, follow, chains, decode}
 use Rattle.spec_lists.proofs.Tests.{T-eqb, eqb-T, differ, within-both}
 use Rattle.spec_lists.proofs.Elements.{in-each, in-nth, nth-map}
 use Rattle.spec_lists.proofs.Counting.{distinct-count, few, total-tested, count-total}
@@ -19,12 +19,12 @@ use Rattle.table_board.proofs.RecordsAsBoard.{sound-holds-board, stands-job, st
 use Rattle.table_board.proofs.LoadCounts.{holders-long}
 use Rattle.table_size.proofs.Sizes.{heads-long, board-bench}
 use Rattle.table_words.specs.Bytes.{layoutIn}
-use Rattle.table_size.specs.Sizes.{JobIn, BenchIn, SoundTable}
+use Rattle.table_size.specs.Sizes.{BenchIn, SoundTable}
 use Rattle.table_records.specs.Records.{RecordOf}
 use Rattle.table_size.specs.Written.{HeadOf}
 use Rattle.table_records.specs.declared.Record.{Record}
 use Rattle.table_board.specs.BoardView.{HoldsBoard}
-use Rattle.table_chains.specs.Chains.{chainFrom, ChainOf, NextOf, Rest}
+use Rattle.table_chains.specs.Chains.{chainFrom, storedHead, storedNext, ChainOf, NextOf, Rest}
 use Rattle.table_size.specs.declared.Size.{Size}
 
 -- "Next 0 ends a chain"
@@ -41,59 +41,33 @@ chain-begins t (suc i) l = inl refl
 -- the chains of a sound table
 
 -- bench x's chain is the chain from its head
-head-chain : (t : List ℕ) (x : ℕ) → nth (chains (layoutIn t)) x [] ≡ chainFrom t (nth ((layoutIn t) .heads) x 0)
+head-chain : (t : List ℕ) (x : ℕ) → nth (chains (layoutIn t)) x [] ≡ chainFrom t (storedHead t x)
 unfolding chainFrom
 head-chain t x = let l = layoutIn t in nth-map (follow (l .entries) (suc (l .jobs))) (l .heads) x 0
 
 -- on it are the jobs that x holds
-held-chain : (t : List ℕ) (s : Size) (x : ℕ) → SoundTable t s → BenchIn s x → (i : ℕ) → In i (chainFrom t (nth ((layoutIn t) .heads) x 0)) ↔ (T (stands (decode t) i) × (holderOf (decode t) i ≡ x))
+held-chain : (t : List ℕ) (s : Size) (x : ℕ) → SoundTable t s → BenchIn s x → (i : ℕ) → In i (chainFrom t (storedHead t x)) ↔ (T (stands (decode t) i) × (holderOf (decode t) i ≡ x))
 held-chain t s x z b i =
     let on = on-chain t (z .sound) i x (b .least) (omega (arith, z .size .board-benches, b .most)) in
     subst (λ (c : List ℕ). In i c ↔ (T (stands (decode t) i) × (holderOf (decode t) i ≡ x))) (head-chain t x) on
 
 -- bench x's chain ends
-head-ends : (t : List ℕ) (s : Size) (x : ℕ) → SoundTable t s → BenchIn s x → Ends ((layoutIn t) .entries) ((layoutIn t) .jobs) (nth ((layoutIn t) .heads) x 0)
+head-ends : (t : List ℕ) (s : Size) (x : ℕ) → SoundTable t s → BenchIn s x → Ends ((layoutIn t) .entries) ((layoutIn t) .jobs) (storedHead t x)
 head-ends t s x z b =
     let l = layoutIn t in
     chain-ends t (z .sound) (nth (l .heads) x 0) (in-nth (l .heads) x 0 (b .least) (omega (arith, b .most, heads-long t s (z .size))))
 
--- bench x's chain from its head
-pub first-chain : (t : List ℕ) (s : Size) (x : ℕ) → SoundTable t s → BenchIn s x → ChainOf t s x (nth ((layoutIn t) .heads) x 0)
-unfolding chainFrom
-first-chain t s x z b =
-    record {
-      held = held;
-      once = once;
-      few = few (s .jobs) c (distinct-count c once) (in-each (λ j. T (within 1 (s .jobs) j)) c (λ j i. let n = stands-job t s j (z .size) ((held j) .0 i .0) in within-both 1 (s .jobs) j (n .least) (n .most)));
-    }
-  where
-    h : ℕ
-    h = nth ((layoutIn t) .heads) x 0
-
-    c : List ℕ
-    c = chainFrom t h
-
-    held : (i : ℕ) → In i c ↔ (T (stands (decode t) i) × (holderOf (decode t) i ≡ x))
-    held = held-chain t s x z b
-
-    once : T (distinct c)
-    once = ends-distinct ((layoutIn t) .entries) (suc ((layoutIn t) .jobs)) ((layoutIn t) .jobs) h (head-ends t s x z b)
-
 -- the chain after a standing job
-pub next-chain : (t : List ℕ) (s : Size) (j : ℕ) → SoundTable t s → JobIn s j → T (stands (decode t) j) → NextOf t j ((nth ((layoutIn t) .entries) j vacant) .next)
+pub next-chain : (t : List ℕ) (s : Size) (j : ℕ) → SoundTable t s → T (stands (decode t) j) → chainFrom t j ≡ j ∷ chainFrom t (storedNext t j)
 unfolding chainFrom
-next-chain t s zero z i p = absurd (omega (arith, i .least))
-next-chain t s (suc j) z i p =
-    record { chain = chain }
+next-chain t s zero z p = absurd (omega (arith, stands-job t s 0 (z .size) p .least))
+next-chain t s (suc j) z p = ends-next es jobs j (ends-on es (suc jobs) jobs h (suc j) (head-ends t s x z bench) on)
   where
     es : List Entry
     es = (layoutIn t) .entries
 
     jobs : ℕ
     jobs = (layoutIn t) .jobs
-
-    n : ℕ
-    n = (nth es (suc j) vacant) .next
 
     x : ℕ
     x = holderOf (decode t) (suc j)
@@ -102,19 +76,10 @@ next-chain t s (suc j) z i p =
     bench = board-bench x (z .size) (holder-bench (decode t) (z .storable .valid) (suc j) p)
 
     h : ℕ
-    h = nth ((layoutIn t) .heads) x 0
-
-    held : (i : ℕ) → In i (chainFrom t h) ↔ (T (stands (decode t) i) × (holderOf (decode t) i ≡ x))
-    held = held-chain t s x z bench
+    h = storedHead t x
 
     on : In (suc j) (chainFrom t h)
-    on = (held (suc j)) .1 (p, refl)
-
-    ends : Ends es jobs h
-    ends = head-ends t s x z bench
-
-    chain : chainFrom t (suc j) ≡ suc j ∷ chainFrom t n
-    chain = ends-next es jobs j (ends-on es (suc jobs) jobs h (suc j) ends on)
+    on = (held-chain t s x z bench (suc j)) .1 (p, refl)
 
 -- what was read
 
@@ -124,11 +89,30 @@ standing-read t s r z e = e ∙ standing-word t (z .sound)
 
 -- bench x's head begins its chain
 pub first-read : (t : List ℕ) (s : Size) (x r : ℕ) → SoundTable t s → BenchIn s x → HeadOf t x r → ChainOf t s x r
-first-read t s x r z b h = subst (ChainOf t s x) (sym (h .head)) (first-chain t s x z b)
+unfolding chainFrom
+first-read t s x r z b h =
+    record {
+      stored = h .head;
+      small = h .small;
+      held = held;
+      once = once;
+      few = few (s .jobs) c (distinct-count c once) (in-each (λ j. T (within 1 (s .jobs) j)) c (λ j i. let n = stands-job t s j (z .size) ((held j) .0 i .0) in within-both 1 (s .jobs) j (n .least) (n .most)));
+    }
+  where
+    c : List ℕ
+    c = chainFrom t r
+
+    held : (i : ℕ) → In i c ↔ (T (stands (decode t) i) × (holderOf (decode t) i ≡ x))
+    held = rw (h .head) (held-chain t s x z b)
+
+    once : T (distinct c)
+    once = ends-distinct ((layoutIn t) .entries) (suc ((layoutIn t) .jobs)) ((layoutIn t) .jobs) r (rw (h .head) (head-ends t s x z b))
 
 -- a standing job's record tells the next job on its chain
-pub next-read : (t : List ℕ) (s : Size) (j : ℕ) (r : Record) → SoundTable t s → JobIn s j → T (stands (decode t) j) → RecordOf t j r → NextOf t j (r .next)
-next-read t s j r z i p f = subst (NextOf t j) (ap (λ (e : Entry). e .next) (sym (f .entry))) (next-chain t s j z i p)
+pub next-read : (t : List ℕ) (s : Size) (j : ℕ) (r : Record) → SoundTable t s → T (stands (decode t) j) → RecordOf t j r → NextOf t j (r .next)
+next-read t s j r z p f =
+    let e : r .next ≡ storedNext t j = ap (λ (e : Entry). e .next) (f .entry) in
+    record { stored = e; small = f .small .next; chain = rw e (next-chain t s j z p) }
 
 -- a walk along a chain
 

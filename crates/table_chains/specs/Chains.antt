@@ -1,13 +1,13 @@
 -- Chains made anew, as the code goes: from the last job down, each held job is pushed at the front of its holder's
 -- chain.
-use Prim.Native.Nat.{ℕ, zero, suc, _≤_}
+use Prim.Native.Nat.{ℕ, zero, suc, _≤_, _<_}
 use mathlib.Core.Path.{_≡_}
 use mathlib.Core.List.{List, _∷_}
 use Rattle.spec_lists.specs.Lists.{bit, nth, In, distinct}
 use Rattle.spec_table.specs.Board.{stands, standing, holderOf}
 use Rattle.spec_table.specs.Table.{Layout, vacant, holderIn, decode, encode, follow}
 use Rattle.table_words.specs.Bytes.{layoutIn}
-use Rattle.table_size.specs.Written.{withHead, withEntry, withNext}
+use Rattle.table_size.specs.Written.{recordIn, withHead, withEntry, withNext}
 use Rattle.table_size.specs.declared.Size.{Size}
 use Rattle.table_board.specs.BoardView.{HoldsBoard}
 use mathlib.Core.Logic.{_↔_}
@@ -19,14 +19,26 @@ use Rattle.table_size.specs.Sizes.{SoundTable}
 unfoldable pub chainFrom : List ℕ → ℕ → List ℕ
 chainFrom t j = follow ((layoutIn t) .entries) (suc ((layoutIn t) .jobs)) j
 
+-- the first job on bench x's chain, as stored
+abbrev pub storedHead : List ℕ → ℕ → ℕ
+storedHead t x = nth ((layoutIn t) .heads) x 0
+
+-- the job after job j on its chain, as stored
+abbrev pub storedNext : List ℕ → ℕ → ℕ
+storedNext t j = (recordIn t j) .next
+
 -- bench x's chain begins with job j: on it are the jobs that x holds, each once
 pub record ChainOf (t : List ℕ) (s : Size) (x j : ℕ) : Type 0 where
+  pub stored : j ≡ storedHead t x
+  pub small : j < 65536
   pub held : (i : ℕ) → In i (chainFrom t j) ↔ (T (stands (decode t) i) × (holderOf (decode t) i ≡ x))
   pub once : T (distinct (chainFrom t j))
   pub few : length (chainFrom t j) ≤ s .jobs
 
 -- after job j on its chain comes the chain from job n on
 pub record NextOf (t : List ℕ) (j n : ℕ) : Type 0 where
+  pub stored : n ≡ storedNext t j
+  pub small : n < 65536
   pub chain : chainFrom t j ≡ j ∷ chainFrom t n
 
 -- what is left of bench x's chain is the chain from job j on: x holds its jobs

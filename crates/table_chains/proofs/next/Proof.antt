@@ -16,7 +16,7 @@ returns c =
     let start = c .before .before in
     let args = start .args in
     let pre = start .pre in
-    next-read (args .t .now) (args .s) (args .j) (c .read-record .result) (pre .0) (stands-job (args .t .now) (args .s) (args .j) (pre .0 .size) (pre .1)) (pre .1) (c .read-record .ensures)
+    next-read (args .t .now) (args .s) (args .j) (c .read-record .result) (pre .0) (pre .1) (c .read-record .ensures)
 
 pub next-spec : {M : Type 1} → statement M
 next-spec = tie.close (tie.spec read-record-requires returns)
