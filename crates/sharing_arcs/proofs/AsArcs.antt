@@ -25,7 +25,7 @@ use Rattle.table_size.specs.Sizes.{BenchIn}
 use Rattle.table_size.specs.declared.Size.{Size}
 use Rattle.table_size.proofs.Sizes.{board-bench}
 use Rattle.table_board.specs.BoardView.{HoldsBoard, Loaded, Position, NameOf}
-use Rattle.table_board.proofs.RecordsAsBoard.{names-job, holder-most, stands-held, names-length}
+use Rattle.table_board.proofs.RecordsAsBoard.{stands-job, holder-most, stands-held, names-length}
 use Rattle.table_board.proofs.LoadCounts.{holders-long}
 use Rattle.graph_lists.specs.Arrays.{at, HasArc, Arcs, Reached, here, step, LoadsIn}
 use Rattle.graph_lists.specs.Keys.{KeysIn}
@@ -116,10 +116,10 @@ abbrev pub Filling : Board → Size → ℕ → List ℕ → List ℕ → Type 0
 Filling b s done from to = ArcsOf b (record { benches = s .benches; jobs = done }) from to
 
 -- one more value, written at its place
-at-more : (f : ℕ → ℕ) (l : List ℕ) (n x : ℕ) → n + 1 < length l → x ≡ f (n + 1) → ((j : ℕ) → T (within 1 n j) → at l j ≡ f j) → (j : ℕ) → T (within 1 (n + 1) j) → at (set l (n + 1) x) j ≡ f j
-at-more f l n x h e g j w = elim (ℕ-discrete j (n + 1)) [
+pub at-more : (f : ℕ → ℕ) (l : List ℕ) (n x : ℕ) → n + 1 < length l → x ≡ f (n + 1) → (j : ℕ) → (T (within 1 n j) → at l j ≡ f j) → T (within 1 (n + 1) j) → at (set l (n + 1) x) j ≡ f j
+at-more f l n x h e j g w = elim (ℕ-discrete j (n + 1)) [
   | yes q ↦ rw q (getD-set-same l (n + 1) x 0 h ∙ e)
-  | no d ↦ getD-set-other l (n + 1) j x 0 d ∙ g j (within-both 1 n j (within-low 1 (n + 1) j w) (omega (arith, within-high 1 (n + 1) j w)))
+  | no d ↦ getD-set-other l (n + 1) j x 0 d ∙ g (within-both 1 n j (within-low 1 (n + 1) j w) (omega (arith, within-high 1 (n + 1) j w)))
 ]
 
 module _ {b : Board} (s : Size) {from to : List ℕ} where
@@ -133,8 +133,8 @@ module _ {b : Board} (s : Size) {from to : List ℕ} where
   pub filling-turn : (done x y : ℕ) → done < mostJobs → x ≡ holderOf b (done + 1) → y ≡ otherOf b (done + 1) → Filling b s done from to → Filling b s (done + 1) (set from (done + 1) x) (set to (done + 1) y)
   filling-turn done x y l e f a =
       record {
-        holders = at-more (holderOf b) from done x (omega (arith, a .from-long)) e (a .holders);
-        others = at-more (otherOf b) to done y (omega (arith, a .to-long)) f (a .others);
+        holders = λ j. at-more (holderOf b) from done x (omega (arith, a .from-long)) e j (a .holders j);
+        others = λ j. at-more (otherOf b) to done y (omega (arith, a .to-long)) f j (a .others j);
         from-long = length-set from (done + 1) x ∙ a .from-long;
         to-long = length-set to (done + 1) y ∙ a .to-long;
       }
@@ -192,6 +192,35 @@ module _ {t : List ℕ} {s : Size} (holdsBoard : HoldsBoard t s) where
   pub load-at : {loads : List ℕ} {x : ℕ} → Loaded (decode t) loads → BenchIn s x → at loads x ≡ load ((decode t) .holders) x
   load-at {x = x} l i = l .bench x (omega (arith, i .most, holdsBoard .size .limits .benches-most))
 
+-- jobs and steps
+
+module _ {t : List ℕ} {s : Size} (holdsBoard : HoldsBoard t s) where
+  -- a job is a step from the bench that holds it to the other one ..
+  pub job-step : (j x : ℕ) → 1 ≤ x → holderOf (decode t) j ≡ x → In (stepBy j (otherOf (decode t) j)) (steps (decode t) x)
+  job-step j x l h =
+      let b = decode t in
+      let o = held-other t s j holdsBoard (λ z. omega arith) in
+      is-step b x (stepBy j (otherOf b j)) h (o .named) (λ f. o .apart (f ∙ sym h)) (sym (length-shares (b .named) (b .holders) (holdsBoard .storable .valid .shares)))
+
+  -- .. and every step is one
+  pub step-job : (x : ℕ) (q : Step) → In q (steps (decode t) x) → T (stands (decode t) (q .job)) × (holderOf (decode t) (q .job) ≡ x) × (otherOf (decode t) (q .job) ≡ q .to)
+  step-job x q i =
+      let b = decode t in
+      let j = q .job in
+      let r = step-is b x q i in
+      let p = named-stands b j (q .to) (r .1) in
+      let l : 1 ≤ x = omega (arith, within-low 1 (b .benches) (holderOf b j) (holder-bench b (holdsBoard .storable .valid) j p), r .0) in
+      (p, r .0, storable-one-other b (holdsBoard .storable) x (stepBy j (otherOf b j)) q (job-step j x l (r .0)) i refl)
+
+  -- what a relation of such jobs reaches from a bench, steps reach
+  pub jobs-reach : {J : ℕ → ℕ → Type 0} → ((x y : ℕ) → BenchIn s x → J x y → (j : ℕ) × (holderOf (decode t) j ≡ x) × (otherOf (decode t) j ≡ y)) → (x y : ℕ) → BenchIn s x → Reached J x y → Reach (steps (decode t)) x y
+  jobs-reach f x y b (here _) = reach-here (steps (decode t)) x
+  jobs-reach f x y b (step _ z _ i r) =
+      let (j, h, o) = f x z b i in
+      let n : BenchIn s z = subst (BenchIn s) o (held-leads t s j holdsBoard (λ e. omega (arith, b .least))) in
+      let q = subst (λ (z : ℕ). Reach (steps (decode t)) z y) (sym o) (jobs-reach f z y n r) in
+      reach-first (steps (decode t)) x y (stepBy j (otherOf (decode t) j)) (job-step j x (b .least) h) q
+
 -- arcs and steps
 
 module _ {t : List ℕ} {s : Size} {from to : List ℕ} (holdsBoard : HoldsBoard t s) (arcs : ArcsOf (decode t) s from to) where
@@ -221,33 +250,20 @@ module _ {t : List ℕ} {s : Size} {from to : List ℕ} (holdsBoard : HoldsBoard
 
   -- every arc from a bench is a step ..
   pub arc-step : (a x : ℕ) → T (within 1 (s .jobs) a) → 1 ≤ x → at from a ≡ x → In (stepBy a (at to a)) (steps (decode t) x)
-  arc-step a x w l e =
-      let b = decode t in
-      let h : holderOf b a ≡ x = sym (arcs .holders a w) ∙ e in
-      let o = held-other t s a holdsBoard (λ z. omega arith) in
-      rw (arcs .others a w)
-      (is-step b x (stepBy a (otherOf b a)) h (o .named) (λ f. o .apart (f ∙ sym h)) (sym (length-shares (b .named) (b .holders) (holdsBoard .storable .valid .shares))))
+  arc-step a x w l e = rw (arcs .others a w) (job-step holdsBoard a x l (sym (arcs .holders a w) ∙ e))
 
   -- .. and every step an arc
   pub step-arc : (x : ℕ) (q : Step) → In q (steps (decode t) x) → T (within 1 (s .jobs) (q .job)) × (at from (q .job) ≡ x) × (at to (q .job) ≡ q .to)
   step-arc x q i =
-      let b = decode t in
       let j = q .job in
-      let r = step-is b x q i in
-      let n = names-job t s j (q .to) (holdsBoard .size) (r .1) in
+      let r = step-job holdsBoard x q i in
+      let n = stands-job t s j (holdsBoard .size) (r .0) in
       let w = within-both 1 (s .jobs) j (n .least) (n .most) in
-      let h = holder-bench b (holdsBoard .storable .valid) j (named-stands b j (q .to) (r .1)) in
-      let f : at from j ≡ x = arcs .holders j w ∙ r .0 in
-      let l : 1 ≤ x = omega (arith, within-low 1 (b .benches) (holderOf b j) h, r .0) in
-      (w, f, storable-one-other b (holdsBoard .storable) x (stepBy j (at to j)) q (arc-step j x w l f) i refl)
+      (w, arcs .holders j w ∙ r .1, arcs .others j w ∙ r .2)
 
   -- what arcs reach from a bench, steps reach ..
-  pub arcs-reach : (x y : ℕ) → 1 ≤ x → Reached (HasArc (s .jobs) from to) x y → Reach (steps (decode t)) x y
-  arcs-reach x y h (here _) = reach-here (steps (decode t)) x
-  arcs-reach x y h (step _ z _ (a, w, e, f) r) =
-      let i = arcs-forth .leads a w (omega arith) in
-      let q = subst (λ (z : ℕ). Reach (steps (decode t)) z y) (sym f) (arcs-reach z y (omega (arith, i .least)) r) in
-      reach-first (steps (decode t)) x y (stepBy a (at to a)) (arc-step a x w h e) q
+  pub arcs-reach : (x y : ℕ) → BenchIn s x → Reached (HasArc (s .jobs) from to) x y → Reach (steps (decode t)) x y
+  arcs-reach = jobs-reach holdsBoard (λ x y b (a, w, e, f). (a, sym (arcs .holders a w) ∙ e, sym (arcs .others a w) ∙ f))
 
   -- .. and where a walk ends, arcs come
   walk-reached : (x : ℕ) (r : List Step) → Walk (steps (decode t)) x r → Reached (HasArc (s .jobs) from to) x (endOf x r)

@@ -11,7 +11,7 @@ use table_board::jobs;
 use table_size::Size;
 
 // Finds the other bench that job j names; 0 where it does not stand.
-fn other(t: &[u8], s: Size, j: usize, holder: usize) -> usize
+pub fn other(t: &[u8], s: Size, j: usize, holder: usize) -> usize
     requires { ⌜ HoldsBoard (now t) s ⌝ }
     requires { ⌜ JobIn s j ⌝ }
     requires { ⌜ holder ≡ holderOf (decode (now t)) j ⌝ }

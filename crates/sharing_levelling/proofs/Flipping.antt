@@ -88,7 +88,7 @@ module _ {t : List ℕ} {s : Size} {loads : List ℕ} (k : HoldsBoard t s) (l : 
       where
         forth : StartsLow (HasArc (s .jobs) from to) loads x → StartsOne (decode t) x
         forth (y, r, d) =
-            let q = arcs-reach k a x y (within-low 1 ((decode t) .benches) x h) r in
+            let q = arcs-reach k a x y (board-bench x (k .size) h) r in
             (y, q, omega (arith, d, weighs x h, weighs y (reached x y h q)))
 
         back : StartsOne (decode t) x → StartsLow (HasArc (s .jobs) from to) loads x

@@ -1,0 +1,121 @@
+-- Chains copied: one bench or job more, and all of them.
+use Prim.Native.Nat.{ℕ, _+_, _≤_, _<_}
+use native.Mathlib.Omega.{arith}
+use native.Mathlib.Decide.{ℕ-discrete}
+use mathlib.Core.Path.{_≡_, sym, subst, _∙_}
+use mathlib.Core.Logic.{_≢_}
+use mathlib.Core.List.{List}
+use lib.Dec.{T}
+use lib.ListN.{length, set, replicate, length-set}
+use lib.Seq.{getD-set-other}
+use Rattle.spec_lists.specs.Lists.{within}
+use Rattle.spec_table.specs.Board.{stands, holderOf}
+use Rattle.spec_table.specs.Table.{mostBenches, mostJobs, decode}
+use Rattle.spec_lists.proofs.Tests.{within-low, within-high, within-both}
+use Rattle.table_size.specs.Sizes.{SizeOf}
+use Rattle.table_size.specs.declared.Size.{Size}
+use Rattle.spec_sharing.proofs.Paths.{holder-bench}
+use Rattle.table_board.specs.BoardView.{HoldsBoard, HolderOf}
+use Rattle.table_board.proofs.RecordsAsBoard.{stands-job}
+use Rattle.table_chains.proofs.ChainView.{held-stands}
+use Rattle.table_chains.specs.Chains.{storedHead, storedNext}
+use Rattle.graph_lists.specs.Arrays.{at}
+use Rattle.graph_lists.proofs.Listing.{array-at, array-long}
+use Rattle.sharing_arcs.specs.Arcs.{otherOf}
+use Rattle.sharing_arcs.proofs.AsArcs.{at-more}
+use Rattle.sharing_chains.specs.StoredChains.{StoredHeads, StoredJobs}
+
+-- heads
+
+-- the heads of the first `done` benches are copied
+pub record HeadsTo (t : List ℕ) (s : Size) (head : List ℕ) (done : ℕ) : Type 0 where
+  pub few : done ≤ s .benches
+  pub copied : (x : ℕ) → T (within 1 done x) → at head x ≡ storedHead t x
+  pub beyond : (x : ℕ) → done < x → at head x ≡ 0
+  pub long : length head ≡ mostBenches + 1
+
+-- none yet ..
+pub heads-start : (t : List ℕ) (s : Size) (head : List ℕ) → head ≡ replicate (mostBenches + 1) 0 → HeadsTo t s head 0
+heads-start t s head e =
+    record {
+      few = omega arith;
+      copied = λ x w. absurd (omega (arith, within-low 1 0 x w, within-high 1 0 x w));
+      beyond = λ x l. array-at (mostBenches + 1) e x;
+      long = array-long 0 e;
+    }
+
+module _ {t : List ℕ} {s : Size} {head : List ℕ} {done : ℕ} (c : HeadsTo t s head done) where
+  -- .. one bench more ..
+  pub heads-turn : {r : ℕ} → done < s .benches → done < mostBenches → r ≡ storedHead t (done + 1) → HeadsTo t s (set head (done + 1) r) (done + 1)
+  heads-turn {r} l m e =
+      record {
+        few = omega arith;
+        copied = λ x. at-more (storedHead t) head done r (omega (arith, c .long)) e x (c .copied x);
+        beyond = λ x h. getD-set-other head (done + 1) x r 0 (λ q. omega arith) ∙ c .beyond x (omega arith);
+        long = length-set head (done + 1) r ∙ c .long;
+      }
+
+  -- .. and all of them
+  pub heads-end : s .benches ≤ done → StoredHeads t s head
+  heads-end l =
+      record {
+        heads = λ x b. c .copied x (within-both 1 done x (b .least) (omega (arith, b .most)));
+        beyond = λ x h. c .beyond x (omega (arith, c .few));
+      }
+
+-- jobs
+
+-- what the holder tells: a job that a bench holds stands ..
+pub found-stands : {t : List ℕ} {s : Size} {j x : ℕ} → HoldsBoard t s → HolderOf t s j x → x ≢ 0 → T (stands (decode t) j)
+found-stands {t} {s} {j} {x} k h d = held-stands t s j x k (omega arith) (sym (h .value))
+
+-- .. and one that none holds does not
+pub found-none : {t : List ℕ} {s : Size} {j x : ℕ} → HoldsBoard t s → HolderOf t s j x → x ≡ 0 → T (stands (decode t) j) → ⊥
+found-none {t} {s} {j} {x} k h e p = omega (arith, h .value, within-low 1 ((decode t) .benches) (holderOf (decode t) j) (holder-bench (decode t) (k .storable .valid) j p))
+
+-- of the first `done` jobs those that stand are copied
+pub record JobsTo (t next to : List ℕ) (done : ℕ) : Type 0 where
+  pub nexts : (j : ℕ) → T (within 1 done j) → T (stands (decode t) j) → at next j ≡ storedNext t j
+  pub others : (j : ℕ) → T (within 1 done j) → T (stands (decode t) j) → at to j ≡ otherOf (decode t) j
+  pub next-long : length next ≡ mostJobs + 1
+  pub to-long : length to ≡ mostJobs + 1
+
+-- none yet ..
+pub jobs-start : (t next to : List ℕ) → length next ≡ mostJobs + 1 → length to ≡ mostJobs + 1 → JobsTo t next to 0
+jobs-start t next to l m =
+    let none : (j : ℕ) → T (within 1 0 j) → ⊥ = λ j w. omega (arith, within-low 1 0 j w, within-high 1 0 j w) in
+    record { nexts = λ j w. absurd (none j w); others = λ j w. absurd (none j w); next-long = l; to-long = m }
+
+module _ {t next to : List ℕ} {done : ℕ} (c : JobsTo t next to done) where
+  -- .. one more that stands ..
+  pub jobs-turn : {n y : ℕ} → done < mostJobs → n ≡ storedNext t (done + 1) → y ≡ otherOf (decode t) (done + 1) → JobsTo t (set next (done + 1) n) (set to (done + 1) y) (done + 1)
+  jobs-turn {n} {y} l e f =
+      record {
+        nexts = λ j w p. at-more (storedNext t) next done n (omega (arith, c .next-long)) e j (λ v. c .nexts j v p) w;
+        others = λ j w p. at-more (otherOf (decode t)) to done y (omega (arith, c .to-long)) f j (λ v. c .others j v p) w;
+        next-long = length-set next (done + 1) n ∙ c .next-long;
+        to-long = length-set to (done + 1) y ∙ c .to-long;
+      }
+
+  -- .. or one that does not ..
+  pub jobs-pass : (T (stands (decode t) (done + 1)) → ⊥) → JobsTo t next to (done + 1)
+  jobs-pass d =
+      record {
+        nexts = λ j w p. c .nexts j (before j w p) p;
+        others = λ j w p. c .others j (before j w p) p;
+        next-long = c .next-long;
+        to-long = c .to-long;
+      }
+    where
+      before : (j : ℕ) → T (within 1 (done + 1) j) → T (stands (decode t) j) → T (within 1 done j)
+      before j w p = elim (ℕ-discrete j (done + 1)) [
+        | yes e ↦ absurd (d (subst (λ (i : ℕ). T (stands (decode t) i)) e p))
+        | no n ↦ within-both 1 done j (within-low 1 (done + 1) j w) (omega (arith, within-high 1 (done + 1) j w))
+      ]
+
+  -- .. and all of them
+  pub jobs-end : {s : Size} → SizeOf t s → s .jobs ≤ done → StoredJobs t next to
+  jobs-end {s} z l = record { nexts = λ j p. c .nexts j (all j p) p; others = λ j p. c .others j (all j p) p }
+    where
+      all : (j : ℕ) → T (stands (decode t) j) → T (within 1 done j)
+      all j p = let i = stands-job t s j z p in within-both 1 done j (i .least) (omega (arith, i .most))

@@ -1,0 +1,2 @@
+-- Copying.
+pub mod Copying

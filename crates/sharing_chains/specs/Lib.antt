@@ -1,0 +1,2 @@
+-- What the copied chains promise.
+pub mod StoredChains
