@@ -76,7 +76,7 @@ module _ (t : List ℕ) (s : Size) (j : ℕ) (holdsBoard : HoldsBoard t s) where
   held-leaves d = board-bench (holderOf (decode t) j) (holdsBoard .size) (holder-bench (decode t) (holdsBoard .storable .valid) j (held-stands d))
 
   -- .. to a bench
-  held-leads : holderOf (decode t) j ≢ 0 → BenchIn s (otherOf (decode t) j)
+  pub held-leads : holderOf (decode t) j ≢ 0 → BenchIn s (otherOf (decode t) j)
   held-leads d =
       board-bench (otherOf (decode t) j) (holdsBoard .size) (named-bench (decode t) (holdsBoard .storable .valid) j (otherOf (decode t) j) (held-other d .named))
 

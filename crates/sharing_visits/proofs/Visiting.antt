@@ -2,61 +2,69 @@
 use Prim.Native.Nat.{ℕ, zero, suc, _+_, _*_, _≤_, _<_}
 use native.Mathlib.Nat.{suc-mul, mul-le-mul-right}
 use native.Mathlib.Omega.{arith}
+use native.Mathlib.Decide.{ℕ-discrete}
 use mathlib.Core.Path.{_≡_, refl, sym, ap, subst, _∙_}
 use mathlib.Core.Logic.{_⊎_, inl, inr, ⊎-elim, _≢_, _↔_}
 use mathlib.Core.Bool.{Bool, true, false, not}
-use mathlib.Core.List.{List}
+use mathlib.Core.List.{List, [], _∷_}
 use lib.Dec.{T, T-not}
 use lib.ListN.{length, set, length-set}
 use lib.Seq.{getD-set-same, getD-set-other}
-use Rattle.spec_lists.specs.Lists.{bit, within, total}
+use Rattle.spec_lists.specs.Lists.{bit, within, total, In}
 use Rattle.spec_table.specs.Table.{mostBenches, mostJobs}
 use Rattle.spec_lists.proofs.Tests.{true→T, T→true, false→not, within-low, within-high, Compared, same, other, compared}
 use Rattle.spec_lists.proofs.Counting.{total-le, total-but-one}
-use Rattle.table_size.specs.Sizes.{BenchIn}
 use Rattle.table_size.specs.declared.Size.{Size}
 use Rattle.graph_lists.specs.Arrays.{at, Reached, here, step}
-use Rattle.graph_lists.specs.LinkedLists.{On, onHead, onTail, Adjacent, AdjacencyLists}
-use Rattle.graph_lists.proofs.Listing.{on-some, on-next, on-most, left, left-less}
-use Rattle.sharing_visits.specs.Marks.{mark, Marks, OnChain, FromList, ClosedOver}
+use Rattle.sharing_visits.specs.ArrayChains.{chainAlong, chainOn, Walkable, FromChain, Leads}
+use Rattle.sharing_visits.specs.Marks.{mark, Marks, FromHeavy, ClosedOver}
 
 -- chains
 
-module _ {head next to : List ℕ} (w : AdjacencyLists head next to) where
-  -- a bench's chain begins with a job on it, or has none
-  pub chain-first : (x : ℕ) → T (within 1 mostBenches x) → OnChain head next (at head x)
-  chain-first x b = go (compared (at head x) 0)
-    where
-      go : {z : Bool} → Compared (at head x) 0 z → OnChain head next (at head x)
-      go (same e) = inl e
-      go (other d) = inr (x, b, onHead (at head x) d)
+module _ (next : List ℕ) where
+  -- 0 begins no chain ..
+  pub chain-none : {j : ℕ} → j ≡ 0 → chainOn next j ≡ []
+  unfolding chainOn
+  chain-none e = rw e refl
 
-  module _ (j : ℕ) (o : OnChain head next j) where
-    -- a number on a chain is a job's or 0 ..
-    pub chain-most : j ≤ mostJobs
-    chain-most = go o
-      where
-        go : OnChain head next j → j ≤ mostJobs
-        go (inl e) = omega arith
-        go (inr r) = on-most (w .heads (r .0) (r .1)) (λ i. w .rise (r .0) i (r .1)) (r .2)
+  -- .. any other number does ..
+  pub chain-first : (j : ℕ) → j ≢ 0 → In j (chainOn next j)
+  unfolding chainOn
+  chain-first zero d = absurd (d refl)
+  chain-first (suc i) d = inl refl
 
-    module _ (d : j ≢ 0) where
-      -- .. a job on it leads to a bench ..
-      pub chain-leads : T (within 1 mostBenches (at to j))
-      chain-leads = ⊎-elim (λ e. absurd (d e)) (λ r. w .leads (r .0) j (r .1) (r .2)) o
+  -- .. a chain that is shorter than its fuel is the same with more ..
+  chain-more : (k j : ℕ) → length (chainAlong next k j) < k → chainAlong next (suc k) j ≡ chainAlong next k j
+  chain-more zero j l = absurd (omega arith)
+  chain-more (suc k) zero l = refl
+  chain-more (suc k) (suc i) l = ap (λ (c : List ℕ). suc i ∷ c) (chain-more k (at next (suc i)) (omega arith))
 
-      -- .. the one after it is on the chain too, or it was the last ..
-      pub chain-next : OnChain head next (at next j)
-      chain-next = go (compared (at next j) 0) o
-        where
-          go : {z : Bool} → Compared (at next j) 0 z → OnChain head next j → OnChain head next (at next j)
-          go (same e) p = inl e
-          go (other n) (inl e) = absurd (d e)
-          go (other n) (inr r) = inr (r .0, r .1, on-next (r .2) n)
+  -- .. so one that ends goes on with the chain from the next job on
+  pub chain-next : (j : ℕ) → j ≢ 0 → length (chainOn next j) ≤ mostJobs → chainOn next j ≡ j ∷ chainOn next (at next j)
+  unfolding chainOn
+  chain-next zero d l = absurd (d refl)
+  chain-next (suc i) d l = ap (λ (c : List ℕ). suc i ∷ c) (sym (chain-more mostJobs (at next (suc i)) (omega arith)))
 
-      -- .. and has a greater number
-      chain-rises : (at next j ≡ 0) ⊎ ((j < at next j) × (at next j ≤ mostJobs))
-      chain-rises = ⊎-elim (λ e. absurd (d e)) (λ r. w .rise (r .0) j (r .1) (r .2)) o
+module _ {next to : List ℕ} {j : ℕ} (w : Walkable next to j) where
+  -- a number that begins a chain is a job's or 0 ..
+  pub walk-most : j ≤ mostJobs
+  walk-most = elim (ℕ-discrete j 0) [ yes e ↦ omega arith | no d ↦ w .jobs j (chain-first next j d) ]
+
+  module _ (d : j ≢ 0) where
+    -- .. that job leads to a bench ..
+    pub walk-leads : T (within 1 mostBenches (at to j))
+    walk-leads = w .leads j (chain-first next j d)
+
+    -- .. and the chain after it can be walked too
+    pub walk-rest : Walkable next to (at next j)
+    walk-rest =
+        let e = chain-next next j d (w .ends) in
+        let on : (i : ℕ) → In i (chainOn next (at next j)) → In i (chainOn next j) = λ i o. rw e (inr o) in
+        record {
+          ends = omega (arith, w .ends, ap length e);
+          jobs = λ i o. w .jobs i (on i o);
+          leads = λ i o. w .leads i (on i o);
+        }
 
 -- what falls
 
@@ -86,40 +94,35 @@ unmarked-one n marks x l u h e =
     let q : g x ≡ 0 = ap (λ (z : Bool). bit (not z)) (getD-set-same marks x true false h) in
     omega (arith, total-but-one n f g x l u (λ y k m d. sym (ap (λ (z : Bool). bit (not z)) (getD-set-other marks x y true false d))))
 
--- a chain is no longer than there are jobs
-left-most : (m j : ℕ) → left m j ≤ m
-left-most m zero = omega arith
-left-most m (suc i) = omega arith
-
 -- the pair of unmarked benches and remaining chain, as one number
-pub falling : List Bool → ℕ → ℕ
-falling marks j = unmarked mostBenches marks * (mostJobs + 1) + left mostJobs j
+pub falling : List Bool → List ℕ → ℕ
+falling marks chain = unmarked mostBenches marks * (mostJobs + 1) + length chain
 
 -- it falls where a bench is marked, whatever chain is walked then ..
-pub falls-marked : (marks : List Bool) (x j : ℕ) → Marks marks → T (within 1 mostBenches x) → mark marks x ≡ false → falling (set marks x true) j < falling marks 0
+pub falls-marked : (marks : List Bool) (x : ℕ) (chain : List ℕ) → Marks marks → T (within 1 mostBenches x) → mark marks x ≡ false → length chain ≤ mostJobs → falling (set marks x true) chain < falling marks []
 unfolding falling
-falls-marked marks x j m b e =
+falls-marked marks x chain m b e f =
     let l = within-low 1 mostBenches x b in
     let h = within-high 1 mostBenches x b in
     let u = unmarked mostBenches (set marks x true) in
     let n : unmarked mostBenches marks ≡ suc u = unmarked-one mostBenches marks x l h (omega (arith, m .long)) e in
-    rw n (omega (arith, suc-mul u (mostJobs + 1), left-most mostJobs j))
+    rw n (omega (arith, suc-mul u (mostJobs + 1)))
 
 -- .. and where no mark goes and less of the chain is left
-falls-left : (marks marks' : List Bool) (j i : ℕ) → ((y : ℕ) → T (mark marks y) → T (mark marks' y)) → left mostJobs i < left mostJobs j → falling marks' i < falling marks j
+falls-left : (marks marks' : List Bool) (chain chain' : List ℕ) → ((y : ℕ) → T (mark marks y) → T (mark marks' y)) → length chain' < length chain → falling marks' chain' < falling marks chain
 unfolding falling
-falls-left marks marks' j i f r =
+falls-left marks marks' chain chain' f r =
     omega (arith, mul-le-mul-right (mostJobs + 1) (unmarked-less mostBenches marks marks' f))
 
-module _ {head next to : List ℕ} (w : AdjacencyLists head next to) (marks : List Bool) (j : ℕ) (o : OnChain head next j) (d : j ≢ 0) where
+module _ {next to : List ℕ} (marks : List Bool) {j : ℕ} (w : Walkable next to j) (d : j ≢ 0) where
   -- so a job's other bench ..
-  pub falls-visit : falling marks 0 < falling marks j
-  falls-visit = falls-left marks marks j 0 (λ y t. t) (left-less mostJobs j 0 d (chain-most w j o) (inl refl))
+  pub falls-visit : falling marks [] < falling marks (chainOn next j)
+  falls-visit = falls-left marks marks (chainOn next j) [] (λ y t. t) (omega (arith, ap length (chain-next next j d (w .ends))))
 
   -- .. and the chain after it leave less to do
-  pub falls-walk : (marks' : List Bool) → ((y : ℕ) → T (mark marks y) → T (mark marks' y)) → falling marks' (at next j) < falling marks j
+  pub falls-walk : (marks' : List Bool) → ((y : ℕ) → T (mark marks y) → T (mark marks' y)) → falling marks' (chainOn next (at next j)) < falling marks (chainOn next j)
   falls-walk marks' f =
-      falls-left marks marks' j (at next j) f (left-less mostJobs j (at next j) d (chain-most w j o) (chain-rises w j o d))
+      falls-left marks marks' (chainOn next j) (chainOn next (at next j)) f (omega (arith, ap length (chain-next next j d (w .ends))))
 
 -- what benches bring in
 
@@ -176,10 +179,10 @@ module _ {J : ℕ → ℕ → Type 0} where
 module _ (head next to : List ℕ) where
   -- a job on x's chain leads to y
   abbrev J : ℕ → ℕ → Type 0
-  J = Adjacent head next to
+  J = Leads head next to
 
   -- an unmarked bench: its own mark, and what its chain brings in
-  pub closed-chain : (x : ℕ) (m m' : List Bool) → x < length m → mark m x ≡ false → ClosedOver J (FromList next to (at head x)) (set m x true) m' → ClosedOver J (λ y. y ≡ x) m m'
+  pub closed-chain : (x : ℕ) (m m' : List Bool) → x < length m → mark m x ≡ false → ClosedOver J (FromChain next to (at head x)) (set m x true) m' → ClosedOver J (λ y. y ≡ x) m m'
   closed-chain x m m' h e p =
       record {
         long = p .long;
@@ -208,78 +211,82 @@ module _ (head next to : List ℕ) where
       shut z y n t j (other d) = p .shut z y (new z n d) t j
 
   -- a chain that has ended brings in nothing ..
-  pub closed-end : (j : ℕ) (m : List Bool) → Marks m → j ≡ 0 → ClosedOver J (FromList next to j) m m
-  closed-end j m l e = closed-none (FromList next to j) m l (λ y i. absurd (on-some (i .1) e))
+  pub closed-end : (j : ℕ) (m : List Bool) → Marks m → j ≡ 0 → ClosedOver J (FromChain next to j) m m
+  closed-end j m l e = closed-none (FromChain next to j) m l (λ y (i, o, f). absurd (subst (In i) (chain-none next e) o))
 
   -- .. and one with a job on it that job's other bench, and what the chain after it does
-  pub closed-job : (j : ℕ) (m m₁ m₂ : List Bool) → j ≢ 0 → ClosedOver J (λ y. y ≡ at to j) m m₁ → ClosedOver J (FromList next to (at next j)) m₁ m₂ → ClosedOver J (FromList next to j) m m₂
-  closed-job j m m₁ m₂ d p q =
-      closed-both (λ y. y ≡ at to j) (FromList next to (at next j)) (FromList next to j) m m₁ m₂ (λ y. (λ r. split (r .0) y (r .2) (r .1), join y)) p q
+  pub closed-job : (j : ℕ) (m m₁ m₂ : List Bool) → chainOn next j ≡ j ∷ chainOn next (at next j) → ClosedOver J (λ y. y ≡ at to j) m m₁ → ClosedOver J (FromChain next to (at next j)) m₁ m₂ → ClosedOver J (FromChain next to j) m m₂
+  closed-job j m m₁ m₂ c p q =
+      closed-both (λ y. y ≡ at to j) (FromChain next to (at next j)) (FromChain next to j) m m₁ m₂ (λ y. (λ (i, o, f). split i y f (subst (In i) c o), join y)) p q
     where
-      split : (i y : ℕ) → at to i ≡ y → On next j i → (y ≡ at to j) ⊎ FromList next to (at next j) y
-      split i y e (onHead _ n) = inl (sym e)
-      split i y e (onTail _ _ n o) = inr (i, o, e)
+      split : (i y : ℕ) → at to i ≡ y → In i (j ∷ chainOn next (at next j)) → (y ≡ at to j) ⊎ FromChain next to (at next j) y
+      split i y f (inl e) = inl (sym f ∙ ap (at to) e)
+      split i y f (inr o) = inr (i, o, f)
 
-      join : (y : ℕ) → (y ≡ at to j) ⊎ FromList next to (at next j) y → FromList next to j y
-      join y (inl e) = (j, onHead j d, sym e)
-      join y (inr r) = (r .0, onTail j (r .0) d (r .1), r .2)
+      join : (y : ℕ) → (y ≡ at to j) ⊎ FromChain next to (at next j) y → FromChain next to j y
+      join y (inl e) = (j, subst (In j) (sym c) (inl refl), sym e)
+      join y (inr (i, o, f)) = (i, subst (In i) (sym c) (inr o), f)
 
--- the benches with load h or more
+-- the chains of the benches with load h or more
 
--- y is one of them, and comes before bench x
+-- y is one of these benches, and comes before bench x
 abbrev pub Passed : List ℕ → ℕ → ℕ → ℕ → Type 0
 Passed loads h x y = (1 ≤ y) × (y < x) × (h ≤ at loads y)
 
--- those before bench x are in
-pub record Heavy (J : ℕ → ℕ → Type 0) (loads : List ℕ) (h benches : ℕ) (m₀ m : List Bool) (x : ℕ) : Type 0 where
+-- such a bench leads to y
+abbrev pub FromPassed : (ℕ → ℕ → Type 0) → List ℕ → ℕ → ℕ → ℕ → Type 0
+FromPassed J loads h x y = (z : ℕ) × Passed loads h x z × J z y
+
+-- what the chains before bench x bring in is in
+pub record Walked (J : ℕ → ℕ → Type 0) (loads : List ℕ) (h benches : ℕ) (m₀ m : List Bool) (x : ℕ) : Type 0 where
   pub least : 1 ≤ x
   pub most : x ≤ benches + 1
-  pub brought : ClosedOver J (Passed loads h x) m₀ m
+  pub brought : ClosedOver J (FromPassed J loads h x) m₀ m
 
 -- none yet ..
-pub heavy-start : {J : ℕ → ℕ → Type 0} (loads : List ℕ) (h benches : ℕ) (m : List Bool) → Marks m → Heavy J loads h benches m m 1
-heavy-start loads h benches m l =
+pub walked-start : {J : ℕ → ℕ → Type 0} (loads : List ℕ) (h benches : ℕ) (m : List Bool) → Marks m → Walked J loads h benches m m 1
+walked-start {J} loads h benches m l =
     record {
       least = omega arith;
       most = omega arith;
-      brought = closed-none (Passed loads h 1) m l (λ y p. absurd (omega arith));
+      brought = closed-none (FromPassed J loads h 1) m l (λ y (z, p, i). absurd (omega (arith, p .0, p .1)));
     }
 
-module _ {J : ℕ → ℕ → Type 0} {loads : List ℕ} {h benches : ℕ} {m₀ m : List Bool} {x : ℕ} (v : Heavy J loads h benches m₀ m x) where
+module _ {J : ℕ → ℕ → Type 0} {loads : List ℕ} {h benches : ℕ} {m₀ m : List Bool} {x : ℕ} (v : Walked J loads h benches m₀ m x) where
   module _ (u : x ≤ benches) where
-    -- .. the next one has such a load ..
-    pub heavy-visit : (m' : List Bool) → h ≤ at loads x → ClosedOver J (λ y. y ≡ x) m m' → Heavy J loads h benches m₀ m' (x + 1)
-    heavy-visit m' l p =
+    -- .. the next bench has such a load ..
+    pub walked-turn : (m' : List Bool) → h ≤ at loads x → ClosedOver J (J x) m m' → Walked J loads h benches m₀ m' (x + 1)
+    walked-turn m' l p =
         record {
           least = omega arith;
           most = omega arith;
-          brought = closed-both (Passed loads h x) (λ y. y ≡ x) (Passed loads h (x + 1)) m₀ m m' (λ y. (λ b. split y b (compared y x), join y)) (v .brought) p;
+          brought = closed-both (FromPassed J loads h x) (J x) (FromPassed J loads h (x + 1)) m₀ m m' (λ y. (λ (z, b, i). split y z b i (compared z x), join y)) (v .brought) p;
         }
       where
-        split : (y : ℕ) → Passed loads h (x + 1) y → {z : Bool} → Compared y x z → Passed loads h x y ⊎ (y ≡ x)
-        split y b (same e) = inr e
-        split y b (other d) = inl (b .0, omega arith, b .2)
+        split : (y z : ℕ) → Passed loads h (x + 1) z → J z y → {a : Bool} → Compared z x a → FromPassed J loads h x y ⊎ J x y
+        split y z b i (same e) = inr (subst (λ (k : ℕ). J k y) e i)
+        split y z b i (other d) = inl (z, (b .0, omega (arith, b .1), b .2), i)
 
-        join : (y : ℕ) → Passed loads h x y ⊎ (y ≡ x) → Passed loads h (x + 1) y
-        join y (inl b) = (b .0, omega arith, b .2)
-        join y (inr e) = (omega (arith, v .least), omega arith, rw e l)
+        join : (y : ℕ) → FromPassed J loads h x y ⊎ J x y → FromPassed J loads h (x + 1) y
+        join y (inl (z, b, i)) = (z, (b .0, omega (arith, b .1), b .2), i)
+        join y (inr i) = (x, (v .least, omega arith, l), i)
 
     -- .. or it has not ..
-    pub heavy-pass : at loads x < h → Heavy J loads h benches m₀ m (x + 1)
-    heavy-pass l =
+    pub walked-pass : at loads x < h → Walked J loads h benches m₀ m (x + 1)
+    walked-pass l =
         record {
           least = omega arith;
           most = omega arith;
-          brought = closed-same (Passed loads h x) (Passed loads h (x + 1)) m₀ m (λ y. (λ b. before y b (compared y x), λ b. (b .0, omega arith, b .2))) (v .brought);
+          brought = closed-same (FromPassed J loads h x) (FromPassed J loads h (x + 1)) m₀ m (λ y. (λ (z, b, i). (z, before z b (compared z x), i), λ (z, b, i). (z, (b .0, omega (arith, b .1), b .2), i))) (v .brought);
         }
       where
-        before : (y : ℕ) → Passed loads h (x + 1) y → {z : Bool} → Compared y x z → Passed loads h x y
-        before y b (same e) = absurd (omega (arith, ap (at loads) e))
-        before y b (other d) = (b .0, omega arith, b .2)
+        before : (z : ℕ) → Passed loads h (x + 1) z → {a : Bool} → Compared z x a → Passed loads h x z
+        before z b (same e) = absurd (omega (arith, b .2, ap (at loads) e))
+        before z b (other d) = (b .0, omega (arith, b .1), b .2)
 
-  -- .. and at the end all are in
-  pub heavy-end : (s : Size) → benches ≡ s .benches → benches < x → ClosedOver J (λ y. BenchIn s y × (h ≤ at loads y)) m₀ m
-  heavy-end s e u =
-      closed-same (Passed loads h x) (λ y. BenchIn s y × (h ≤ at loads y)) m₀ m
-      (λ y. (λ b. (b .0 .least, omega (arith, b .0 .most), b .1), λ b. (record { least = b .0; most = omega (arith, v .most) }, b .2)))
+  -- .. and at the end all are walked
+  pub walked-end : (s : Size) → benches ≡ s .benches → benches < x → ClosedOver J (FromHeavy s loads h J) m₀ m
+  walked-end s e u =
+      closed-same (FromPassed J loads h x) (FromHeavy s loads h J) m₀ m
+      (λ y. (λ (z, b, i). (z, (b .0 .least, omega (arith, b .0 .most), b .1), i), λ (z, b, i). (z, (record { least = b .0; most = omega (arith, b .1, v .most) }, b .2), i)))
       (v .brought)

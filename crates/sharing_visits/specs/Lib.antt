@@ -1,2 +1,3 @@
--- What visits promise of marks.
+-- Chains to walk along, and what visits promise of marks.
+pub mod ArrayChains
 pub mod Marks

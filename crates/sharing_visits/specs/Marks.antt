@@ -1,15 +1,14 @@
 -- Marks, and what benches bring in.
-use Prim.Native.Nat.{ℕ, _+_}
+use Prim.Native.Nat.{ℕ, _+_, _≤_}
 use mathlib.Core.Path.{_≡_}
-use mathlib.Core.Logic.{_⊎_}
 use mathlib.Core.Bool.{Bool, false, not}
 use mathlib.Core.List.{List}
 use lib.Dec.{T}
 use lib.ListN.{length, getD}
-use Rattle.spec_lists.specs.Lists.{within}
 use Rattle.spec_table.specs.Table.{mostBenches}
+use Rattle.table_size.specs.Sizes.{BenchIn}
+use Rattle.table_size.specs.declared.Size.{Size}
 use Rattle.graph_lists.specs.Arrays.{at, Reached}
-use Rattle.graph_lists.specs.LinkedLists.{On}
 
 -- whether bench y is marked
 abbrev pub mark : List Bool → ℕ → Bool
@@ -19,13 +18,13 @@ mark marks y = getD marks y false
 pub record Marks (marks : List Bool) : Type 0 where
   pub long : length marks ≡ mostBenches + 1
 
--- job j is on a bench's chain, or ends it
-abbrev pub OnChain : List ℕ → List ℕ → ℕ → Type 0
-OnChain head next j = (j ≡ 0) ⊎ ((x : ℕ) × T (within 1 mostBenches x) × On next (at head x) j)
+-- x is a bench of 1 to B with load h or more
+abbrev pub Heavy : Size → List ℕ → ℕ → ℕ → Type 0
+Heavy s loads h x = BenchIn s x × (h ≤ at loads x)
 
--- a job on the chain from job j on leads to y
-abbrev pub FromList : List ℕ → List ℕ → ℕ → ℕ → Type 0
-FromList next to j y = (i : ℕ) × On next j i × (at to i ≡ y)
+-- such a bench leads to y
+abbrev pub FromHeavy : Size → List ℕ → ℕ → (ℕ → ℕ → Type 0) → ℕ → Type 0
+FromHeavy s loads h Joined y = (x : ℕ) × Heavy s loads h x × Joined x y
 
 -- the benches `Seeds` are marked, and what they bring in: no mark goes, each new one is at a bench that one of them
 -- reaches, and every step from a newly marked bench leads to a marked one

@@ -1,14 +1,13 @@
 // A bench in the set brings in its chain, and each job on that chain brings in its other bench: the bench visit and
 // the chain walk call each other. At each call the pair of unmarked benches and remaining chain falls.
 ghost use mathlib.Core.Path.{_≡_};
-ghost use Prim.Native.Nat.{_≤_};
 ghost use lib.Dec.{T};
 ghost use Rattle.spec_lists.specs.Lists.{within};
 ghost use Rattle.spec_table.specs.Table.{mostBenches};
-ghost use Rattle.table_size.specs.Sizes.{Limits, BenchIn};
-ghost use Rattle.graph_lists.specs.Arrays.{at, LoadsIn};
-ghost use Rattle.graph_lists.specs.LinkedLists.{AdjacencyLists, Adjacent};
-ghost use Rattle.sharing_visits.specs.Marks.{Marks, OnChain, FromList, ClosedOver};
+ghost use Rattle.table_size.specs.Sizes.{Limits};
+ghost use Rattle.graph_lists.specs.Arrays.{LoadsIn};
+ghost use Rattle.sharing_visits.specs.ArrayChains.{Walkable, BenchChains, FromChain, Leads};
+ghost use Rattle.sharing_visits.specs.Marks.{Marks, FromHeavy, ClosedOver};
 use table_size::Size;
 
 // Marks bench x and what it brings in.
@@ -19,10 +18,10 @@ fn visit(
     x: usize,
     marks: &mut [bool; Size::MOST_BENCHES + 1],
 )
-    requires { ⌜ AdjacencyLists (now head) (now next) (now to) ⌝ }
+    requires { ⌜ BenchChains (now head) (now next) (now to) ⌝ }
     requires { ⌜ T (within 1 mostBenches x) ⌝ }
     requires { ⌜ Marks (now marks) ⌝ }
-    ensures { λ _. ⌜ ClosedOver (Adjacent (now (head .entry)) (now (next .entry)) (now (to .entry))) (λ y. y ≡ x)
+    ensures { λ _. ⌜ ClosedOver (Leads (now (head .entry)) (now (next .entry)) (now (to .entry))) (λ y. y ≡ x)
         (now (marks .entry)) (now (marks .exit)) ⌝ }
 {
     if marks[x] {
@@ -40,11 +39,11 @@ fn walk(
     j: usize,
     marks: &mut [bool; Size::MOST_BENCHES + 1],
 )
-    requires { ⌜ AdjacencyLists (now head) (now next) (now to) ⌝ }
-    requires { ⌜ OnChain (now head) (now next) j ⌝ }
+    requires { ⌜ BenchChains (now head) (now next) (now to) ⌝ }
+    requires { ⌜ Walkable (now next) (now to) j ⌝ }
     requires { ⌜ Marks (now marks) ⌝ }
-    ensures { λ _. ⌜ ClosedOver (Adjacent (now (head .entry)) (now (next .entry)) (now (to .entry)))
-        (FromList (now (next .entry)) (now (to .entry)) j) (now (marks .entry)) (now (marks .exit)) ⌝ }
+    ensures { λ _. ⌜ ClosedOver (Leads (now (head .entry)) (now (next .entry)) (now (to .entry)))
+        (FromChain (now (next .entry)) (now (to .entry)) j) (now (marks .entry)) (now (marks .exit)) ⌝ }
 {
     if j == 0 {
         return;
@@ -53,8 +52,8 @@ fn walk(
     walk(head, next, to, next[j] as usize, marks);
 }
 
-// Marks the benches with load h or more, and what they bring in.
-pub fn visit_heavy(
+// Marks what the chains of the benches with load h or more bring in.
+pub fn walk_heavy(
     s: Size,
     head: &[u16; Size::MOST_BENCHES + 1],
     next: &[u16; Size::MOST_JOBS + 1],
@@ -64,17 +63,18 @@ pub fn visit_heavy(
     marks: &mut [bool; Size::MOST_BENCHES + 1],
 )
     requires { ⌜ Limits s ⌝ }
-    requires { ⌜ AdjacencyLists (now head) (now next) (now to) ⌝ }
+    requires { ⌜ BenchChains (now head) (now next) (now to) ⌝ }
     requires { ⌜ Marks (now marks) ⌝ }
     requires { ⌜ LoadsIn s (now loads) ⌝ }
-    ensures { λ _. ⌜ ClosedOver (Adjacent (now (head .entry)) (now (next .entry)) (now (to .entry)))
-        (λ x. BenchIn s x × (h ≤ at (now (loads .entry)) x)) (now (marks .entry)) (now (marks .exit)) ⌝ }
+    ensures { λ _. ⌜ ClosedOver (Leads (now (head .entry)) (now (next .entry)) (now (to .entry)))
+        (FromHeavy s (now (loads .entry)) h (Leads (now (head .entry)) (now (next .entry)) (now (to .entry))))
+        (now (marks .entry)) (now (marks .exit)) ⌝ }
 {
     let benches = s.benches();
     let mut x = 1;
     while x <= benches {
         if h <= loads[x] as usize {
-            visit(head, next, to, x, marks);
+            walk(head, next, to, head[x] as usize, marks);
         }
         x += 1;
     }

@@ -1,6 +1,7 @@
 -- A sound table's chains as the crate above sees them.
 use Prim.Native.Nat.{ℕ, zero, suc, _≤_}
 use native.Mathlib.Omega.{arith}
+use native.Mathlib.Decide.{ℕ-discrete}
 use mathlib.Core.Path.{_≡_, refl, sym, ap, _∙_, subst}
 use mathlib.Core.Logic.{_⊎_, inl, inr, _↔_, _≢_}
 use mathlib.Core.List.{List, [], _∷_}
@@ -19,7 +20,7 @@ use Rattle.table_board.proofs.RecordsAsBoard.{sound-holds-board, stands-job, st
 use Rattle.table_board.proofs.LoadCounts.{holders-long}
 use Rattle.table_size.proofs.Sizes.{heads-long, board-bench}
 use Rattle.table_words.specs.Bytes.{layoutIn}
-use Rattle.table_size.specs.Sizes.{BenchIn, SoundTable}
+use Rattle.table_size.specs.Sizes.{JobIn, BenchIn, SoundTable}
 use Rattle.table_records.specs.Records.{RecordOf}
 use Rattle.table_size.specs.Written.{HeadOf}
 use Rattle.table_records.specs.declared.Record.{Record}
@@ -57,6 +58,33 @@ head-ends t s x z b =
     let l = layoutIn t in
     chain-ends t (z .sound) (nth (l .heads) x 0) (in-nth (l .heads) x 0 (b .least) (omega (arith, b .most, heads-long t s (z .size))))
 
+-- bench x's chain from its head
+pub first-chain : (t : List ℕ) (s : Size) (x : ℕ) → SoundTable t s → BenchIn s x → ChainOf t s x (storedHead t x)
+unfolding chainFrom
+first-chain t s x z b =
+    record {
+      stored = refl;
+      small = elim (ℕ-discrete h 0) [ yes e ↦ omega arith | no d ↦ omega (arith, (job h (chain-begins t h (omega arith))) .most, z .size .limits .jobs-most) ];
+      held = held;
+      once = once;
+      few = few (s .jobs) c (distinct-count c once) (in-each (λ j. T (within 1 (s .jobs) j)) c (λ j i. within-both 1 (s .jobs) j ((job j i) .least) ((job j i) .most)));
+    }
+  where
+    h : ℕ
+    h = storedHead t x
+
+    c : List ℕ
+    c = chainFrom t h
+
+    held : (i : ℕ) → In i c ↔ (T (stands (decode t) i) × (holderOf (decode t) i ≡ x))
+    held = held-chain t s x z b
+
+    job : (i : ℕ) → In i c → JobIn s i
+    job i o = stands-job t s i (z .size) ((held i) .0 o .0)
+
+    once : T (distinct c)
+    once = ends-distinct ((layoutIn t) .entries) (suc ((layoutIn t) .jobs)) ((layoutIn t) .jobs) h (head-ends t s x z b)
+
 -- the chain after a standing job
 pub next-chain : (t : List ℕ) (s : Size) (j : ℕ) → SoundTable t s → T (stands (decode t) j) → chainFrom t j ≡ j ∷ chainFrom t (storedNext t j)
 unfolding chainFrom
@@ -89,24 +117,7 @@ standing-read t s r z e = e ∙ standing-word t (z .sound)
 
 -- bench x's head begins its chain
 pub first-read : (t : List ℕ) (s : Size) (x r : ℕ) → SoundTable t s → BenchIn s x → HeadOf t x r → ChainOf t s x r
-unfolding chainFrom
-first-read t s x r z b h =
-    record {
-      stored = h .head;
-      small = h .small;
-      held = held;
-      once = once;
-      few = few (s .jobs) c (distinct-count c once) (in-each (λ j. T (within 1 (s .jobs) j)) c (λ j i. let n = stands-job t s j (z .size) ((held j) .0 i .0) in within-both 1 (s .jobs) j (n .least) (n .most)));
-    }
-  where
-    c : List ℕ
-    c = chainFrom t r
-
-    held : (i : ℕ) → In i c ↔ (T (stands (decode t) i) × (holderOf (decode t) i ≡ x))
-    held = rw (h .head) (held-chain t s x z b)
-
-    once : T (distinct c)
-    once = ends-distinct ((layoutIn t) .entries) (suc ((layoutIn t) .jobs)) ((layoutIn t) .jobs) r (rw (h .head) (head-ends t s x z b))
+first-read t s x r z b h = subst (ChainOf t s x) (sym (h .head)) (first-chain t s x z b)
 
 -- a standing job's record tells the next job on its chain
 pub next-read : (t : List ℕ) (s : Size) (j : ℕ) (r : Record) → SoundTable t s → T (stands (decode t) j) → RecordOf t j r → NextOf t j (r .next)
