@@ -1,11 +1,12 @@
 -- Marks as a set: counted, written to a list, and the tight set of a board.
 use Prim.Native.Nat.{ℕ, zero, suc, _+_, _*_, _/_, _%_, _≤_, _<_}
 use native.Mathlib.Omega.{arith}
+use native.Mathlib.Decide.{ℕ-discrete, decLe}
 use mathlib.Core.Path.{_≡_, refl, sym, ap, _∙_}
-use mathlib.Core.Logic.{_↔_}
-use mathlib.Core.Bool.{Bool, true, false, cond, not}
+use mathlib.Core.Logic.{_↔_, _≢_}
+use mathlib.Core.Bool.{Bool, true, false, cond}
 use mathlib.Core.List.{List, [], _∷_, _++_, append-nil}
-use lib.Dec.{T}
+use lib.Dec.{T, T-not}
 use lib.ListN.{length, set, drop, replicate, length-append}
 use lib.Seq.{getD-set-same, getD-set-other}
 use Rattle.spec_lists.specs.Lists.{bit, within, count, member, range, total, filter, In}
@@ -22,21 +23,21 @@ use Rattle.spec_sharing.proofs.Certificate.{loadIn}
 use Rattle.spec_sharing.proofs.TightSet.{tight-marked, tight-inside}
 use Rattle.spec_sharing.proofs.Walks.{Reach, reach-here, reach-all}
 use Rattle.table_words.specs.Bytes.{setWord}
-use Rattle.table_size.specs.Sizes.{Limits, BenchIn}
+use Rattle.table_size.specs.Sizes.{Limits, BenchIn, SoundTable}
 use Rattle.table_size.specs.declared.Size.{Size}
 use Rattle.table_words.proofs.Bytes.{length-setWord}
 use Rattle.table_size.proofs.Sizes.{board-bench}
 use Rattle.table_board.specs.BoardView.{HoldsBoard, Loaded}
-use Rattle.graph_lists.specs.Arrays.{at, HasArc, LoadsIn}
-use Rattle.graph_lists.specs.Keys.{LeastKey}
-use Rattle.graph_lists.specs.LinkedLists.{ListedBy, Adjacent}
-use Rattle.graph_lists.proofs.Listing.{array-at, adjacent-has-arc}
-use Rattle.graph_search.proofs.Expanding.{reached-same}
-use Rattle.sharing_arcs.specs.Arcs.{ArcsOf}
-use Rattle.sharing_arcs.proofs.AsArcs.{on-board, load-at, arcs-forth, step-arc, arcs-reach}
-use Rattle.sharing_visits.specs.Marks.{mark, Marks, ClosedOver}
-use Rattle.sharing_visits.proofs.Visiting.{marks-set}
-use Rattle.sharing_tight_set.specs.MarkedSets.{AllMarked, marked, Measured, TightSet}
+use Rattle.table_board.proofs.RecordsAsBoard.{sound-holds-board}
+use Rattle.graph_lists.specs.Arrays.{Tells, at, step, LoadsIn}
+use Rattle.graph_lists.proofs.Listing.{array-at, array-long}
+use Rattle.sharing_arcs.proofs.AsArcs.{on-board, load-at, jobs-reach}
+use Rattle.sharing_chains.specs.StoredChains.{StoredChains}
+use Rattle.sharing_visits.specs.ArrayChains.{Leads}
+use Rattle.sharing_visits.specs.Marks.{mark, Marks, Heavy, FromHeavy, ClosedOver}
+use Rattle.sharing_visits.proofs.Visiting.{marks-set, Passed}
+use Rattle.sharing_tight_set.specs.MarkedSets.{marked, HeavyMarked, Lighter, Measured, TightSet}
+use Rattle.sharing_tight_set.proofs.AlongChains.{leads-job, step-leads}
 use Rattle.sharing_tight_set.specs.declared.Extent.{Extent}
 
 -- what is marked of the benches 1 to n
@@ -194,95 +195,166 @@ write-end s m e =
     let d : m .done ≡ s .benches = omega (arith, m .next) in
     rw d at (m .bytes)
 
--- marking all
+-- marking the heavy benches
 
--- the benches before x are marked
-pub record Marking (marks : List Bool) (x : ℕ) : Type 0 where
+-- a bench before x has less
+abbrev Less : List ℕ → ℕ → ℕ → Type 0
+Less loads h x = (y : ℕ) × (1 ≤ y) × (y < x) × (at loads y < h)
+
+-- of the benches before x just the heavy ones are marked, and `less` tells whether there are others
+pub record Marking (loads : List ℕ) (h benches : ℕ) (marks : List Bool) (less : Bool) (x : ℕ) : Type 0 where
+  pub least : 1 ≤ x
+  pub most : x ≤ benches + 1
   pub long : Marks marks
-  pub before : (y : ℕ) → 1 ≤ y → y < x → T (mark marks y)
+  pub heavy : (y : ℕ) → T (mark marks y) ↔ Passed loads h x y
+  pub others : Tells (Less loads h x) less
 
 -- no bench is marked yet
-pub mark-start : (marks : List Bool) → Marks marks → Marking marks 1
-mark-start marks l = record { long = l; before = λ y h u. absurd (omega arith) }
+pub mark-start : (loads : List ℕ) (h benches : ℕ) {marks : List Bool} → marks ≡ replicate (mostBenches + 1) false → Marking loads h benches marks false 1
+mark-start loads h benches {marks} e =
+    record {
+      least = omega arith;
+      most = omega arith;
+      long = record { long = array-long false e };
+      heavy = λ y. (λ t. absurd (T-not (mark marks y) (false→not (mark marks y) (array-at (mostBenches + 1) e y)) t), λ p. absurd (omega (arith, p .0, p .1)));
+      others = λ (y, p, q, r). omega arith;
+    }
 
--- bench x is marked too
-pub mark-turn : {marks : List Bool} {x : ℕ} → Marking marks x → x ≤ mostBenches → Marking (set marks x true) (x + 1)
-mark-turn {marks} {x} m l =
-    record { long = marks-set marks x (m .long); before = λ y h u. go y h u (compared y x) }
-  where
-    go : (y : ℕ) → 1 ≤ y → y < x + 1 → {z : Bool} → Compared y x z → T (mark (set marks x true) y)
-    go y h u (same e) =
-        rw e (true→T (mark (set marks x true) x) (getD-set-same marks x true false (omega (arith, m .long .long))))
-    go y h u (other d) = rw (getD-set-other marks x y true false d) (m .before y h (omega arith))
+module _ {loads : List ℕ} {h benches : ℕ} {marks : List Bool} {less : Bool} {x : ℕ} (m : Marking loads h benches marks less x) where
+  -- a bench that is passed is x or was passed before
+  passed-other : (y : ℕ) → y ≢ x → Passed loads h x y ↔ Passed loads h (x + 1) y
+  passed-other y d = (λ p. (p .0, omega (arith, p .1), p .2), λ p. (p .0, omega (arith, p .1), p .2))
 
--- all benches are marked
-pub mark-end : {marks : List Bool} {x : ℕ} (s : Size) → Marking marks x → s .benches < x → AllMarked s marks
-mark-end s m u = record { bench = λ y b. m .before y (b .least) (omega (arith, b .most)) }
+  module _ (u : x ≤ benches) where
+    -- bench x is heavy, and marked ..
+    pub mark-turn : x ≤ mostBenches → h ≤ at loads x → Marking loads h benches (set marks x true) less (x + 1)
+    mark-turn b l =
+        record {
+          least = omega arith;
+          most = omega arith;
+          long = marks-set marks x (m .long);
+          heavy = λ y. heavy y (compared y x);
+          others = others less (m .others);
+        }
+      where
+        heavy : (y : ℕ) → {z : Bool} → Compared y x z → T (mark (set marks x true) y) ↔ Passed loads h (x + 1) y
+        heavy y (same e) =
+            rw e (
+              λ t. (m .least, omega arith, l),
+              λ p. true→T (mark (set marks x true) x) (getD-set-same marks x true false (omega (arith, m .long .long))),
+            )
+        heavy y (other d) =
+            rw (getD-set-other marks x y true false d) (
+              λ t. passed-other y d .0 (m .heavy y .0 t),
+              λ p. m .heavy y .1 (passed-other y d .1 p),
+            )
+
+        before : Less loads h (x + 1) → Less loads h x
+        before (y, p, q, r) = elim (ℕ-discrete y x) [ yes e ↦ absurd (omega (arith, ap (at loads) e)) | no d ↦ (y, p, omega arith, r) ]
+
+        others : (z : Bool) → Tells (Less loads h x) z → Tells (Less loads h (x + 1)) z
+        others true (y, p, q, r) = (y, p, omega arith, r)
+        others false n = λ i. n (before i)
+
+    -- .. or has less
+    pub mark-pass : at loads x < h → Marking loads h benches marks true (x + 1)
+    mark-pass l =
+        record {
+          least = omega arith;
+          most = omega arith;
+          long = m .long;
+          heavy = λ y. (λ t. let p = m .heavy y .0 t in (p .0, omega (arith, p .1), p .2), λ p. m .heavy y .1 (before y p (compared y x)));
+          others = (x, m .least, omega arith, l);
+        }
+      where
+        before : (y : ℕ) → Passed loads h (x + 1) y → {z : Bool} → Compared y x z → Passed loads h x y
+        before y p (same e) = absurd (omega (arith, p .2, ap (at loads) e))
+        before y p (other d) = passed-other y d .1 p
+
+  -- the heavy benches are marked ..
+  pub mark-end : (s : Size) → benches ≡ s .benches → benches < x → HeavyMarked s loads h marks
+  mark-end s e u =
+      record {
+        long = m .long;
+        heavy = λ y. (
+          λ t. let p = m .heavy y .0 t in (record { least = p .0; most = omega (arith, p .1, m .most) }, p .2),
+          λ (b, l). m .heavy y .1 (b .least, omega (arith, b .most), l),
+        );
+      }
+
+  -- .. and it is told whether there are others
+  pub mark-told : (s : Size) → benches ≡ s .benches → benches < x → Tells (Lighter s loads h) less
+  mark-told s e u = told less (m .others)
+    where
+      told : (z : Bool) → Tells (Less loads h x) z → Tells (Lighter s loads h) z
+      told true (y, p, q, r) = (y, record { least = p; most = omega (arith, m .most) }, r)
+      told false n = λ (y, b, r). n (y, b .least, omega (arith, b .most), r)
 
 -- the tight set as marks
 
--- bench y is reached from one with load h or more
-abbrev FromHeavy : Board → ℕ → ℕ → Type 0
-FromHeavy b h y = (x : ℕ) × T (within 1 (b .benches) x) × (h ≤ load (b .holders) x) × Reach (steps b) x y
+-- a bench with load h or more reaches y
+abbrev HeavyReaches : Board → ℕ → ℕ → Type 0
+HeavyReaches b h y = (x : ℕ) × T (within 1 (b .benches) x) × (h ≤ load (b .holders) x) × Reach (steps b) x y
 
--- marks at exactly these benches of 1 to B are the tight set
-marks-tight : {t : List ℕ} {s : Size} (h : ℕ) (marks : List Bool) → HoldsBoard t s → ((y : ℕ) → T (within 1 ((decode t) .benches) y) → T (mark marks y) ↔ FromHeavy (decode t) h y) → marked s marks ≡ tightSet (decode t) h
-marks-tight {t} {s} h marks k f =
-    ap (λ (n : ℕ). filter (mark marks) (range 1 n)) (sym (k .size .board-benches))
-    ∙ sym (tight-marked (decode t) (k .storable .valid) h (mark marks) f)
+module _ {t : List ℕ} {s : Size} {loads : List ℕ} (h : ℕ) (k : HoldsBoard t s) (loaded : Loaded (decode t) loads) where
+  -- marks at exactly the benches of 1 to B that one of them reaches are the tight set
+  marks-tight : (marks : List Bool) → ((y : ℕ) → BenchIn s y → T (mark marks y) ↔ HeavyReaches (decode t) h y) → marked s marks ≡ tightSet (decode t) h
+  marks-tight marks f =
+      ap (λ (n : ℕ). filter (mark marks) (range 1 n)) (sym (k .size .board-benches))
+      ∙ sym (tight-marked (decode t) (k .storable .valid) h (mark marks) (λ y w. f y (board-bench y (k .size) w)))
 
--- where every bench has load h or more, all benches are the tight set
-pub all-tight : {t : List ℕ} {s : Size} {h r : ℕ} {loads : List ℕ} {marks : List Bool} → HoldsBoard t s → Loaded (decode t) loads → LeastKey s loads r → h ≤ r → AllMarked s marks → marked s marks ≡ tightSet (decode t) h
-all-tight {t} {s} {h} {r} {loads} {marks} k l m u a =
-    marks-tight h marks k (λ y w. (λ i. own y w, λ i. a .bench y (board-bench y (k .size) w)))
-  where
-    own : (y : ℕ) → T (within 1 ((decode t) .benches) y) → FromHeavy (decode t) h y
-    own y w =
-        let b = board-bench y (k .size) w in
-        (y, w, omega (arith, m .least y b, load-at k l b), reach-here (steps (decode t)) y)
+  -- what a heavy bench reaches is reached from one with load h or more ..
+  heavy-reaches : (x y : ℕ) → Heavy s loads h x → Reach (steps (decode t)) x y → HeavyReaches (decode t) h y
+  heavy-reaches x y (b, l) r = (x, on-board k b, omega (arith, load-at k loaded b), r)
 
--- what `mark-closure` has when its benches are marked
-pub record ClosureMarked (t : List ℕ) (s : Size) (h : ℕ) (from to head next loads : List ℕ) (marks₀ marks : List Bool) : Type 0 where
-  pub holdsBoard : HoldsBoard t s
-  pub arcs : ArcsOf (decode t) s from to
-  pub listed : ListedBy (mostBenches + 1) (s .jobs) from head next
+  -- .. and a bench with that load is heavy
+  load-heavy : (x : ℕ) → T (within 1 ((decode t) .benches) x) → h ≤ load ((decode t) .holders) x → Heavy s loads h x
+  load-heavy x w l = let b = board-bench x (k .size) w in (b, omega (arith, load-at k loaded b))
+
+  -- where no bench has less, the heavy ones are the tight set
+  pub all-tight : {marks : List Bool} → HeavyMarked s loads h marks → (Lighter s loads h → ⊥) → marked s marks ≡ tightSet (decode t) h
+  all-tight {marks} m n = marks-tight marks (λ y b. (λ i. heavy-reaches y y (m .heavy y .0 i) (reach-here (steps (decode t)) y), λ i. m .heavy y .1 (b, all y b)))
+    where
+      all : (y : ℕ) → BenchIn s y → h ≤ at loads y
+      all y b = elim (decLe h (at loads y)) [ yes l ↦ l | no d ↦ absurd (n (y, b, omega arith)) ]
+
+-- what `mark-closure` has when it ends
+pub record ClosureMarked (t : List ℕ) (s : Size) (h : ℕ) (head next to loads : List ℕ) (marks₀ marks : List Bool) : Type 0 where
+  pub sound : SoundTable t s
+  pub stored : StoredChains t s head next to
   pub loaded : Loaded (decode t) loads
-  pub blank : marks₀ ≡ replicate (mostBenches + 1) false
-  pub closed : ClosedOver (Adjacent head next to) (λ x. BenchIn s x × (h ≤ at loads x)) marks₀ marks
+  pub heavy : HeavyMarked s loads h marks₀
+  pub closed : ClosedOver (Leads head next to) (FromHeavy s loads h (Leads head next to)) marks₀ marks
 
-module _ {t : List ℕ} {s : Size} {h : ℕ} {from to head next loads : List ℕ} {marks₀ marks : List Bool} (f : ClosureMarked t s h from to head next loads marks₀ marks) where
-  -- every mark is new
-  new : (y : ℕ) → T (not (mark marks₀ y))
-  new y = false→not (mark marks₀ y) (array-at (mostBenches + 1) (f .blank) y)
-
-  -- what is listed are these arcs
-  joined : (x y : ℕ) → Adjacent head next to x y ↔ HasArc (s .jobs) from to x y
-  joined = adjacent-has-arc (f .holdsBoard .size .limits) (arcs-forth (f .holdsBoard) (f .arcs)) (f .listed)
-
-  -- a step is a listed arc
-  step-joined : (x : ℕ) (q : Step) → In q (steps (decode t) x) → Adjacent head next to x (q .to)
-  step-joined x q i = let r = step-arc (f .holdsBoard) (f .arcs) x q i in (joined x (q .to)) .1 (q .job, r .0, r .1, r .2)
+module _ {t : List ℕ} {s : Size} {h : ℕ} {head next to loads : List ℕ} {marks₀ marks : List Bool} (f : ClosureMarked t s h head next to loads marks₀ marks) where
+  -- its records hold a board
+  holds : HoldsBoard t s
+  holds = sound-holds-board t s (f .sound)
 
   -- a marked bench is reached from one with load h or more ..
-  marked-reached : (y : ℕ) → T (mark marks y) → FromHeavy (decode t) h y
-  marked-reached y m =
-      let (x, (b, l), r) = f .closed .only y (new y) m in
-      let q = arcs-reach (f .holdsBoard) (f .arcs) x y (b .least) (reached-same (λ x y. (joined x y) .0) x y r) in
-      (x, on-board (f .holdsBoard) b, omega (arith, load-at (f .holdsBoard) (f .loaded) b), q)
+  marked-reached : (y : ℕ) → T (mark marks y) → HeavyReaches (decode t) h y
+  marked-reached y m = go (mark marks₀ y) refl
+    where
+      go : (z : Bool) → mark marks₀ y ≡ z → HeavyReaches (decode t) h y
+      go true e = heavy-reaches h holds (f .loaded) y y (f .heavy .heavy y .0 (true→T (mark marks₀ y) e)) (reach-here (steps (decode t)) y)
+      go false e =
+          let (z, (x, l, i), r) = f .closed .only y (false→not (mark marks₀ y) e) m in
+          heavy-reaches h holds (f .loaded) x y l (jobs-reach holds (leads-job (f .sound) (f .stored)) x y (l .0) (step x z y i r))
 
   -- .. and each that is reached is marked
-  reached-marked : (y : ℕ) → FromHeavy (decode t) h y → T (mark marks y)
-  reached-marked y (x, w, l, r) = reach-all (steps (decode t)) (λ z. T (mark marks z)) on x y start r
+  reached-marked : (y : ℕ) → HeavyReaches (decode t) h y → T (mark marks y)
+  reached-marked y (x, w, l, r) = reach-all (steps (decode t)) (λ z. T (mark marks z)) (λ z q m i. on z q m i (mark marks₀ z) refl) x y start r
     where
-      on : (z : ℕ) (q : Step) → T (mark marks z) → In q (steps (decode t) z) → T (mark marks (q .to))
-      on z q m i = f .closed .shut z (q .to) (new z) m (step-joined z q i)
+      on : (z : ℕ) (q : Step) → T (mark marks z) → In q (steps (decode t) z) → (b : Bool) → mark marks₀ z ≡ b → T (mark marks (q .to))
+      on z q m i true e = f .closed .every (q .to) (z, f .heavy .heavy z .0 (true→T (mark marks₀ z) e), step-leads (f .sound) (f .stored) z q i)
+      on z q m i false e = f .closed .shut z (q .to) (false→not (mark marks₀ z) e) m (step-leads (f .sound) (f .stored) z q i)
 
       start : T (mark marks x)
-      start = let b = board-bench x (f .holdsBoard .size) w in f .closed .every x (b, omega (arith, load-at (f .holdsBoard) (f .loaded) b))
+      start = f .closed .grows x (f .heavy .heavy x .1 (load-heavy h holds (f .loaded) x w l))
 
   -- so the marked benches are the tight set
   pub found-tight : marked s marks ≡ tightSet (decode t) h
-  found-tight = marks-tight h marks (f .holdsBoard) (λ y w. (marked-reached y, reached-marked y))
+  found-tight = marks-tight h holds (f .loaded) marks (λ y b. (marked-reached y, reached-marked y))
 
 module _ {t : List ℕ} {s : Size} {loads : List ℕ} (h : ℕ) (marks : List Bool) (k : HoldsBoard t s) (l : Loaded (decode t) loads) (tight : marked s marks ≡ tightSet (decode t) h) where
   -- the loads of the marked benches are the jobs inside the tight set ..

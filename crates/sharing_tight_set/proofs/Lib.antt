@@ -1,2 +1,3 @@
 -- Marks as the tight set that they are.
+pub mod AlongChains
 pub mod AsSet

@@ -6,13 +6,10 @@ ghost use Prim.Native.Nat.{_≤_, _+_, _*_};
 ghost use lib.ListN.{length, drop, replicate};
 ghost use Rattle.spec_table.specs.Table.{mostBenches, decode, bytesOf};
 ghost use Rattle.spec_sharing.specs.Sharing.{tightSet};
-ghost use Rattle.table_size.specs.Sizes.{Limits};
-ghost use Rattle.table_board.specs.BoardView.{HoldsBoard, Loaded};
-ghost use Rattle.graph_lists.specs.Arrays.{LoadsIn};
-ghost use Rattle.sharing_visits.specs.Marks.{Marks};
-ghost use Rattle.sharing_tight_set.specs.MarkedSets.{AllMarked, marked, Measured, TightSet};
-use graph_lists::keys;
-use graph_lists::lists;
+ghost use Rattle.table_size.specs.Sizes.{Limits, SoundTable};
+ghost use Rattle.table_board.specs.BoardView.{Loaded};
+ghost use Rattle.graph_lists.specs.Arrays.{Tells, LoadsIn};
+ghost use Rattle.sharing_tight_set.specs.MarkedSets.{marked, HeavyMarked, Lighter, Measured, TightSet};
 use graph_lists::scratch;
 use table_board::loads;
 use table_size::Size;
@@ -57,21 +54,34 @@ fn measure(
     }
 }
 
-// Marks every bench of 1 to B.
-fn mark_all(s: Size, marks: &mut [bool; Size::MOST_BENCHES + 1])
+// Marks the benches with load h or more; tells whether one has less.
+fn mark_heavy(
+    s: Size,
+    loads: &[u16; Size::MOST_BENCHES + 1],
+    h: usize,
+    marks: &mut [bool; Size::MOST_BENCHES + 1],
+) -> bool
     requires { ⌜ Limits s ⌝ }
-    requires { ⌜ Marks (now marks) ⌝ }
-    ensures { λ _. ⌜ AllMarked s (now (marks .exit)) ⌝ }
+    requires { ⌜ LoadsIn s (now loads) ⌝ }
+    requires { ⌜ now marks ≡ replicate (mostBenches + 1) false ⌝ }
+    ensures { λ _. ⌜ HeavyMarked s (now (loads .entry)) h (now (marks .exit)) ⌝ }
+    ensures { λ r. ⌜ Tells (Lighter s (now (loads .entry)) h) r ⌝ }
 {
     let benches = s.benches();
+    let mut less = false;
     let mut x = 1;
     while x <= benches {
-        marks[x] = true;
+        if h <= loads[x] as usize {
+            marks[x] = true;
+        } else {
+            less = true;
+        }
         x += 1;
     }
+    less
 }
 
-// Marks the benches with load h or more, and what they bring in.
+// Marks what the chains of the benches with load h or more bring in; these benches are marked already.
 fn mark_closure(
     t: &[u8],
     s: Size,
@@ -79,33 +89,29 @@ fn mark_closure(
     h: usize,
     marks: &mut [bool; Size::MOST_BENCHES + 1],
 )
-    requires { ⌜ HoldsBoard (now t) s ⌝ }
+    requires { ⌜ SoundTable (now t) s ⌝ }
     requires { ⌜ Loaded (decode (now t)) (now loads) ⌝ }
-    requires { ⌜ now marks ≡ replicate (mostBenches + 1) false ⌝ }
+    requires { ⌜ HeavyMarked s (now loads) h (now marks) ⌝ }
     ensures { λ _. ⌜ marked s (now (marks .exit)) ≡ tightSet (decode (now (t .entry))) h ⌝ }
 {
-    let mut from = scratch::jobs();
-    let mut to = scratch::jobs();
-    sharing_arcs::fill(t, s, &mut from, &mut to);
     let mut head = scratch::benches();
     let mut next = scratch::jobs();
-    lists::list_by(s.jobs(), &from, &mut head, &mut next);
-    sharing_visits::visit_heavy(s, &head, &next, &to, loads, h, marks);
+    let mut to = scratch::jobs();
+    sharing_chains::copy_chains(t, s, &mut head, &mut next, &mut to);
+    sharing_visits::walk_heavy(s, &head, &next, &to, loads, h, marks);
 }
 
 // Marks the tight set of height h; tells the number of its benches and of the jobs inside. Where every bench has
-// load h or more, it is all benches, and no search is made. A job inside is held inside, and a job that a bench of
-// the set holds is inside, so the loads are counted and not the jobs.
+// load h or more, all are marked before a chain is walked, and none is. A job inside is held inside, and a job that
+// a bench of the set holds is inside, so the loads are counted and not the jobs.
 pub fn tight_set(t: &[u8], s: Size, h: usize, marks: &mut [bool; Size::MOST_BENCHES + 1]) -> Extent
-    requires { ⌜ HoldsBoard (now t) s ⌝ }
+    requires { ⌜ SoundTable (now t) s ⌝ }
     requires { ⌜ now marks ≡ replicate (mostBenches + 1) false ⌝ }
     ensures { λ r. ⌜ TightSet (decode (now (t .entry))) s h (now (marks .exit)) r ⌝ }
 {
     let mut load = scratch::benches();
     loads::loads(t, s, &mut load);
-    if h <= keys::least(s, &load) as usize {
-        mark_all(s, marks);
-    } else {
+    if mark_heavy(s, &load, h, marks) {
         mark_closure(t, s, &load, h, marks);
     }
     measure(s, &load, marks)
