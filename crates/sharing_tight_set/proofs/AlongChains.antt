@@ -63,10 +63,12 @@ module _ {t : List ℕ} {s : Size} {head next to : List ℕ} (sound : SoundTable
 
   -- the chains can be walked along
   pub chains-walkable : BenchChains head next to
-  chains-walkable = record { bench = λ x w. elim (decLe x (s .benches)) [
-    | yes l ↦ bench x (record { least = within-low 1 mostBenches x w; most = l })
-    | no d ↦ beyond (stored .heads .beyond x (omega arith))
-  ] }
+  chains-walkable = record {
+    bench = λ x w. elim (decLe x (s .benches)) [
+      | yes l ↦ bench x (record { least = within-low 1 mostBenches x w; most = l })
+      | no d ↦ beyond (stored .heads .beyond x (omega arith))
+    ];
+  }
     where
       bench : (x : ℕ) → BenchIn s x → Walkable next to (at head x)
       bench x b =

@@ -1,6 +1,5 @@
 -- The set of a height of 1 or more: a set without a bench is that of a height above the heaviest load.
 use native.Mathlib.Omega.{arith}
-use Rattle.table_board.proofs.RecordsAsBoard.{sound-holds-board}
 use Rattle.board_questions.proofs.Asking.{zero-refused, set-most, list-room, high-refused, short-refused, set-told}
 use borrow.Author.Needs.{needs}
 use Rattle.board_questions.proofs.tight_set_on.Statement.{statement}
@@ -15,7 +14,7 @@ unmarked-requires : tie.Need-unmarked-requires
 unmarked-requires c κs = search needs
 
 tight-set-requires : tie.Need-tight-set-requires
-tight-set-requires c κs = (sound-holds-board _ _ (c .before .before .before .before .before .pre), c .before .unmarked .ensures)
+tight-set-requires c κs = (c .before .before .before .before .before .pre, c .before .unmarked .ensures)
 
 returns-2 : tie.Need-returns-2
 returns-2 c =

@@ -19,8 +19,7 @@ jobs-requires-2 c κs = search needs
 
 copy-chains-requires : tie.Need-copy-chains-requires
 copy-chains-requires c κs =
-    let made = c .before .before .before in
-    (
+    let made = c .before .before .before in (
       made .before .before .before .before .pre .0,
       (made .before .before .benches .ensures, (array-long 0 (made .before .jobs .ensures), array-long 0 (made .jobs2 .ensures))),
     )
@@ -29,8 +28,7 @@ walk-heavy-requires : tie.Need-walk-heavy-requires
 walk-heavy-requires c κs =
     let copied = c .before .before .before .before in
     let b = copied .before .before .before .before .before .before .before .before in
-    let sound = b .pre .0 in
-    (
+    let sound = b .pre .0 in (
       sound .size .limits,
       (
         chains-walkable sound (copied .copy-chains .ensures),
