@@ -196,7 +196,7 @@ module _ {t : List ℕ} {s : Size} (holdsBoard : HoldsBoard t s) where
 
 module _ {t : List ℕ} {s : Size} (holdsBoard : HoldsBoard t s) where
   -- a job is a step from the bench that holds it to the other one ..
-  pub job-step : (j x : ℕ) → 1 ≤ x → holderOf (decode t) j ≡ x → In (stepBy j (otherOf (decode t) j)) (steps (decode t) x)
+  job-step : (j x : ℕ) → 1 ≤ x → holderOf (decode t) j ≡ x → In (stepBy j (otherOf (decode t) j)) (steps (decode t) x)
   job-step j x l h =
       let b = decode t in
       let o = held-other t s j holdsBoard (λ z. omega arith) in

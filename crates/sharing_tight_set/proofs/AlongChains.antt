@@ -7,7 +7,7 @@ use mathlib.Core.Logic.{_↔_, inr}
 use mathlib.Core.List.{List, _∷_}
 use lib.Dec.{T}
 use lib.ListN.{length}
-use Rattle.spec_lists.specs.Lists.{within, In}
+use Rattle.spec_lists.specs.Lists.{In}
 use Rattle.spec_table.specs.Board.{stands, holderOf}
 use Rattle.spec_table.specs.Table.{mostBenches, mostJobs, decode}
 use Rattle.spec_sharing.specs.Paths.{Step, steps}
@@ -17,7 +17,7 @@ use Rattle.table_size.specs.Sizes.{BenchIn, SoundTable}
 use Rattle.table_size.specs.declared.Size.{Size}
 use Rattle.table_size.proofs.Sizes.{board-bench}
 use Rattle.table_board.proofs.RecordsAsBoard.{sound-holds-board, stands-job}
-use Rattle.table_chains.specs.Chains.{chainFrom, storedHead, storedNext, ChainOf}
+use Rattle.table_chains.specs.Chains.{chainFrom, storedHead, storedNext}
 use Rattle.table_chains.proofs.ChainView.{chain-end, chain-begins, first-chain, next-chain}
 use Rattle.graph_lists.specs.Arrays.{at}
 use Rattle.sharing_arcs.specs.Arcs.{otherOf}

@@ -28,7 +28,7 @@ module _ (next : List ℕ) where
   chain-none e = rw e refl
 
   -- .. any other number does ..
-  pub chain-first : (j : ℕ) → j ≢ 0 → In j (chainOn next j)
+  chain-first : (j : ℕ) → j ≢ 0 → In j (chainOn next j)
   unfolding chainOn
   chain-first zero d = absurd (d refl)
   chain-first (suc i) d = inl refl

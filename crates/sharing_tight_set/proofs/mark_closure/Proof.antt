@@ -19,22 +19,17 @@ jobs-requires-2 c κs = search needs
 
 copy-chains-requires : tie.Need-copy-chains-requires
 copy-chains-requires c κs =
-    let made = c .before .before .before in (
-      made .before .before .before .before .pre .0,
-      (made .before .before .benches .ensures, (array-long 0 (made .before .jobs .ensures), array-long 0 (made .jobs2 .ensures))),
-    )
+    let made = c .before .before .before in
+    let sound = made .before .before .before .before .pre .0 in
+    (sound, (made .before .before .benches .ensures, (array-long 0 (made .before .jobs .ensures), array-long 0 (made .jobs2 .ensures))))
 
 walk-heavy-requires : tie.Need-walk-heavy-requires
 walk-heavy-requires c κs =
     let copied = c .before .before .before .before in
     let b = copied .before .before .before .before .before .before .before .before in
-    let sound = b .pre .0 in (
-      sound .size .limits,
-      (
-        chains-walkable sound (copied .copy-chains .ensures),
-        (b .pre .1 .1 .long, loads-in (sound-holds-board _ _ sound) (b .pre .1 .0)),
-      ),
-    )
+    let sound = b .pre .0 in
+    let walkable = chains-walkable sound (copied .copy-chains .ensures) in
+    (sound .size .limits, (walkable, (b .pre .1 .1 .long, loads-in (sound-holds-board _ _ sound) (b .pre .1 .0))))
 
 returns : tie.Need-returns
 returns c =
