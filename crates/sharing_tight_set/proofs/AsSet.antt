@@ -3,7 +3,7 @@ use Prim.Native.Nat.{ℕ, zero, suc, _+_, _*_, _/_, _%_, _≤_, _<_}
 use native.Mathlib.Omega.{arith}
 use native.Mathlib.Decide.{ℕ-discrete, decLe}
 use mathlib.Core.Path.{_≡_, refl, sym, ap, _∙_}
-use mathlib.Core.Logic.{_↔_, _≢_}
+use mathlib.Core.Logic.{_↔_}
 use mathlib.Core.Bool.{Bool, true, false, cond}
 use mathlib.Core.List.{List, [], _∷_, _++_, append-nil}
 use lib.Dec.{T, T-not}
@@ -35,7 +35,7 @@ use Rattle.sharing_arcs.proofs.AsArcs.{on-board, load-at, jobs-reach}
 use Rattle.sharing_chains.specs.StoredChains.{StoredChains}
 use Rattle.sharing_visits.specs.ArrayChains.{Leads}
 use Rattle.sharing_visits.specs.Marks.{mark, Marks, Heavy, FromHeavy, ClosedOver}
-use Rattle.sharing_visits.proofs.Visiting.{marks-set, Passed}
+use Rattle.sharing_visits.proofs.Visiting.{marks-set, Passed, passed-on, passed-before, passed-light, passed-all}
 use Rattle.sharing_tight_set.specs.MarkedSets.{marked, HeavyMarked, Lighter, Measured, TightSet}
 use Rattle.sharing_tight_set.proofs.AlongChains.{leads-job, step-leads}
 use Rattle.sharing_tight_set.specs.declared.Extent.{Extent}
@@ -197,6 +197,11 @@ write-end s m e =
 
 -- marking the heavy benches
 
+-- a test tells what is the same
+tells-same : {P Q : Type 0} → P ↔ Q → (z : Bool) → Tells P z → Tells Q z
+tells-same e true p = e .0 p
+tells-same e false n = λ q. n (e .1 q)
+
 -- a bench before x has less
 abbrev Less : List ℕ → ℕ → ℕ → Type 0
 Less loads h x = (y : ℕ) × (1 ≤ y) × (y < x) × (at loads y < h)
@@ -216,15 +221,11 @@ mark-start loads h benches {marks} e =
       least = omega arith;
       most = omega arith;
       long = record { long = array-long false e };
-      heavy = λ y. (λ t. absurd (T-not (mark marks y) (false→not (mark marks y) (array-at (mostBenches + 1) e y)) t), λ p. absurd (omega (arith, p .0, p .1)));
+      heavy = λ y. (λ t. absurd (T-not (mark marks y) (false→not (mark marks y) (array-at (mostBenches + 1) e y)) t), λ p. absurd (omega (arith, p .least, p .before)));
       others = λ (y, p, q, r). omega arith;
     }
 
 module _ {loads : List ℕ} {h benches : ℕ} {marks : List Bool} {less : Bool} {x : ℕ} (m : Marking loads h benches marks less x) where
-  -- a bench that is passed is x or was passed before
-  passed-other : (y : ℕ) → y ≢ x → Passed loads h x y ↔ Passed loads h (x + 1) y
-  passed-other y d = (λ p. (p .0, omega (arith, p .1), p .2), λ p. (p .0, omega (arith, p .1), p .2))
-
   module _ (u : x ≤ benches) where
     -- bench x is heavy, and marked ..
     pub mark-turn : x ≤ mostBenches → h ≤ at loads x → Marking loads h benches (set marks x true) less (x + 1)
@@ -234,27 +235,23 @@ module _ {loads : List ℕ} {h benches : ℕ} {marks : List Bool} {less : Bool} 
           most = omega arith;
           long = marks-set marks x (m .long);
           heavy = λ y. heavy y (compared y x);
-          others = others less (m .others);
+          others = tells-same (λ (y, p, q, r). (y, p, omega arith, r), before) less (m .others);
         }
       where
         heavy : (y : ℕ) → {z : Bool} → Compared y x z → T (mark (set marks x true) y) ↔ Passed loads h (x + 1) y
         heavy y (same e) =
             rw e (
-              λ t. (m .least, omega arith, l),
+              λ t. record { least = m .least; before = omega arith; heavy = l },
               λ p. true→T (mark (set marks x true) x) (getD-set-same marks x true false (omega (arith, m .long .long))),
             )
         heavy y (other d) =
             rw (getD-set-other marks x y true false d) (
-              λ t. passed-other y d .0 (m .heavy y .0 t),
-              λ p. m .heavy y .1 (passed-other y d .1 p),
+              λ t. passed-on (m .heavy y .0 t),
+              λ p. m .heavy y .1 (passed-before d p),
             )
 
         before : Less loads h (x + 1) → Less loads h x
         before (y, p, q, r) = elim (ℕ-discrete y x) [ yes e ↦ absurd (omega (arith, ap (at loads) e)) | no d ↦ (y, p, omega arith, r) ]
-
-        others : (z : Bool) → Tells (Less loads h x) z → Tells (Less loads h (x + 1)) z
-        others true (y, p, q, r) = (y, p, omega arith, r)
-        others false n = λ i. n (before i)
 
     -- .. or has less
     pub mark-pass : at loads x < h → Marking loads h benches marks true (x + 1)
@@ -263,32 +260,23 @@ module _ {loads : List ℕ} {h benches : ℕ} {marks : List Bool} {less : Bool} 
           least = omega arith;
           most = omega arith;
           long = m .long;
-          heavy = λ y. (λ t. let p = m .heavy y .0 t in (p .0, omega (arith, p .1), p .2), λ p. m .heavy y .1 (before y p (compared y x)));
+          heavy = λ y. (λ t. passed-on (m .heavy y .0 t), λ p. m .heavy y .1 (passed-light l p));
           others = (x, m .least, omega arith, l);
         }
-      where
-        before : (y : ℕ) → Passed loads h (x + 1) y → {z : Bool} → Compared y x z → Passed loads h x y
-        before y p (same e) = absurd (omega (arith, p .2, ap (at loads) e))
-        before y p (other d) = passed-other y d .1 p
 
   -- the heavy benches are marked ..
   pub mark-end : (s : Size) → benches ≡ s .benches → benches < x → HeavyMarked s loads h marks
   mark-end s e u =
-      record {
-        long = m .long;
-        heavy = λ y. (
-          λ t. let p = m .heavy y .0 t in (record { least = p .0; most = omega (arith, p .1, m .most) }, p .2),
-          λ (b, l). m .heavy y .1 (b .least, omega (arith, b .most), l),
-        );
-      }
+      let all = passed-all loads h x s (omega (arith, m .most)) in
+      record { long = m .long; heavy = λ y. (λ t. all y .0 (m .heavy y .0 t), λ b. m .heavy y .1 (all y .1 b)) }
 
   -- .. and it is told whether there are others
   pub mark-told : (s : Size) → benches ≡ s .benches → benches < x → Tells (Lighter s loads h) less
-  mark-told s e u = told less (m .others)
-    where
-      told : (z : Bool) → Tells (Less loads h x) z → Tells (Lighter s loads h) z
-      told true (y, p, q, r) = (y, record { least = p; most = omega (arith, m .most) }, r)
-      told false n = λ (y, b, r). n (y, b .least, omega (arith, b .most), r)
+  mark-told s e u =
+      tells-same (
+        λ (y, p, q, r). (y, record { least = p; most = omega (arith, m .most) }, r),
+        λ (y, b, r). (y, b .least, omega (arith, b .most), r),
+      ) less (m .others)
 
 -- the tight set as marks
 

@@ -101,8 +101,8 @@ fn mark_closure(
     sharing_visits::walk_heavy(s, &head, &next, &to, loads, h, marks);
 }
 
-// Marks the tight set of height h; tells the number of its benches and of the jobs inside. Where every bench has
-// load h or more, all are marked before a chain is walked, and none is. A job inside is held inside, and a job that
+// Marks the tight set of height h; tells the number of its benches and of the jobs inside. Where no bench has less
+// than h, all are marked at once: no chain is copied, and no walk begins. A job inside is held inside, and a job that
 // a bench of the set holds is inside, so the loads are counted and not the jobs.
 pub fn tight_set(t: &[u8], s: Size, h: usize, marks: &mut [bool; Size::MOST_BENCHES + 1]) -> Extent
     requires { ⌜ SoundTable (now t) s ⌝ }

@@ -17,7 +17,7 @@ use Rattle.spec_lists.proofs.Counting.{total-le, total-but-one}
 use Rattle.table_size.specs.declared.Size.{Size}
 use Rattle.graph_lists.specs.Arrays.{at, Reached, here, step}
 use Rattle.sharing_visits.specs.ArrayChains.{chainAlong, chainOn, Walkable, FromChain, Leads}
-use Rattle.sharing_visits.specs.Marks.{mark, Marks, FromHeavy, ClosedOver}
+use Rattle.sharing_visits.specs.Marks.{mark, Marks, Heavy, FromHeavy, ClosedOver}
 
 -- chains
 
@@ -230,8 +230,30 @@ module _ (head next to : List ℕ) where
 -- the chains of the benches with load h or more
 
 -- y is one of these benches, and comes before bench x
-abbrev pub Passed : List ℕ → ℕ → ℕ → ℕ → Type 0
-Passed loads h x y = (1 ≤ y) × (y < x) × (h ≤ at loads y)
+pub record Passed (loads : List ℕ) (h x y : ℕ) : Type 0 where
+  pub least : 1 ≤ y
+  pub before : y < x
+  pub heavy : h ≤ at loads y
+
+module _ {loads : List ℕ} {h x y : ℕ} where
+  -- a bench that comes before x comes before the next one ..
+  pub passed-on : Passed loads h x y → Passed loads h (x + 1) y
+  passed-on p = record { least = p .least; before = omega (arith, p .before); heavy = p .heavy }
+
+  -- .. one that comes before the next one is x or comes before x ..
+  pub passed-before : y ≢ x → Passed loads h (x + 1) y → Passed loads h x y
+  passed-before d p = record { least = p .least; before = omega (arith, p .before); heavy = p .heavy }
+
+  -- .. and is not x where x has less
+  pub passed-light : at loads x < h → Passed loads h (x + 1) y → Passed loads h x y
+  passed-light l p = passed-before (λ e. omega (arith, p .heavy, ap (at loads) e)) p
+
+-- at the end they are all of them
+pub passed-all : (loads : List ℕ) (h x : ℕ) (s : Size) → x ≡ s .benches + 1 → (y : ℕ) → Passed loads h x y ↔ Heavy s loads h y
+passed-all loads h x s e y = (
+  λ p. (record { least = p .least; most = omega (arith, p .before) }, p .heavy),
+  λ (b, l). record { least = b .least; before = omega (arith, b .most); heavy = l },
+)
 
 -- such a bench leads to y
 abbrev pub FromPassed : (ℕ → ℕ → Type 0) → List ℕ → ℕ → ℕ → ℕ → Type 0
@@ -249,7 +271,7 @@ walked-start {J} loads h benches m l =
     record {
       least = omega arith;
       most = omega arith;
-      brought = closed-none (FromPassed J loads h 1) m l (λ y (z, p, i). absurd (omega (arith, p .0, p .1)));
+      brought = closed-none (FromPassed J loads h 1) m l (λ y (z, p, i). absurd (omega (arith, p .least, p .before)));
     }
 
 module _ {J : ℕ → ℕ → Type 0} {loads : List ℕ} {h benches : ℕ} {m₀ m : List Bool} {x : ℕ} (v : Walked J loads h benches m₀ m x) where
@@ -265,11 +287,11 @@ module _ {J : ℕ → ℕ → Type 0} {loads : List ℕ} {h benches : ℕ} {m₀
       where
         split : (y z : ℕ) → Passed loads h (x + 1) z → J z y → {a : Bool} → Compared z x a → FromPassed J loads h x y ⊎ J x y
         split y z b i (same e) = inr (subst (λ (k : ℕ). J k y) e i)
-        split y z b i (other d) = inl (z, (b .0, omega (arith, b .1), b .2), i)
+        split y z b i (other d) = inl (z, passed-before d b, i)
 
         join : (y : ℕ) → FromPassed J loads h x y ⊎ J x y → FromPassed J loads h (x + 1) y
-        join y (inl (z, b, i)) = (z, (b .0, omega (arith, b .1), b .2), i)
-        join y (inr i) = (x, (v .least, omega arith, l), i)
+        join y (inl (z, b, i)) = (z, passed-on b, i)
+        join y (inr i) = (x, record { least = v .least; before = omega arith; heavy = l }, i)
 
     -- .. or it has not ..
     pub walked-pass : at loads x < h → Walked J loads h benches m₀ m (x + 1)
@@ -277,16 +299,11 @@ module _ {J : ℕ → ℕ → Type 0} {loads : List ℕ} {h benches : ℕ} {m₀
         record {
           least = omega arith;
           most = omega arith;
-          brought = closed-same (FromPassed J loads h x) (FromPassed J loads h (x + 1)) m₀ m (λ y. (λ (z, b, i). (z, before z b (compared z x), i), λ (z, b, i). (z, (b .0, omega (arith, b .1), b .2), i))) (v .brought);
+          brought = closed-same (FromPassed J loads h x) (FromPassed J loads h (x + 1)) m₀ m (λ y. (λ (z, b, i). (z, passed-light l b, i), λ (z, b, i). (z, passed-on b, i))) (v .brought);
         }
-      where
-        before : (z : ℕ) → Passed loads h (x + 1) z → {a : Bool} → Compared z x a → Passed loads h x z
-        before z b (same e) = absurd (omega (arith, b .2, ap (at loads) e))
-        before z b (other d) = (b .0, omega (arith, b .1), b .2)
 
   -- .. and at the end all are walked
   pub walked-end : (s : Size) → benches ≡ s .benches → benches < x → ClosedOver J (FromHeavy s loads h J) m₀ m
   walked-end s e u =
-      closed-same (FromPassed J loads h x) (FromHeavy s loads h J) m₀ m
-      (λ y. (λ (z, b, i). (z, (b .0 .least, omega (arith, b .0 .most), b .1), i), λ (z, b, i). (z, (record { least = b .0; most = omega (arith, b .1, v .most) }, b .2), i)))
-      (v .brought)
+      let all = passed-all loads h x s (omega (arith, v .most)) in
+      closed-same (FromPassed J loads h x) (FromHeavy s loads h J) m₀ m (λ y. (λ (z, b, i). (z, all z .1 b, i), λ (z, b, i). (z, all z .0 b, i))) (v .brought)

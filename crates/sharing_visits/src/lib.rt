@@ -1,5 +1,6 @@
 // A bench in the set brings in its chain, and each job on that chain brings in its other bench: the bench visit and
-// the chain walk call each other. At each call the pair of unmarked benches and remaining chain falls.
+// the chain walk call each other. At each call the pair of unmarked benches and remaining chain falls. The chains are
+// the table's, in the order they stand.
 ghost use mathlib.Core.Path.{_≡_};
 ghost use lib.Dec.{T};
 ghost use Rattle.spec_lists.specs.Lists.{within};
@@ -49,6 +50,7 @@ fn walk(
         return;
     }
     visit(head, next, to, to[j] as usize, marks);
+    // Keeps this call last: compiled, it is a loop along the chain and takes no stack.
     walk(head, next, to, next[j] as usize, marks);
 }
 
