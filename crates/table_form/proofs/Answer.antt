@@ -23,7 +23,7 @@ use Rattle.table_form.specs.declared.Form.the-variants.{Refused, Sound}
 
 -- each answer says what holds of the table
 checked : (t : List ℕ) (f : Form) → f ≡ formIn t → Checked t f
-unfolding formIn sizeIn sound
+unfolding formIn sound
 checked t f e = rw e (go (fits t) (formed (layoutIn t)) refl refl)
   where
     b : ℕ

@@ -2,8 +2,8 @@
 use Prim.Native.Nat.{ℕ, _+_, _*_, _<_}
 use native.Mathlib.Omega.{arith}
 use mathlib.Core.Path.{_≡_, refl, sym, ap, _∙_, subst}
-use mathlib.Core.Bool.{Bool, true, false, _&&_}
-use mathlib.Core.List.{List}
+use mathlib.Core.Bool.{Bool, true, false, cond, _&&_}
+use mathlib.Core.List.{List, [], _∷_}
 use lib.Dec.{T}
 use lib.ListN.{length, getD, length-map}
 use borrow.Author.Tests.{le-leb}
@@ -12,10 +12,20 @@ use Rattle.spec_table.specs.Table.{words, lengthFor, mostBenches, mostJobs, siz
 use Rattle.spec_lists.proofs.Tests.{true→T, T→true, never→false, left, right, within-low, within-high, within-both}
 use Rattle.spec_table.proofs.Words.{within-fit}
 use Rattle.spec_table.proofs.Places.{length-words, misfit, short-refused, fits-sized, fits-heads, fits-entries}
+use Rattle.spec_calls.specs.Answers.{refusalNumber, sizes}
 use Rattle.table_words.specs.Bytes.{layoutIn}
-use Rattle.table_size.specs.Sizes.{Limits, SizeOf, JobIn, BenchIn, fitIf, sizing, sizeIn, SoundTable}
+use Rattle.table_size.specs.Sizes.{Limits, SizeOf, JobIn, BenchIn, fitIf, sizing, sizeIn, sizingNumbers, SizingOf, SoundTable}
 use Rattle.table_size.specs.declared.Size.{Size}
+use Rattle.table_size.specs.declared.Sizing.{Sizing}
 use Rattle.table_size.specs.declared.Sizing.the-variants.{Fit, Misfit}
+
+-- the size where the sizes fit is in document 01's numbers 0 and the sizes, or refusal 1
+pub sizing-of : {fit : Bool} {benches jobs : ℕ} {r : Sizing} → fitIf fit benches jobs ≡ r → SizingOf fit benches jobs r
+sizing-of {fit} {benches} {jobs} e = record { value = sym e; numbers = ap sizingNumbers (sym e) ∙ go fit }
+  where
+    go : (z : Bool) → sizingNumbers (fitIf z benches jobs) ≡ cond z (0 ∷ benches ∷ jobs ∷ []) (refusalNumber sizes ∷ [])
+    go true = refl
+    go false = refl
 
 -- numbers of benches and jobs
 
@@ -31,13 +41,11 @@ pass-limits benches jobs b j =
 
 -- numbers within the limits are a size ..
 pub sizing-fit : (s : Size) → Limits s → sizing (s .benches) (s .jobs) ≡ Fit s
-unfolding sizing
 sizing-fit s l =
     rw (le-leb 1 (s .benches) (l .benches-least), le-leb (s .benches) mostBenches (l .benches-most), le-leb 1 (s .jobs) (l .jobs-least), le-leb (s .jobs) mostJobs (l .jobs-most))
 
 -- .. others are refused ..
 pub sizing-misfit : (benches jobs : ℕ) → (Limits (record { benches = benches; jobs = jobs }) → ⊥) → sizing benches jobs ≡ Misfit
-unfolding sizing
 sizing-misfit benches jobs f =
     let b : Bool = within 1 mostBenches benches in
     let j : Bool = within 1 mostJobs jobs in
@@ -45,7 +53,6 @@ sizing-misfit benches jobs f =
 
 -- .. and a size that is not refused has these numbers
 pub fit-sizing : (benches jobs : ℕ) (s : Size) → sizing benches jobs ≡ Fit s → Limits s × (s .benches ≡ benches) × (s .jobs ≡ jobs)
-unfolding sizing
 fit-sizing benches jobs s = go (b && j) refl
   where
     b : Bool
@@ -102,7 +109,6 @@ size-of t s f b j =
 
 -- a size that a table is not refused is the table's size
 pub fit-size : (t : List ℕ) (s : Size) → sizeIn t ≡ Fit s → SizeOf t s
-unfolding sizeIn
 fit-size t s = go (fits t) refl
   where
     go : (z : Bool) → fits t ≡ z → fitIf z ((layoutIn t) .benches) ((layoutIn t) .jobs) ≡ Fit s → SizeOf t s
@@ -113,22 +119,22 @@ fit-size t s = go (fits t) refl
 
 -- a table of fewer than 8 bytes has no size ..
 pub short-misfit : (t : List ℕ) → length t < 8 → sizeIn t ≡ Misfit
-unfolding sizeIn fits layout
+unfolding fits layout
 short-misfit t l = rw (short-refused (length t) (getD (words t) 0 0) (getD (words t) 1 0) l)
 
 -- .. nor has one whose words 0 and 1 are refused ..
 pub words-misfit : (t : List ℕ) → sizing (getD (words t) 0 0) (getD (words t) 1 0) ≡ Misfit → sizeIn t ≡ Misfit
-unfolding sizeIn fits layout
+unfolding fits layout
 words-misfit t e = rw (sizes-refused (length t) (getD (words t) 0 0) (getD (words t) 1 0) e)
 
 -- .. or one whose length is not theirs ..
 pub length-misfit : (t : List ℕ) (s : Size) → sizing (getD (words t) 0 0) (getD (words t) 1 0) ≡ Fit s → (length t ≡ lengthFor (s .benches) (s .jobs) → ⊥) → sizeIn t ≡ Misfit
-unfolding sizeIn fits layout
+unfolding fits layout
 length-misfit t s e d = rw (sizes-other (length t) (getD (words t) 0 0) (getD (words t) 1 0) s e d)
 
 -- .. and any other has the size in words 0 and 1
 pub size-fit : (t : List ℕ) (s : Size) → sizing (getD (words t) 0 0) (getD (words t) 1 0) ≡ Fit s → length t ≡ lengthFor (s .benches) (s .jobs) → sizeIn t ≡ Fit s
-unfolding sizeIn fits layout
+unfolding fits layout
 size-fit t s e l =
     let f = fit-sizing (getD (words t) 0 0) (getD (words t) 1 0) s e in
     rw (sizes-fit (length t) (getD (words t) 0 0) (getD (words t) 1 0) s e l)

@@ -1,12 +1,13 @@
 -- Sizes within the limits, and the size of a table.
 use Prim.Native.Nat.{ℕ, _≤_}
 use mathlib.Core.Path.{_≡_}
-use mathlib.Core.Bool.{Bool, true, false, _&&_}
-use mathlib.Core.List.{List}
+use mathlib.Core.Bool.{Bool, true, false, cond, _&&_}
+use mathlib.Core.List.{List, [], _∷_}
 use lib.Dec.{T}
 use lib.ListN.{length}
 use Rattle.spec_lists.specs.Lists.{within}
 use Rattle.spec_table.specs.Table.{mostBenches, mostJobs, lengthFor, fits, sound, decode, Storable}
+use Rattle.spec_calls.specs.Answers.{refusalNumber, sizes}
 use Rattle.table_words.specs.Bytes.{layoutIn}
 use Rattle.table_size.specs.declared.Size.{Size}
 use Rattle.table_size.specs.declared.Sizing.{Sizing}
@@ -25,12 +26,22 @@ fitIf true benches jobs = Fit (record { benches = benches; jobs = jobs })
 fitIf false benches jobs = Misfit
 
 -- numbers of benches and jobs as a size, where they are within the limits
-unfoldable pub sizing : ℕ → ℕ → Sizing
+abbrev pub sizing : ℕ → ℕ → Sizing
 sizing benches jobs = fitIf (within 1 mostBenches benches && within 1 mostJobs jobs) benches jobs
 
 -- the size of a table: "every other call reads B and J there", in words 0 and 1; refusal 1 where they do not fit
-unfoldable pub sizeIn : List ℕ → Sizing
+abbrev pub sizeIn : List ℕ → Sizing
 sizeIn t = fitIf (fits t) ((layoutIn t) .benches) ((layoutIn t) .jobs)
+
+-- each case in document 01's numbers: 0 and the sizes, or refusal 1
+abbrev pub sizingNumbers : Sizing → List ℕ
+sizingNumbers (Fit s) = 0 ∷ s .benches ∷ s .jobs ∷ []
+sizingNumbers Misfit = refusalNumber sizes ∷ []
+
+-- r is the size where the sizes fit, and in document 01's numbers 0 and the sizes, or refusal 1
+pub record SizingOf (fit : Bool) (benches jobs : ℕ) (r : Sizing) : Type 0 where
+  pub value : r ≡ fitIf fit benches jobs
+  pub numbers : sizingNumbers r ≡ cond fit (0 ∷ benches ∷ jobs ∷ []) (refusalNumber sizes ∷ [])
 
 -- s is the size of the table t, whose sizes fit
 pub record SizeOf (t : List ℕ) (s : Size) : Type 0 where

@@ -1,8 +1,10 @@
 // How many benches and jobs a table is for.
 ghost use mathlib.Core.Path.{_≡_};
-ghost use Rattle.table_size.specs.Sizes.{Limits, sizing, sizeIn};
+ghost use mathlib.Core.Bool.{_&&_};
 ghost use Rattle.spec_lists.specs.Lists.{within};
-ghost use Rattle.spec_table.specs.Table.{lengthFor};
+ghost use Rattle.spec_table.specs.Table.{mostBenches, mostJobs, lengthFor, fits};
+ghost use Rattle.table_words.specs.Bytes.{layoutIn};
+ghost use Rattle.table_size.specs.Sizes.{Limits, SizingOf};
 
 // Numbers of benches and of jobs within the limits.
 pub struct Size {
@@ -23,7 +25,7 @@ impl Size {
 
     // Refuses numbers outside 1 to MOST_BENCHES and 1 to MOST_JOBS.
     pub fn new(benches: usize, jobs: usize) -> Sizing
-        ensures { λ r. ⌜ r ≡ sizing benches jobs ⌝ }
+        ensures { λ r. ⌜ SizingOf (within 1 mostBenches benches && within 1 mostJobs jobs) benches jobs r ⌝ }
     {
         if benches < 1 || Size::MOST_BENCHES < benches {
             return Sizing::Misfit;
@@ -36,7 +38,8 @@ impl Size {
 
     // Reads the size of a table; refuses where its sizes do not fit (refusal 1).
     pub fn of(t: &[u8]) -> Sizing
-        ensures { λ r. ⌜ r ≡ sizeIn (now (t .entry)) ⌝ }
+        ensures { λ r. ⌜ SizingOf (fits (now (t .entry))) (layoutIn (now (t .entry)) .benches)
+            (layoutIn (now (t .entry)) .jobs) r ⌝ }
     {
         let len = t.len();
         if len < 8 {

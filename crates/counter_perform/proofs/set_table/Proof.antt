@@ -13,7 +13,7 @@ use Rattle.counter_perform.proofs.set_table.Tie as tie
 
 -- the size that `new` returned is for these benches and jobs ..
 asked : (c : tie.After-s) → let args = c .before .before .before .before .before .args in sizing (args .benches) (args .jobs) ≡ Fit (c .s .given .0 .0)
-asked c = sym (c .before .before .new .ensures) ∙ c .s .given .1
+asked c = sym (c .before .before .new .ensures .value) ∙ c .s .given .1
 
 -- .. and its bytes are among the program's
 within : (c : tie.After-bytes) → c .bytes .result ≤ tableMost
@@ -70,7 +70,7 @@ returns c =
     let told = c .before .before in
     let sized = told .before .before .before .before in
     let start = sized .before .before .before in
-    misfit-replies (start .pre .0) (start .args .benches) (start .args .jobs) (sym (sized .new .ensures) ∙ told .before .before .enum-told .given .1) (told .refuse .ensures)
+    misfit-replies (start .pre .0) (start .args .benches) (start .args .jobs) (sym (sized .new .ensures .value) ∙ told .before .before .enum-told .given .1) (told .refuse .ensures)
 
 same-length-2 : tie.Need-same-length-2
 same-length-2 c = search needs

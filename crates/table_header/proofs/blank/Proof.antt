@@ -13,7 +13,7 @@ use Rattle.table_header.proofs.blank.Tie as tie
 
 -- the size that `new` returned is `benches` and `jobs` ..
 asked-size : (c : tie.After-known-told) → sizing (c .before .before .before .before .before .args .benches) (c .before .before .before .before .before .args .jobs) ≡ Fit (c .before .s .given .0 .0)
-asked-size c = sym (c .before .before .before .new .ensures) ∙ c .before .s .given .1
+asked-size c = sym (c .before .before .before .new .ensures .value) ∙ c .before .s .given .1
 
 -- .. and they are within the limits
 asked-limits : (c : tie.After-known-told) → let s = c .before .s .given .0 .0 in Limits s × (s .benches ≡ c .before .before .before .before .before .args .benches) × (s .jobs ≡ c .before .before .before .before .before .args .jobs)
@@ -52,7 +52,7 @@ write-requires-2 c κs = let f = asked-limits (c .before .before .before .before
 returns-2 : tie.Need-returns-2
 returns-2 c =
     let a = c .before .before .before .before .args in
-    (sym (sizes-refused (length (a .t .now)) (a .benches) (a .jobs) (sym (c .before .before .new .ensures) ∙ c .enum-told .given .1)), refl)
+    (sym (sizes-refused (length (a .t .now)) (a .benches) (a .jobs) (sym (c .before .before .new .ensures .value) ∙ c .enum-told .given .1)), refl)
 
 same-length : tie.Need-same-length
 same-length c = search needs
