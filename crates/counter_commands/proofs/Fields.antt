@@ -15,7 +15,9 @@ use borrow.Author.Tests.{le-leb, lt-leb, eq-eqb, ne-eqb, leb-true, leb-false}
 use Rattle.spec_lists.specs.Lists.{all, empty}
 use Rattle.spec_counter.specs.Counter.{space, onto, pieces, digit, value, number, numbers, joined, commandFor, fieldsCommand, command}
 use Rattle.spec_lists.proofs.Tests.{Compared, same, other, compared, true→T, within-low, within-high, right, T-leb}
-use Rattle.counter_commands.specs.Read.{digitValue, behind, onwards, Further, ReadField, followed, few, taken, given}
+use Rattle.counter_commands.specs.Read.{readingOf, readingNumbers, numbersDue, ReadingOf, digitValue, behind, onwards, Further, ReadField, followed, few, taken, given}
+use Rattle.counter_commands.specs.declared.Reading.{Reading}
+use Rattle.counter_commands.specs.declared.Reading.the-variants.{Readable, Unreadable}
 use Rattle.counter_commands.specs.declared.Field.{Field}
 use Rattle.counter_commands.specs.declared.Field.the-variants as field
 use Rattle.counter_commands.specs.declared.Numbers.{Numbers}
@@ -326,3 +328,11 @@ pub empty-line : (line : List ℕ) → length line ≡ 0 → command line ≡ no
 unfolding command
 empty-line [] e = refl
 empty-line (c ∷ l) e = absurd (omega arith)
+
+-- a line's command is in document 01's numbers those that are due
+pub reading-of : {line : List ℕ} {r : Reading} → readingOf r ≡ command line → ReadingOf line r
+reading-of {line} {r} e = record { command = e; numbers = go r ∙ ap numbersDue e }
+  where
+    go : (r : Reading) → readingNumbers r ≡ numbersDue (readingOf r)
+    go (Readable c) = refl
+    go Unreadable = refl

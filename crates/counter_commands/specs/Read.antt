@@ -7,8 +7,9 @@ use mathlib.Core.List.{List, [], _∷_, _++_}
 use mathlib.Core.Option.{Option, none, some}
 use lib.Dec.{eqb, leb}
 use lib.ListN.{length, drop}
+use Rattle.spec_calls.specs.Answers.{refusalNumber, unreadable}
 use Rattle.spec_counter.specs.Counter as paper
-use Rattle.spec_counter.specs.Counter.{space, pieces, digit, numbers, joined, commandFor}
+use Rattle.spec_counter.specs.Counter.{space, pieces, digit, numbers, joined, commandFor, numbersOf}
 use Rattle.counter_commands.specs.declared.Command.{Command}
 use Rattle.counter_commands.specs.declared.Command.the-variants as told
 use Rattle.counter_commands.specs.declared.Reading.{Reading}
@@ -30,6 +31,21 @@ commandOf told.AskHeaviest = paper.askHeaviest
 abbrev pub readingOf : Reading → Option paper.Command
 readingOf (Readable c) = some (commandOf c)
 readingOf Unreadable = none
+
+-- each case in document 01's numbers: 0 and the command's numbers, or refusal 10
+abbrev pub readingNumbers : Reading → List ℕ
+readingNumbers (Readable c) = 0 ∷ numbersOf (commandOf c)
+readingNumbers Unreadable = refusalNumber unreadable ∷ []
+
+-- the numbers due for a line, by its command
+abbrev pub numbersDue : Option paper.Command → List ℕ
+numbersDue none = refusalNumber unreadable ∷ []
+numbersDue (some c) = 0 ∷ numbersOf c
+
+-- r is the line's command, and in document 01's numbers 0 and the command's numbers, or refusal 10
+pub record ReadingOf (line : List ℕ) (r : Reading) : Type 0 where
+  pub command : readingOf r ≡ paper.command line
+  pub numbers : readingNumbers r ≡ numbersDue (paper.command line)
 
 -- a digit's value, 10 for another byte
 abbrev pub digitValue : ℕ → ℕ

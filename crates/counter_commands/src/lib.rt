@@ -4,8 +4,8 @@ ghost use mathlib.Core.List.{[], _∷_};
 ghost use mathlib.Core.Option.{some};
 ghost use Prim.Native.Nat.{_<_};
 ghost use lib.ListN.{length, drop};
-ghost use Rattle.spec_counter.specs.Counter.{command};
-ghost use Rattle.counter_commands.specs.Read.{readingOf, digitValue, behind, few, followed, taken, given, ReadField};
+ghost use Rattle.counter_commands.specs.Read.{readingOf, ReadingOf, digitValue, behind, ReadField};
+ghost use Rattle.counter_commands.specs.Read.{few, followed, taken, given};
 
 // A line's command, with its numbers.
 pub enum Command {
@@ -157,7 +157,7 @@ fn command_for(letter: u8, numbers: Numbers) -> Reading
 
 // Reads a line, without its line feed.
 pub fn read(line: &[u8]) -> Reading
-    ensures { λ r. ⌜ readingOf r ≡ command (now (line .entry)) ⌝ }
+    ensures { λ r. ⌜ ReadingOf (now (line .entry)) r ⌝ }
 {
     if 40 < line.len() {
         return Reading::Unreadable;

@@ -14,7 +14,7 @@ use lib.ListN.{length, getD, length-append}
 use borrow.Author.Tests.{lt-ltb, le-ltb, le-leb, ne-eqb}
 use Rattle.spec_lists.specs.Lists.{all, empty, Each}
 use Rattle.spec_table.specs.Table.{mostBenches}
-use Rattle.spec_counter.specs.Counter.{Counter, Command, setTable, takeIn, closeJob, askTightSet, askHeaviest, space, onto, pieces, digit, digits, value, number, numbers, joined, commandFor, fieldsCommand, command, letterOf, printed, prints, counterList}
+use Rattle.spec_counter.specs.Counter.{Counter, Command, setTable, takeIn, closeJob, askTightSet, askHeaviest, space, onto, pieces, digit, digits, value, number, numbers, joined, commandFor, fieldsCommand, command, letterOf, numbersOf, printed, prints, counterList}
 use Rattle.spec_counter.specs.Text.{text}
 use Rattle.spec_lists.proofs.Tests.{true→T, T→true, both, left, right, or-right, T-leb, Compared, same, other, compared, within-low, within-high, within-both, differ}
 use Rattle.spec_lists.proofs.Elements.{each-map}
@@ -266,14 +266,6 @@ no-space [] t = tt
 no-space (c ∷ l) t =
     let low = within-low (code "0") (code "9") c (left (digit c) (all digit l) t) in
     (λ e. omega arith, no-space l (right (digit c) (all digit l) t))
-
--- the numbers of a command's line
-abbrev pub numbersOf : Command → List ℕ
-numbersOf (setTable benches jobs) = benches ∷ jobs ∷ []
-numbersOf (takeIn j x y) = j ∷ x ∷ y ∷ []
-numbersOf (closeJob j) = j ∷ []
-numbersOf (askTightSet h) = h ∷ []
-numbersOf askHeaviest = []
 
 -- n elements from place i on, counted from 0
 abbrev places : ℕ → ℕ → List ℕ → List ℕ

@@ -104,6 +104,14 @@ letterOf (closeJob j) = code "D"
 letterOf (askTightSet h) = code "S"
 letterOf askHeaviest = code "H"
 
+-- the numbers of a command's line
+abbrev pub numbersOf : Command → List ℕ
+numbersOf (setTable benches jobs) = benches ∷ jobs ∷ []
+numbersOf (takeIn j x y) = j ∷ x ∷ y ∷ []
+numbersOf (closeJob j) = j ∷ []
+numbersOf (askTightSet h) = h ∷ []
+numbersOf askHeaviest = []
+
 -- the numbers of the command that its line repeats
 abbrev pub repeated : Command → List ℕ
 repeated (setTable benches jobs) = benches ∷ jobs ∷ []

@@ -29,7 +29,7 @@ returns c =
     let known = told .before .before in
     let heard = known .before .before in
     let start = heard .before .before .before .before in
-    unread-replies (start .pre .0) (start .args .line .now) (heard .read .ensures) (known .enum-told .given .1) (told .refuse .ensures)
+    unread-replies (start .pre .0) (start .args .line .now) (heard .read .ensures .command) (known .enum-told .given .1) (told .refuse .ensures)
 
 same-length-2 : tie.Need-same-length-2
 same-length-2 c = search needs
@@ -43,7 +43,7 @@ returns-2 c =
     let known = called .before .before .before .before in
     let heard = known .before .before in
     let args = heard .before .before .before .before .args in
-    read-replies (counterOf (args .c) (args .bytes .now)) (args .line .now) (heard .read .ensures) (known .command .given .1) (called .perform .ensures)
+    read-replies (counterOf (args .c) (args .bytes .now)) (args .line .now) (heard .read .ensures .command) (known .command .given .1) (called .perform .ensures)
 
 pub to-line-spec : {M : Type 1} → statement M
 to-line-spec =
