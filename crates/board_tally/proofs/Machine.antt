@@ -32,13 +32,9 @@ tallyVal = SL.val T.the-type T′.the-laws
 abbrev pub answerVal : Answer → Val
 answerVal = EL.val A.the-type A′.the-laws
 
--- .. of a note ..
+-- .. and of a note
 abbrev pub noteVal : Note → Val
 noteVal = EL.val N.the-type N′.the-laws
-
--- .. and of what noting hands back
-abbrev pub notedVal : Noted → Val
-notedVal = SL.val D.the-type D′.the-laws
 
 -- it stands for a tally: each count fits its type ..
 abbrev pub IsTally : Tally → Type 0
@@ -48,24 +44,16 @@ IsTally t = Is T.the-row t (tallyVal t ∷ [])
 abbrev pub IsAnswer : Answer → Type 0
 IsAnswer a = Is A.the-row a (answerVal a ∷ [])
 
--- .. for a note ..
+-- .. for a note
 abbrev pub IsNote : Note → Type 0
 IsNote n = Is N.the-row n (noteVal n ∷ [])
 
--- .. for what noting hands back
-abbrev pub IsNoted : Noted → Type 0
-IsNoted r = Is D.the-row r (notedVal r ∷ [])
-
--- what noting hands back, taken apart ..
+-- what noting hands back, taken apart
 pub its-tally : (r : Noted) (vs : List Val) → Is D.the-row r vs → IsTally (r .tally)
 its-tally r vs is = SL.owed D.the-type D′.the-laws r vs is .0
 
 pub its-note : (r : Noted) (vs : List Val) → Is D.the-row r vs → IsNote (r .note)
 its-note r vs is = SL.owed D.the-type D′.the-laws r vs is .1 .0
-
--- .. and put together
-pub of-parts : (r : Noted) (vs : List Val) → IsTally (r .tally) → Is N.the-row (r .note) vs → IsNoted r
-of-parts r vs it is = SL.owes D.the-type D′.the-laws r (it, (EL.owes N.the-type N′.the-laws (r .note) (EL.owed N.the-type N′.the-laws (r .note) vs is), tt))
 
 -- a value of a MIR type
 abbrev pub Typed : Ty → Val → Type 0
@@ -95,6 +83,3 @@ module _ {M : Type 1} {𝓤 : URA M} {H : Heap 𝓤} {𝓐 : Atoms 𝓤} {K : Ty
 
   pub has-note : K → (n : Note) → IsNote n → Step K W (‵ (N.the-row .own n (noteVal n ∷ [])) ∷ Γ) G Γ G
   has-note k n is = owned k N.the-row (Is N.the-row) (EL.makes N.the-type N′.the-plain 𝓤 H 𝓐) n _ is
-
-  pub has-noted : K → (r : Noted) → IsNoted r → Step K W (‵ (D.the-row .own r (notedVal r ∷ [])) ∷ Γ) G Γ G
-  has-noted k r is = owned k D.the-row (Is D.the-row) (SL.makes D.the-type D′.the-plain 𝓤 H 𝓐) r _ is

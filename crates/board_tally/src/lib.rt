@@ -116,12 +116,3 @@ pub fn note_in_place(t: &mut Tally, a: Answer) -> Note
     *t = n.tally;
     n.note
 }
-
-// Raises a copy of the caller's own in place, for callers that lend nothing.
-pub fn note_own(t: Tally, a: Answer) -> Noted
-    ensures { λ r. ⌜ NotedAs (noted (tallyOf t) (answerOf a)) r ⌝ }
-{
-    let mut own = t;
-    let note = note_in_place(&mut own, a);
-    Noted { tally: own, note }
-}

@@ -44,17 +44,12 @@ impl Counter {
     }
 
     // Notes the answer in the program's own tally. A 9 "is not printed".
-    pub fn noted(self, a: Answer) -> Counter
+    pub fn noted(mut self, a: Answer) -> Counter
         ensures length { λ r. ⌜ r .length ≡ self .length ⌝ }
         ensures tally { λ r. ⌜ tallyOf (r .tally) ≡ (noted (tallyOf (self .tally)) (answerOf a)) .tally ⌝ }
     {
-        let own = self.tally;
-        let noted = board_tally::note_own(own, a);
-        let tally = noted.tally;
-        Counter {
-            length: self.length,
-            tally,
-        }
+        board_tally::note_in_place(&mut self.tally, a);
+        self
     }
 }
 
