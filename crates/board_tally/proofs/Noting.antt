@@ -1,11 +1,14 @@
 -- Room in a count, and the tally that is handed back.
 use Prim.Native.Nat.{ℕ, _+_, _-_, _≤_}
 use native.Mathlib.Omega.{arith}
-use mathlib.Core.Path.{_≡_, refl, sym, subst, _∙_}
+use mathlib.Core.Path.{_≡_, refl, sym, ap, subst, _∙_}
 use mathlib.Core.Bool.{Bool, true, false, not, _&&_, false≢true}
 use mathlib.Core.Logic.{inl, inr}
 use mathlib.Core.List.{List, [], _∷_}
 use lib.Dec.{T, leb}
+use mir.Val.{Val}
+use denote.Laws.{Is}
+use denote.Struct.Laws as SL
 use types.Run.{OneOf}
 use denote.Enum.Declared.{tagOf}
 use Rattle.spec_lists.specs.Lists.{member, In}
@@ -17,9 +20,11 @@ use Rattle.board_answers.specs.Answered.{answerOf}
 use Rattle.board_answers.specs.declared.Answer.{Answer}
 use Rattle.board_answers.proofs.Answer as told
 use Rattle.board_answers.specs.declared.Answer.the-variants.{Refused, Blanked, Arrived, Closed, Load, Heaviest, TightSet, Sound, Level, NotLevel, Levelled, Stopped}
-use Rattle.board_tally.specs.Counts.{tallyOf, more, NotedAs}
+use Rattle.board_tally.proofs.Tally as tally-type
+use Rattle.board_tally.proofs.Tally.Laws as tally-laws
+use Rattle.board_tally.specs.Counts.{tallyOf, more, RaisesBy, NotedAs}
 use Rattle.board_tally.specs.declared.Tally.{Tally}
-use Rattle.board_tally.specs.declared.Noted.{Noted}
+use Rattle.board_tally.specs.declared.Added.{Added}
 use Rattle.board_tally.specs.declared.Note.the-variants.{Counted, Full}
 
 -- what is left up to the most is room
@@ -47,22 +52,29 @@ third-tells x y z true true u e h f g k = λ i. e i && f i && k i
 third-tells x y z false s u e h f g k = absurd (false≢true (sym h))
 third-tells x y z true false u e h f g k = absurd (false≢true (sym g))
 
-module _ (t : Tally) (arrivals closings moved : ℕ) (fit : Bool) (e : fit ≡ countsFit (more t arrivals closings moved)) where
+-- a tally that is passed has counts of 32 bits
+pub tally-fits : (t : Tally) (vs : List Val) → Is tally-type.the-row t vs → T (countsFit (tallyOf t))
+tally-fits t vs is =
+    let k = SL.owed tally-type.the-type tally-laws.the-laws t vs is in
+    (counts-fit (tallyOf t)) .1 (record { arrivals = k .0 .1; closings = k .1 .0 .1; moved = k .1 .1 .0 .1 })
+
+module _ (t : Tally) (added : Added) (fit : Bool) (e : fit ≡ countsFit (more t added)) where
   -- the raised counts have 32 bits
-  pub raises-fit : not fit ≡ false → Fits32 (more t arrivals closings moved)
-  raises-fit h = (counts-fit (more t arrivals closings moved)) .0 (subst T e (not-false fit h))
+  pub raises-fit : not fit ≡ false → Fits32 (more t added)
+  raises-fit h = (counts-fit (more t added)) .0 (subst T e (not-false fit h))
 
-  -- all three are raised ..
-  pub counted-noted : not fit ≡ false → NotedAs (raised (tallyOf t) (more t arrivals closings moved)) (record { tally = record { arrivals = t .arrivals + arrivals; closings = t .closings + closings; moved = t .moved + moved }; note = Counted })
-  counted-noted h =
-      let f : countsFit (more t arrivals closings moved) ≡ true = sym e ∙ T→true fit (not-false fit h) in
-      record { tally = rw f; refusal = rw f }
+  module _ (a : Answer) (n : noted (tallyOf t) (answerOf a) ≡ raised (tallyOf t) (more t added)) where
+    -- all three are raised ..
+    pub counted-noted : not fit ≡ false → NotedAs (noted (tallyOf t) (answerOf a)) (record { tally = record { arrivals = t .arrivals + added .arrivals; closings = t .closings + added .closings; moved = t .moved + added .moved }; note = Counted })
+    counted-noted h =
+        let f : countsFit (more t added) ≡ true = sym e ∙ T→true fit (not-false fit h) in
+        record { tally = rw (n, f); refusal = rw (n, f) }
 
-  -- .. or it is 9, and the tally is left
-  pub full-noted : not fit ≡ true → NotedAs (raised (tallyOf t) (more t arrivals closings moved)) (record { tally = t; note = Full })
-  full-noted h =
-      let f : countsFit (more t arrivals closings moved) ≡ false = sym e ∙ not→false fit (true→T (not fit) h) in
-      record { tally = rw f; refusal = rw f }
+    -- .. or it is 9, and the tally is left
+    pub full-noted : not fit ≡ true → NotedAs (noted (tallyOf t) (answerOf a)) (record { tally = t; note = Full })
+    full-noted h =
+        let f : countsFit (more t added) ≡ false = sym e ∙ not→false fit (true→T (not fit) h) in
+        record { tally = rw (n, f); refusal = rw (n, f) }
 
 -- a tag of an arm is in its list
 of-arm : (x : ℕ) (ks : List ℕ) → OneOf ks x → In x ks
@@ -90,23 +102,26 @@ no-change NotLevel h = refl
 no-change (Levelled paths) h = refl
 no-change (Stopped paths) h = refl
 
--- an arrival's answer raises its own count and the jobs moved ..
-pub arrival-told : (t : Tally) {a : Answer} {holder rose moved : ℕ} {o : Noted} → a ≡ Arrived holder rose moved → NotedAs (raised (tallyOf t) (more t 1 0 moved)) o → NotedAs (noted (tallyOf t) (answerOf a)) o
+-- an arrival's answer adds to its own count and to the jobs moved ..
+pub arrival-adds : {a : Answer} {holder rose moved : ℕ} → a ≡ Arrived holder rose moved → RaisesBy (answerOf a) (record { arrivals = 1; closings = 0; moved = moved })
 unfolding noted
-arrival-told t {a} {holder} {rose} {moved} {o} e n =
+arrival-adds e t h =
     let z : t .closings + 0 ≡ t .closings = omega arith in
-    subst (λ a. NotedAs (noted (tallyOf t) (answerOf a)) o) (sym e) (rw z at n)
+    ap (λ a. noted (tallyOf t) (answerOf a)) e ∙ rw z
 
 -- .. so does a closing's ..
-pub closing-told : (t : Tally) {a : Answer} {fell moved : ℕ} {o : Noted} → a ≡ Closed fell moved → NotedAs (raised (tallyOf t) (more t 0 1 moved)) o → NotedAs (noted (tallyOf t) (answerOf a)) o
+pub closing-adds : {a : Answer} {fell moved : ℕ} → a ≡ Closed fell moved → RaisesBy (answerOf a) (record { arrivals = 0; closings = 1; moved = moved })
 unfolding noted
-closing-told t {a} {fell} {moved} {o} e n =
+closing-adds e t h =
     let z : t .arrivals + 0 ≡ t .arrivals = omega arith in
-    subst (λ a. NotedAs (noted (tallyOf t) (answerOf a)) o) (sym e) (rw z at n)
+    ap (λ a. noted (tallyOf t) (answerOf a)) e ∙ rw z
 
--- .. and any other changes none
-pub other-told : (t : Tally) (a : Answer) → OneOf others (tagOf told.the-type a) → NotedAs (noted (tallyOf t) (answerOf a)) (record { tally = t; note = Counted })
-other-told t a h =
+-- .. and any other adds nothing
+pub other-adds : (a : Answer) → OneOf others (tagOf told.the-type a) → RaisesBy (answerOf a) (record { arrivals = 0; closings = 0; moved = 0 })
+other-adds a k t h =
     let x = tagOf told.the-type a in
-    let e = other-noted (tallyOf t) (answerOf a) (no-change a (in-member x others (of-arm x others h))) in
-    record { tally = rw e; refusal = rw e }
+    let l : t .arrivals + 0 ≡ t .arrivals = omega arith in
+    let m : t .closings + 0 ≡ t .closings = omega arith in
+    let n : t .moved + 0 ≡ t .moved = omega arith in
+    let f : countsFit (tallyOf t) ≡ true = T→true (countsFit (tallyOf t)) h in
+    other-noted (tallyOf t) (answerOf a) (no-change a (in-member x others (of-arm x others k))) ∙ rw (l, m, n, f)

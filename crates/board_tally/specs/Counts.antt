@@ -2,9 +2,11 @@
 use Prim.Native.Nat.{ℕ, _+_}
 use mathlib.Core.Path.{_≡_}
 use mathlib.Core.Option.{Option, none, some}
-use Rattle.spec_calls.specs.Answers.{Refusal, countFull, refusalNumber}
+use lib.Dec.{T}
+use Rattle.spec_calls.specs.Answers.{Refusal, Answer, countFull, refusalNumber}
 use Rattle.spec_calls.specs.Tally as paper
 use Rattle.board_tally.specs.declared.Tally.{Tally}
+use Rattle.board_tally.specs.declared.Added.{Added}
 use Rattle.board_tally.specs.declared.Note.{Note}
 use Rattle.board_tally.specs.declared.Note.the-variants.{Counted, Full}
 use Rattle.board_tally.specs.declared.Noted.{Noted}
@@ -24,9 +26,18 @@ numberOf none = 0
 numberOf (some r) = refusalNumber r
 
 -- the tally with so many more of each
-abbrev pub more : Tally → ℕ → ℕ → ℕ → paper.Tally
-more t arrivals closings moved =
-    record { arrivals = t .arrivals + arrivals; closings = t .closings + closings; moved = t .moved + moved }
+abbrev pub more : Tally → Added → paper.Tally
+more t added =
+    record {
+      arrivals = t .arrivals + added .arrivals;
+      closings = t .closings + added .closings;
+      moved = t .moved + added .moved;
+    }
+
+-- noting this answer raises any tally of 32-bit counts by so many
+abbrev pub RaisesBy : Answer → Added → Type 0
+RaisesBy a added =
+    (t : Tally) → T (paper.countsFit (tallyOf t)) → paper.noted (tallyOf t) a ≡ paper.raised (tallyOf t) (more t added)
 
 -- what noting handed back is what the definition gives
 pub record NotedAs (o : paper.Noted) (r : Noted) : Type 0 where

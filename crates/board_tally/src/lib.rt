@@ -2,9 +2,9 @@
 ghost use Prim.Native.Nat.{_+_};
 ghost use mathlib.Core.Path.{_≡_};
 ghost use lib.Dec.{leb};
-ghost use Rattle.spec_calls.specs.Tally.{mostCount, zeroTally, countsFit, raised, noted};
+ghost use Rattle.spec_calls.specs.Tally.{mostCount, zeroTally, countsFit, noted};
 ghost use Rattle.board_answers.specs.Answered.{answerOf};
-ghost use Rattle.board_tally.specs.Counts.{tallyOf, noteOf, numberOf, more, NotedAs};
+ghost use Rattle.board_tally.specs.Counts.{tallyOf, noteOf, numberOf, more, RaisesBy, NotedAs};
 use board_answers::Answer;
 
 // Three 32-bit counts.
@@ -38,6 +38,38 @@ pub struct Noted {
     pub note: Note,
 }
 
+// What noting an answer adds to each count.
+struct Added {
+    arrivals: usize,
+    closings: usize,
+    moved: usize,
+}
+
+impl Added {
+    // Tells what an answer adds: "one to its own count and its moved jobs to the third", or nothing.
+    fn by(a: Answer) -> Added
+        ensures { λ r. ⌜ RaisesBy (answerOf a) r ⌝ }
+    {
+        match a {
+            Answer::Arrived(_, _, moved) => Added {
+                arrivals: 1,
+                closings: 0,
+                moved,
+            },
+            Answer::Closed(_, moved) => Added {
+                arrivals: 0,
+                closings: 1,
+                moved,
+            },
+            _ => Added {
+                arrivals: 0,
+                closings: 0,
+                moved: 0,
+            },
+        }
+    }
+}
+
 // Tells whether a count can be raised by so many.
 fn has_room(count: u32, raise: usize) -> bool
     ensures { λ r. ⌜ r ≡ leb (count + raise) mostCount ⌝ }
@@ -61,48 +93,35 @@ impl Tally {
     }
 
     // Tells whether all three counts can be raised by so many.
-    fn fits(self, arrivals: usize, closings: usize, moved: usize) -> bool
-        ensures { λ r. ⌜ r ≡ countsFit (more self arrivals closings moved) ⌝ }
+    fn fits(self, added: Added) -> bool
+        ensures { λ r. ⌜ r ≡ countsFit (more self added) ⌝ }
     {
-        if !has_room(self.arrivals, arrivals) {
+        if !has_room(self.arrivals, added.arrivals) {
             return false;
         }
-        if !has_room(self.closings, closings) {
+        if !has_room(self.closings, added.closings) {
             return false;
         }
-        has_room(self.moved, moved)
+        has_room(self.moved, added.moved)
     }
 
-    // Raises all three counts, or none where one would pass the most.
-    fn raised(mut self, arrivals: usize, closings: usize, moved: usize) -> Noted
-        ensures { λ r. ⌜ NotedAs (raised (tallyOf self) (more self arrivals closings moved)) r ⌝ }
+    // Notes an answer: raises all three counts, or none where one would pass the most.
+    pub fn note(mut self, a: Answer) -> Noted
+        ensures { λ r. ⌜ NotedAs (noted (tallyOf self) (answerOf a)) r ⌝ }
     {
-        if !self.fits(arrivals, closings, moved) {
+        let added = Added::by(a);
+        if !self.fits(added) {
             return Noted {
                 tally: self,
                 note: Note::Full,
             };
         }
-        self.arrivals += arrivals as u32;
-        self.closings += closings as u32;
-        self.moved += moved as u32;
+        self.arrivals += added.arrivals as u32;
+        self.closings += added.closings as u32;
+        self.moved += added.moved as u32;
         Noted {
             tally: self,
             note: Note::Counted,
-        }
-    }
-
-    // Notes an answer.
-    pub fn note(mut self, a: Answer) -> Noted
-        ensures { λ r. ⌜ NotedAs (noted (tallyOf self) (answerOf a)) r ⌝ }
-    {
-        match a {
-            Answer::Arrived(_, _, moved) => self.raised(1, 0, moved),
-            Answer::Closed(_, moved) => self.raised(0, 1, moved),
-            _ => Noted {
-                tally: self,
-                note: Note::Counted,
-            },
         }
     }
 }

@@ -18,7 +18,7 @@ has-room-requires c κs = search needs
 returns : tie.Need-returns
 returns c =
     let a = c .before .before .args in
-    first-full (room (a .self .arrivals) (a .arrivals)) (room (a .self .closings) (a .closings)) (room (a .self .moved) (a .moved))
+    first-full (room (a .self .arrivals) (a .added .arrivals)) (room (a .self .closings) (a .added .closings)) (room (a .self .moved) (a .added .moved))
     (c .before .has-room .result) (c .before .has-room .ensures) (c .if1 .taken)
 
 has-room-requires-2 : tie.Need-has-room-requires-2
@@ -28,7 +28,7 @@ returns-2 : tie.Need-returns-2
 returns-2 c =
     let d = c .before .before .before in
     let a = d .before .args in
-    second-full (room (a .self .arrivals) (a .arrivals)) (room (a .self .closings) (a .closings)) (room (a .self .moved) (a .moved))
+    second-full (room (a .self .arrivals) (a .added .arrivals)) (room (a .self .closings) (a .added .closings)) (room (a .self .moved) (a .added .moved))
     (d .has-room .result) (c .before .has-room2 .result) (d .has-room .ensures) (c .before .before .if1 .left) (c .before .has-room2 .ensures) (c .if2 .taken)
 
 has-room-requires-3 : tie.Need-has-room-requires-3
@@ -39,7 +39,7 @@ returns-3 c =
     let e = c .before .before in
     let d = e .before .before in
     let a = d .before .args in
-    third-tells (room (a .self .arrivals) (a .arrivals)) (room (a .self .closings) (a .closings)) (room (a .self .moved) (a .moved))
+    third-tells (room (a .self .arrivals) (a .added .arrivals)) (room (a .self .closings) (a .added .closings)) (room (a .self .moved) (a .added .moved))
     (d .has-room .result) (e .has-room2 .result) (c .has-room3 .result) (d .has-room .ensures) (e .before .if1 .left) (e .has-room2 .ensures) (c .before .if2 .left) (c .has-room3 .ensures)
 
 pub fits-spec : {M : Type 1} → statement M
