@@ -76,13 +76,15 @@ counterVal = SL.val S.the-type S′.the-laws
 abbrev IsCounter : Counter → Type 0
 IsCounter c = Is S.the-row c (counterVal c ∷ [])
 
--- the counter with another tally
+-- the counter with another tally ..
 abbrev with-tally : Counter → Tally → Counter
 with-tally c t = record { length = c .length; tally = t }
 
+-- .. stands for one too
 is-with-tally : (c : Counter) (t : Tally) → IsCounter c → IsTally t → IsCounter (with-tally c t)
 is-with-tally c t ic it = SL.owes S.the-type S′.the-laws (with-tally c t) (SL.owed S.the-type S′.the-laws c _ ic .0, (it, tt))
 
+-- the tally in a counter stands for one
 its-own-tally : (c : Counter) → IsCounter c → IsTally (c .tally)
 its-own-tally c ic = SL.owed S.the-type S′.the-laws c _ ic .1 .0
 
