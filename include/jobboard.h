@@ -16,7 +16,7 @@
  * - `table` points to `table_bytes` bytes, `list` to `list_bytes` bytes, at any alignment; each result is an aligned uint32_t of its own;
  * - table, list and results must not overlap one another.
  *
- * STACK. A call needs less than JOBBOARD_STACK_BYTES bytes of stack. The greatest need is about 51,000 bytes, of a tight set on a table of
+ * STACK. A call needs less than JOBBOARD_STACK_BYTES bytes of stack. The greatest need is about 43,000 bytes, of a tight set on a table of
  * 500 benches and 4,000 jobs (x86-64; each run of the tests measures it again).
  *
  * THREADS. There is no state between calls. Any number of threads may work on different tables at once, and may ask questions (those

@@ -25,18 +25,18 @@ pub level-told : (n : ℕ) → map (λ f. inNumbers (said f)) (levelYes ∷ leve
 level-told n = refl
 
 -- the numbers of conditions, in their order
-abbrev numbersOf : List Condition → List ℕ
-numbersOf = map (λ k. refusalNumber (k .refusal))
+abbrev conditionNumbers : List Condition → List ℕ
+conditionNumbers = map (λ k. refusalNumber (k .refusal))
 
 -- a call's conditions stand in the call's own order
-pub conditions-ordered : (c : Call) (t : List ℕ) → numbersOf (refusals c t) ≡ order c
+pub conditions-ordered : (c : Call) (t : List ℕ) → conditionNumbers (refusals c t) ≡ order c
 unfolding refusals conditions questionConditions
 conditions-ordered (arrival a) t = refl
 conditions-ordered (closing c) t = refl
 conditions-ordered (levelling allowance) t = refl
 conditions-ordered (ask q lent) t = asked q
   where
-    asked : (q : Question) → numbersOf (formConditions t ++ questionConditions q lent (decode t)) ≡ questionOrder q
+    asked : (q : Question) → conditionNumbers (formConditions t ++ questionConditions q lent (decode t)) ≡ questionOrder q
     asked (loadOf x) = refl
     asked heaviestLoad = refl
     asked (tightSetOf h) = refl

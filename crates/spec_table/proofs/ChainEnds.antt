@@ -38,16 +38,6 @@ module _ (es : List Entry) where
   ends-on (suc m) (suc k) (suc i) j e (inl d) = subst (Ends es (suc k)) (sym d) e
   ends-on (suc m) (suc k) (suc i) j e (inr o) = ends-more k j (ends-on m k (after (suc i)) j e o)
 
-  -- .. has jobs of it only ..
-  pub ends-in : (m k i j a : ℕ) → Ends es k i → In j (follow es m i) → In a (follow es k j) → In a (follow es k i)
-  ends-in zero k i j a e o p = absurd o
-  ends-in (suc m) k zero j a e o p = absurd o
-  ends-in (suc m) zero (suc i) j a e o p = absurd e
-  ends-in (suc m) (suc k) (suc i) j a e (inl d) p = subst (λ (b : ℕ). In a (follow es (suc k) b)) d p
-  ends-in (suc m) (suc k) (suc i) j a e (inr o) p =
-      let n = after (suc i) in
-      inr (ends-in m k n j a e o (subst (In a) (ends-same k j (ends-on m k n j e o)) p))
-
   -- .. and goes on with the chain from the next job on
   pub ends-next : (k i : ℕ) → Ends es k (suc i) → follow es (suc k) (suc i) ≡ suc i ∷ follow es (suc k) (after (suc i))
   ends-next zero i e = absurd e
