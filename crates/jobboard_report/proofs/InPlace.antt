@@ -1,23 +1,39 @@
 -- Values written one by one are in place of the lent numbers.
-use Prim.Native.Nat.{ℕ, suc, _<_}
-use mathlib.Core.Path.{_≡_, refl, sym, ap, subst, _∙_}
+use Prim.Native.Nat.{ℕ, zero, suc, _<_, _≤_}
+use native.Mathlib.Omega.{arith}
+use mathlib.Core.Path.{_≡_, refl, ap, subst, _∙_}
 use mathlib.Core.List.{List, [], _∷_, _++_}
-use lib.ListN.{length, drop}
-use mir.Syntax.{w32}
-use mir.Val.{Fits}
+use lib.ListN.{length, getD, drop}
 use Rattle.spec_lists.specs.Lists.{nth, Each}
 use Rattle.spec_calls.specs.Answers.{Answer, inNumbers}
-use Rattle.spec_lists.proofs.Elements.{each-nth}
 use Rattle.board_answers.specs.Answered.{returned}
 use Rattle.jobboard_report.specs.Report.{inPlace, Delivered}
 
--- what was got is value k, or the lent number, and fits 32 bits
-module _ {vs values : List ℕ} (told : vs ≡ values) (k lent : ℕ) {r : ℕ} (got : r ≡ nth vs k lent) where
-  pub value-got : r ≡ nth values k lent
-  value-got = got ∙ ap (λ l. nth l k lent) told
+-- what stands in a list with m for "none" is an element if it is below m ..
+element-below : (m : ℕ) (l : List ℕ) (i d : ℕ) → getD l i m < m → getD l i m ≡ getD l i d
+element-below m [] i d h = absurd (omega (arith, h))
+element-below m (n ∷ l) zero d h = refl
+element-below m (n ∷ l) (suc i) d h = element-below m l i d h
 
-  pub value-fits : Each (λ n. n < 4294967296) values → Fits w32 lent → Fits w32 r
-  value-fits each l = record { fits = subst (λ (n : ℕ). n < 4294967296) (sym value-got) (each-nth (λ n. n < 4294967296) values k lent (l .fits) each) }
+-- .. and none if it is not, where all elements are
+none-from : (m : ℕ) (l : List ℕ) (i d : ℕ) → Each (λ n. n < m) l → m ≤ getD l i m → d ≡ getD l i d
+none-from m [] i d each h = refl
+none-from m (n ∷ l) zero d each h = absurd (omega (arith, each .0, h))
+none-from m (n ∷ l) (suc i) d each h = none-from m l i d (each .1) h
+
+-- what was got with m for "none" is value k if it is below m, and else the lent number stays
+module _ {vs values : List ℕ} (told : vs ≡ values) (m lent : ℕ) {r : ℕ} where
+  pub value-got : (k : ℕ) → r ≡ nth vs k m → r < m → r ≡ nth values k lent
+  value-got zero got h = absurd (omega (arith, got, h))
+  value-got (suc i) got h =
+      let e = got ∙ ap (λ l. getD l i m) told in
+      e ∙ element-below m values i lent (subst (λ (n : ℕ). n < m) e h)
+
+  pub value-none : Each (λ n. n < m) values → (k : ℕ) → r ≡ nth vs k m → m ≤ r → lent ≡ nth values k lent
+  value-none each zero got h = refl
+  value-none each (suc i) got h =
+      let e = got ∙ ap (λ l. getD l i m) told in
+      none-from m values i lent each (subst (λ (n : ℕ). m ≤ n) e h)
 
 -- one lent number more gets the next value
 in-place-next : (values lent : List ℕ) (n : ℕ) → inPlace values (lent ++ (n ∷ [])) ≡ inPlace values lent ++ (nth values (suc (length lent)) n ∷ [])

@@ -9,12 +9,18 @@ ghost use Rattle.board_answers.specs.Answered.{answerOf};
 ghost use Rattle.jobboard_report.specs.Report.{Fitting, Delivered};
 use board_answers::Answer;
 
-// Writes value k, counted from 1, into the lent number, which stays where there is none.
+// Marks that there is no value: every value is below it.
+const NO_VALUE: usize = 4294967296;
+
+// Writes value k, counted from 1, into the lent number, which is never read and stays where there is none.
 fn write(a: Answer, k: usize, lent: &mut u32)
     requires { ⌜ Fitting (answerOf a) ⌝ }
     ensures { λ _. ⌜ now (lent .exit) ≡ nth (drop 1 (inNumbers (answerOf a))) k (now (lent .entry)) ⌝ }
 {
-    *lent = a.values().get(k, *lent as usize) as u32;
+    let value = a.values().get(k, NO_VALUE);
+    if value < NO_VALUE {
+        *lent = value as u32;
+    }
 }
 
 // Reports the number and the first value.
