@@ -8,7 +8,8 @@
  *
  * WHAT A CALL RETURNS. JOBBOARD_OK (0), or the number of a refusal (below). Any bytes, any length and any numbers may be passed: each
  * is answered or refused. Where several refusals apply, the lowest number is returned; each call lists its own in that order.
- * Results go through pointers to numbers. A refused call changes nothing: no byte of the table or the list, and no result.
+ * Results go through pointers to numbers, which are written and never read: they need no value before the call. A refused call changes
+ * nothing: no byte of the table or the list, and no result.
  *
  * MEMORY. All of it is the caller's. A call reads and writes only what it is lent, for as long as it runs; it allocates nothing and
  * keeps no pointer. For each call:
