@@ -3,9 +3,10 @@ use mathlib.Core.Path.{_≡_, sym}
 use mathlib.Core.List.{List}
 use mathlib.Core.Option.{some}
 use Prim.Native.Nat.{ℕ}
+use lib.Dec.{T}
 use Rattle.spec_calls.specs.Answers.{Outcome, refused, firstHolding}
 use Rattle.spec_calls.specs.Calls.{Call, formConditions, lentTo, outcome}
-use Rattle.spec_calls.proofs.Refusals.{form-stops, refused-by}
+use Rattle.spec_calls.proofs.Refusals.{onSound, form-stops, refused-by}
 use Rattle.table_refusals.specs.Refusals.{refusalOf}
 use Rattle.board_answers.specs.Answered.{leftBy, Leaves}
 use Rattle.table_refusals.specs.declared.Refusal.{Refusal}
@@ -19,8 +20,8 @@ refused-leaves r c t e =
     record { answer = sym e; bytes = sym (b .table); lent = sym (b .lent) }
 
 -- 1 and 2
-pub form-refused : (r : Refusal) (c : Call) (t : List ℕ) → firstHolding (formConditions t) ≡ some (refusalOf r) → Leaves (outcome c t) (Refused r) t (lentTo c)
-form-refused r c t e = refused-leaves r c t (form-stops c t (refusalOf r) e)
+pub form-refused : (r : Refusal) (c : Call) → T (onSound c) → (t : List ℕ) → firstHolding (formConditions t) ≡ some (refusalOf r) → Leaves (outcome c t) (Refused r) t (lentTo c)
+form-refused r c f t e = refused-leaves r c t (form-stops c f t (refusalOf r) e)
 
 -- what a call left, where its contract holds, is the outcome that the contract names
 pub leaves-outcome : {o : Outcome} {r : Answer} {table beside : List ℕ} → Leaves o r table beside → leftBy r table beside ≡ o

@@ -70,13 +70,13 @@ impl Values {
         Values::new(2, first, second, 0)
     }
 
-    // Gives value k, counted from 1; `lent` where there is none.
-    pub fn get(self, k: usize, lent: usize) -> usize
-        ensures { λ r. ⌜ r ≡ nth (valuesOf self) k lent ⌝ }
+    // Gives value k, counted from 1; `otherwise` where there is none.
+    pub fn get(self, k: usize, otherwise: usize) -> usize
+        ensures { λ r. ⌜ r ≡ nth (valuesOf self) k otherwise ⌝ }
     {
         let count = self.count;
         if count < k {
-            return lent;
+            return otherwise;
         }
         if k == 1 {
             return self.first;
@@ -87,7 +87,7 @@ impl Values {
         if k == 3 {
             return self.third;
         }
-        lent
+        otherwise
     }
 }
 

@@ -1,5 +1,5 @@
--- Each change's own contract is all that demand 3 asks of it: whatever it was lent (a), answered (r) and left (s) is as
--- defined.
+-- Each change's own contract: it asks nothing of its caller, and is all that demand 3 asks of it: whatever it was lent
+-- (a), answered (r) and left (s) is as defined.
 use mathlib.Core.Path.{_≡_}
 use mathlib.Core.List.{[], _∷_}
 use contract.Lifetimes.{Lfts}
@@ -13,14 +13,18 @@ use Rattle.board_changes.proofs.closing.Reads as close
 use Rattle.board_changes.proofs.levelling.Reads as level
 
 module _ (κs : Lfts 1) where
-  pub blank-does : (a : _) (r : _) (s : _) → blank.Post κs a r s → leftBy r (s .0 .now) [] ≡ blanking (a .1 .0) (a .1 .1 .0) (a .0 .now)
-  blank-does a r s p = leaves-outcome p
+  pub blank-meets : (a : _) (r : _) (s : _) → blank.Post κs a r s → leftBy r (s .0 .now) [] ≡ blanking (a .1 .0) (a .1 .1 .0) (a .0 .now)
+  blank-meets a r s p = leaves-outcome p
 
-  pub arrival-does : (a : _) (r : _) (s : _) → arrive.Post κs a r s → AsDefined (arrival (record { job = a .1 .0; given = a .1 .1 .0 ∷ a .1 .1 .1 .0 ∷ [] })) (a .0 .now) (leftBy r (s .0 .now) [])
-  arrival-does a r s p = leaves-outcome p
+  pub arrival-meets : (a : _) (r : _) (s : _) → arrive.Post κs a r s → AsDefined (arrival (record { job = a .1 .0; given = a .1 .1 .0 ∷ a .1 .1 .1 .0 ∷ [] })) (a .0 .now) (leftBy r (s .0 .now) [])
+  arrival-meets a r s p = leaves-outcome p
 
-  pub closing-does : (a : _) (r : _) (s : _) → close.Post κs a r s → AsDefined (closing (record { job = a .1 .0 })) (a .0 .now) (leftBy r (s .0 .now) [])
-  closing-does a r s p = leaves-outcome p
+  pub closing-meets : (a : _) (r : _) (s : _) → close.Post κs a r s → AsDefined (closing (record { job = a .1 .0 })) (a .0 .now) (leftBy r (s .0 .now) [])
+  closing-meets a r s p = leaves-outcome p
 
-  pub levelling-does : (a : _) (r : _) (s : _) → level.Post κs a r s → AsDefined (levelling (a .1 .0)) (a .0 .now) (leftBy r (s .0 .now) [])
-  levelling-does a r s p = leaves-outcome p
+  pub levelling-meets : (a : _) (r : _) (s : _) → level.Post κs a r s → AsDefined (levelling (a .1 .0)) (a .0 .now) (leftBy r (s .0 .now) [])
+  levelling-meets a r s p = leaves-outcome p
+
+  -- "Callers test nothing beforehand": no change asks for anything
+  pub changes-ask-nothing : ((a : _) → blank.Pre κs a) × ((a : _) → arrive.Pre κs a) × ((a : _) → close.Pre κs a) × ((a : _) → level.Pre κs a)
+  changes-ask-nothing = (λ a. tt, λ a. tt, λ a. tt, λ a. tt)

@@ -13,7 +13,7 @@ use Rattle.spec_table.specs.Table.{mostBenches, bytesOf, decode}
 use Rattle.spec_sharing.specs.Paths.{steps}
 use Rattle.spec_sharing.specs.Sharing.{level, tightSet}
 use Rattle.spec_calls.specs.Answers.{Outcome}
-use Rattle.spec_calls.specs.Calls.{ask, loadOf, heaviestLoad, tightSetOf, formCheck, levelCheck, questionConditions, conditions, asked, accepted, outcome, tightSetTold}
+use Rattle.spec_calls.specs.Calls.{ask, loadOf, heaviestLoad, tightSetOf, formCheck, levelCheck, questionConditions, asked, accepted, outcome, tightSetTold}
 use Rattle.spec_lists.proofs.Tests.{within-both}
 use Rattle.spec_lists.proofs.Elements.{in-getD}
 use Rattle.spec_lists.proofs.Counting.{greatest-most}
@@ -69,25 +69,25 @@ answered-leaves {o} {r} {t} {list} e =
 module _ {t : List ℕ} {s : Size} (z : SoundTable t s) where
   -- form check
   pub form-sound : Leaves (outcome (ask formCheck []) t) told.Sound t []
-  unfolding questionConditions conditions asked accepted
-  form-sound = answered-leaves (sound-outcome (ask formCheck []) t (z .sound))
+  unfolding questionConditions asked accepted
+  form-sound = answered-leaves (sound-outcome (ask formCheck []) tt t (z .sound))
 
   -- level check
   pub level-told : (y : Bool) → y ≡ level (decode t) → Leaves (outcome (ask levelCheck []) t) (cond y told.Level told.NotLevel) t []
-  unfolding questionConditions conditions asked accepted
-  level-told true e = answered-leaves (sound-outcome (ask levelCheck []) t (z .sound) ∙ rw (sym e))
-  level-told false e = answered-leaves (sound-outcome (ask levelCheck []) t (z .sound) ∙ rw (sym e))
+  unfolding questionConditions asked accepted
+  level-told true e = answered-leaves (sound-outcome (ask levelCheck []) tt t (z .sound) ∙ rw (sym e))
+  level-told false e = answered-leaves (sound-outcome (ask levelCheck []) tt t (z .sound) ∙ rw (sym e))
 
   -- the heaviest load
   pub heaviest-told : (n : ℕ) → n ≡ heaviest (decode t) → Leaves (outcome (ask heaviestLoad []) t) (told.Heaviest n) t []
-  unfolding questionConditions conditions asked accepted
-  heaviest-told n e = answered-leaves (sound-outcome (ask heaviestLoad []) t (z .sound) ∙ rw e)
+  unfolding questionConditions asked accepted
+  heaviest-told n e = answered-leaves (sound-outcome (ask heaviestLoad []) tt t (z .sound) ∙ rw e)
 
   module _ (x : ℕ) where
     -- the load of a bench of 1 to B ..
     pub load-told : {h : Bool} (n : ℕ) → h ≡ within 1 (s .benches) x → h ≡ true → n ≡ load ((decode t) .holders) x → Leaves (outcome (ask (loadOf x) []) t) (told.Load n) t []
-    unfolding questionConditions conditions asked accepted
-    load-told n b w e = answered-leaves (sound-outcome (ask (loadOf x) []) t (z .sound) ∙ rw (sym (bench-of-board z x b) ∙ w, e))
+    unfolding questionConditions asked accepted
+    load-told n b w e = answered-leaves (sound-outcome (ask (loadOf x) []) tt t (z .sound) ∙ rw (sym (bench-of-board z x b) ∙ w, e))
 
     -- .. and 4 for any other number
     pub bench-refused : {h : Bool} → h ≡ within 1 (s .benches) x → h ≡ false → Leaves (outcome (ask (loadOf x) []) t) (told.Refused code.BenchNumber) t []

@@ -37,7 +37,8 @@ more t added =
 -- noting this answer raises any tally of 32-bit counts by so many
 abbrev pub RaisesBy : Answer → Added → Type 0
 RaisesBy a added =
-    (t : Tally) → T (paper.countsFit (tallyOf t)) → paper.noted (tallyOf t) a ≡ paper.raised (tallyOf t) (more t added)
+    (t : Tally) → T (paper.countsFit (tallyOf t)) →
+    paper.noted (tallyOf t) a ≡ paper.raised (tallyOf t) (more t added)
 
 -- what noting handed back is what the definition gives
 pub record NotedAs (o : paper.Noted) (r : Noted) : Type 0 where

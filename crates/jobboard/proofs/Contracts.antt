@@ -1,5 +1,5 @@
--- Each C call's own contract, as demand 3 sees it: whatever it was lent (a), returned (r) and left (s) is reported of the
--- call's defined outcome. Numbers alone do not tell a load from a heaviest load, so each call has its own.
+-- Each C call's own contract: it asks nothing of its caller, and whatever it was lent (a), returned (r) and left (s) is
+-- reported of the call's defined outcome. Numbers alone do not tell a load from a heaviest load, so each call has its own.
 use mathlib.Core.List.{[], _∷_}
 use contract.Lifetimes.{Lfts}
 use Rattle.spec_calls.specs.Calls.{outcome, blanking, arrival, closing, levelling, ask, loadOf, heaviestLoad, tightSetOf, formCheck, levelCheck}
@@ -40,3 +40,7 @@ heaviest-reports κs a r s p = p
 
 pub tight-set-reports : (κs : Lfts 4) (a : _) (r : _) (s : _) → c-tight-set.Post κs a r s → Reported (outcome (ask (tightSetOf (a .1 .0)) (a .1 .1 .0 .now)) (a .0 .now)) r (a .0 .now) (s .1 .1 .0 .now) (a .1 .1 .1 .0 .now ∷ a .1 .1 .1 .1 .0 .now ∷ []) (s .1 .1 .1 .0 .now ∷ s .1 .1 .1 .1 .0 .now ∷ [])
 tight-set-reports κs a r s p = p
+
+-- "Callers test nothing beforehand": no C call asks for anything
+pub calls-ask-nothing : (κ1 : Lfts 1) (κ2 : Lfts 2) (κ3 : Lfts 3) (κ4 : Lfts 4) → ((a : _) → c-blank.Pre κ1 a) × ((a : _) → c-check.Pre κ1 a) × ((a : _) → c-arrival.Pre κ4 a) × ((a : _) → c-closing.Pre κ3 a) × ((a : _) → c-levelling.Pre κ3 a) × ((a : _) → c-level-check.Pre κ2 a) × ((a : _) → c-load.Pre κ2 a) × ((a : _) → c-heaviest.Pre κ2 a) × ((a : _) → c-tight-set.Pre κ4 a)
+calls-ask-nothing κ1 κ2 κ3 κ4 = (λ a. tt, λ a. tt, λ a. tt, λ a. tt, λ a. tt, λ a. tt, λ a. tt, λ a. tt, λ a. tt)

@@ -21,7 +21,7 @@ use Rattle.spec_lists.proofs.Counting.{bit-le, count-most, total-most, greatest
 use Rattle.spec_table.proofs.Sound.{sound-storable}
 use Rattle.spec_sharing.proofs.Paths.{holder-bench, holder-none}
 use Rattle.spec_sharing.proofs.TightSet.{tight-rising}
-use Rattle.spec_calls.proofs.Refusals.{accepted-by, accepted-sound}
+use Rattle.spec_calls.proofs.Refusals.{accepted-by, on-sound, accepted-sound}
 use Rattle.spec_calls.proofs.Outcomes.{arriveOn, arrival-accepted, levelling-accepted}
 use Rattle.spec_calls.proofs.Results.{arrival-result, closing-result}
 use Rattle.jobboard_report.specs.Report.{Fitting}
@@ -75,7 +75,7 @@ module _ (t : List ℕ) (s : T (sound t)) where
 -- an arrival: the holder, the bench that rose, the moved jobs
 arrival-fits : (t : List ℕ) (a : Arriving) (holder rose moved : ℕ) → (outcome (arrival a) t) .answer ≡ arrived holder rose moved → (holder < 65536) × (rose < 65536) × (moved < 65536)
 arrival-fits t a holder rose moved e =
-    let s = accepted-sound (arrival a) t (ap isRefused e) in
+    let s = accepted-sound (arrival a) tt t (ap isRefused e) in
     let u = (outcome (arrival a) t) .table in
     let r = arrival-result t s a holder rose moved e in
     let after = (arrival-accepted t s a (ap isRefused e)) .writes .sound in
@@ -84,7 +84,7 @@ arrival-fits t a holder rose moved e =
 -- a closing: the bench that fell, the moved jobs
 closing-fits : (t : List ℕ) (c : Closing) (fell moved : ℕ) → (outcome (closing c) t) .answer ≡ closed fell moved → (fell < 65536) × (moved < 65536)
 closing-fits t c fell moved e =
-    let s = accepted-sound (closing c) t (ap isRefused e) in
+    let s = accepted-sound (closing c) tt t (ap isRefused e) in
     let r = closing-result t s c fell moved e in
     (omega (arith, r .oneFell .bench, benches-small t s), omega (arith, r .others, handed-most (c .job) (decode t) (decode ((outcome (closing c) t) .table)), jobs-small t s))
 
@@ -146,4 +146,4 @@ values-fit c t b =
     unless-refused ((outcome c t) .answer)
     (λ n.
     let e = (accepted-by c t n) .1 in
-    subst (λ (o : Outcome). Fitting (o .answer)) (sym e) (accepted-fits c t b (accepted-sound c t n) e))
+    subst (λ (o : Outcome). Fitting (o .answer)) (sym e) (accepted-fits c t b (accepted-sound c (on-sound c) t n) e))

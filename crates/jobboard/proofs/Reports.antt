@@ -1,12 +1,12 @@
 -- A call's answer as a C program gets it: its number, and its values in the lent numbers.
 use Prim.Native.Nat.{ℕ}
-use mathlib.Core.Path.{_≡_, sym, ap, subst, _∙_}
+use mathlib.Core.Path.{sym, subst}
 use mathlib.Core.List.{List}
 use Rattle.spec_calls.specs.Answers.{Outcome}
 use Rattle.spec_calls.specs.Calls.{Call, outcome}
-use Rattle.board_answers.specs.Answered.{answerOf, returned, Leaves}
+use Rattle.board_answers.specs.Answered.{answerOf, Leaves}
 use Rattle.board_answers.specs.declared.Answer.{Answer}
-use Rattle.jobboard_report.specs.Report.{results, Fitting, Delivered}
+use Rattle.jobboard_report.specs.Report.{Fitting, Delivered}
 use Rattle.jobboard.specs.Desk.{Reported}
 use Rattle.jobboard.proofs.Fits.{Bounded, values-fit}
 
@@ -15,6 +15,6 @@ pub answer-fits : (c : Call) (t : List ℕ) {a : Answer} {table list : List ℕ}
 answer-fits c t l b = subst Fitting (sym (l .answer)) (values-fit c t b)
 
 -- a call whose answer is delivered reports its outcome
-pub reported : {o : Outcome} {a : Answer} {r : ℕ} {table list lent left : List ℕ} → Leaves o a table list → Delivered (answerOf a) r lent left → Reported o r table list lent left
-reported {lent} l d =
-    record { number = d .number ∙ ap returned (l .answer); bytes = l .bytes; lent = l .lent; values = d .values ∙ ap (λ b. results b lent) (l .answer) }
+pub reported : {o : Outcome} {a : Answer} {r : ℕ} {table list before after : List ℕ} → Leaves o a table list → Delivered (answerOf a) r before after → Reported o r table list before after
+reported {r} {before} {after} l d =
+    record { bytes = l .bytes; lent = l .lent; delivered = subst (λ b. Delivered b r before after) (l .answer) d }

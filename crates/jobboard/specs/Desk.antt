@@ -3,13 +3,11 @@ use Prim.Native.Nat.{ℕ}
 use mathlib.Core.Path.{_≡_}
 use mathlib.Core.List.{List}
 use Rattle.spec_calls.specs.Answers.{Outcome}
-use Rattle.board_answers.specs.Answered.{returned}
-use Rattle.jobboard_report.specs.Report.{results}
+use Rattle.jobboard_report.specs.Report.{Delivered}
 
 -- the call returned r, left these bytes of the table and of what was lent beside it ([] for nothing), and made
 -- `after` of the lent numbers `before`, as the outcome o says
 pub record Reported (o : Outcome) (r : ℕ) (table beside before after : List ℕ) : Type 0 where
-  pub number : r ≡ returned (o .answer)
   pub bytes : table ≡ o .table
   pub lent : beside ≡ o .lent
-  pub values : after ≡ results (o .answer) before
+  pub delivered : Delivered (o .answer) r before after

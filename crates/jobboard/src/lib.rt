@@ -32,7 +32,8 @@ pub extern "C" fn jobboard_arrival(
     rose: &mut u32,
     moved: &mut u32,
 ) -> u32
-    ensures { λ r. ⌜ Reported (outcome (arrival (record { job = job; given = first ∷ second ∷ [] })) (now (table .entry)))
+    ensures { λ r. ⌜ Reported
+        (outcome (arrival (record { job = job; given = first ∷ second ∷ [] })) (now (table .entry)))
         r (now (table .exit)) [] (now (holder .entry) ∷ now (rose .entry) ∷ now (moved .entry) ∷ [])
         (now (holder .exit) ∷ now (rose .exit) ∷ now (moved .exit) ∷ []) ⌝ }
 {

@@ -1,6 +1,6 @@
--- A call of one of the board's functions, by the function's own contract `Post`: for how long it was lent what (κs, a),
--- what it answered (r), and what it left of the lent bytes (s). What is lent stands in the function's order: `a .0` is
--- the table, `a .1 .0` what comes after it; `now` are its bytes.
+-- A call of one of the board's functions, by the function's own contract `Post`: for how long it was lent what (κs,
+-- a), what it answered (r), and what it left of the lent bytes (s). What is lent stands in the order of the
+-- parameters, which the comment names: `a .0` is the first, `a .1 .0` the second ..; `now` are a lent part's bytes.
 use mathlib.Core.Path.{_≡_}
 use mathlib.Core.List.{List, [], _∷_}
 use Prim.Native.Nat.{ℕ}
@@ -23,28 +23,36 @@ use Rattle.board_questions.proofs.tight_set.Reads as tight-set
 
 -- the call c, made of the table t, left o
 pub data Done : Call → List ℕ → Outcome → Type 0 where
+  -- table, job, first, second
   byArrival :
       (κs : Lfts 1) (a : _) (r : _) (s : _) → arrive.Post κs a r s →
       Done (arrival (record { job = a .1 .0; given = a .1 .1 .0 ∷ a .1 .1 .1 .0 ∷ [] })) (a .0 .now)
       (leftBy r (s .0 .now) [])
+  -- table, job
   byClosing :
       (κs : Lfts 1) (a : _) (r : _) (s : _) → close.Post κs a r s →
       Done (closing (record { job = a .1 .0 })) (a .0 .now) (leftBy r (s .0 .now) [])
+  -- table, allowance
   byLevelling :
       (κs : Lfts 1) (a : _) (r : _) (s : _) → level.Post κs a r s →
       Done (levelling (a .1 .0)) (a .0 .now) (leftBy r (s .0 .now) [])
+  -- table, bench
   byLoad :
       (κs : Lfts 1) (a : _) (r : _) (s : _) → load.Post κs a r s →
       Done (ask (loadOf (a .1 .0)) []) (a .0 .now) (leftBy r (a .0 .now) [])
+  -- table
   byHeaviest :
       (κs : Lfts 1) (a : _) (r : _) (s : _) → heaviest.Post κs a r s →
       Done (ask heaviestLoad []) (a .0 .now) (leftBy r (a .0 .now) [])
+  -- table, height, list
   byTightSet :
       (κs : Lfts 2) (a : _) (r : _) (s : _) → tight-set.Post κs a r s →
       Done (ask (tightSetOf (a .1 .0)) (a .1 .1 .0 .now)) (a .0 .now) (leftBy r (a .0 .now) (s .1 .1 .0 .now))
+  -- table
   byFormCheck :
       (κs : Lfts 1) (a : _) (r : _) (s : _) → check-form.Post κs a r s →
       Done (ask formCheck []) (a .0 .now) (leftBy r (a .0 .now) [])
+  -- table
   byLevelCheck :
       (κs : Lfts 1) (a : _) (r : _) (s : _) → check-level.Post κs a r s →
       Done (ask levelCheck []) (a .0 .now) (leftBy r (a .0 .now) [])
@@ -52,9 +60,11 @@ pub data Done : Call → List ℕ → Outcome → Type 0 where
 -- a start that the code made or found: what `blank` left where it was not refused, with an empty book; a table that
 -- `level_check` called level, with its own jobs
 pub data Started : List ℕ → Book → Type 0 where
+  -- table, benches, jobs
   byBlank :
       (κs : Lfts 1) (a : _) (r : _) (s : _) → blank.Post κs a r s → answerOf r ≡ said blanked →
       Started (s .0 .now) (replicate (a .1 .1 .0) [])
+  -- table
   byLevel :
       (κs : Lfts 1) (a : _) (r : _) (s : _) → check-level.Post κs a r s → answerOf r ≡ said levelYes →
       Started (a .0 .now) ((decode (a .0 .now)) .named)

@@ -1,4 +1,4 @@
 -- Lists of calls that the code answered, by the functions' own contracts.
 pub mod Done
-pub mod Seen
-pub mod Noting
+pub mod CCalls
+pub mod NotedEach

@@ -9,19 +9,20 @@ use lib.Dec.{T}
 use Rattle.spec_table.specs.Board.{Board}
 use Rattle.spec_table.specs.Table.{fits, sound, decode}
 use Rattle.spec_calls.specs.Answers.{Refusal, Outcome, Condition, firstHolding, isRefused, refusedOr}
-use Rattle.spec_calls.specs.Calls.{Call, arrival, closing, levelling, ask, formConditions, conditions, refusals, lentTo, accepted, outcome}
+use Rattle.spec_calls.specs.Calls.{Call, arrival, closing, levelling, ask, formConditions, lentTo, accepted, outcome}
 use Rattle.spec_lists.proofs.Tests.{T→true}
 use Rattle.spec_table.proofs.Clauses.{sound-fits}
-use Rattle.spec_calls.proofs.Refusals.{isQuestion, accepted-by}
+use Rattle.spec_calls.proofs.Refusals.{isQuestion, accepted-by, onSound, conditions, formed-first}
 
 -- on a sound table refusals 1 and 2 do not apply
 pub form-passes : (t : List ℕ) → T (sound t) → (cs : List Condition) → firstHolding (formConditions t ++ cs) ≡ firstHolding cs
 form-passes t s cs = rw (T→true (fits t) (sound-fits t s), T→true (sound t) s)
 
 -- what is left of a call's outcome on a sound table
-pub sound-outcome : (c : Call) (t : List ℕ) → T (sound t) → outcome c t ≡ refusedOr (firstHolding (conditions c (decode t))) t (lentTo c) (accepted c t (decode t))
-unfolding outcome refusals
-sound-outcome c t s = ap (λ o. refusedOr o t (lentTo c) (accepted c t (decode t))) (form-passes t s (conditions c (decode t)))
+pub sound-outcome : (c : Call) → T (onSound c) → (t : List ℕ) → T (sound t) → outcome c t ≡ refusedOr (firstHolding (conditions c (decode t))) t (lentTo c) (accepted c t (decode t))
+unfolding outcome
+sound-outcome c f t s =
+    ap (λ o. refusedOr o t (lentTo c) (accepted c t (decode t))) (ap firstHolding (formed-first c f t) ∙ form-passes t s (conditions c (decode t)))
 
 -- what an outcome leaves besides the table
 pub record Alike (o p : Outcome) : Type 0 where
@@ -37,9 +38,9 @@ accepted-alike (levelling allowance) t u b = record { answer = refl; lent = refl
 accepted-alike (ask q lent) t u b = record { answer = refl; lent = refl }
 
 -- no answer depends on the order of the chains, and no byte lent beside the table
-pub answer-order-free : (c : Call) (t u : List ℕ) → T (sound t) → T (sound u) → decode t ≡ decode u → Alike (outcome c t) (outcome c u)
-answer-order-free c t u s r e =
-    subst (λ o. Alike o (outcome c u)) (sym (sound-outcome c t s ∙ ap on e)) (subst (Alike (on (decode u))) (sym (sound-outcome c u r)) (other (firstHolding (conditions c (decode u)))))
+pub answer-order-free : (c : Call) → T (onSound c) → (t u : List ℕ) → T (sound t) → T (sound u) → decode t ≡ decode u → Alike (outcome c t) (outcome c u)
+answer-order-free c f t u s r e =
+    subst (λ o. Alike o (outcome c u)) (sym (sound-outcome c f t s ∙ ap on e)) (subst (Alike (on (decode u))) (sym (sound-outcome c f u r)) (other (firstHolding (conditions c (decode u)))))
   where
     on : Board → Outcome
     on b = refusedOr (firstHolding (conditions c b)) t (lentTo c) (accepted c t b)
@@ -57,9 +58,9 @@ accepted-table (levelling allowance) t u b q = refl
 accepted-table (ask k lent) t u b q = absurd q
 
 -- and no byte that such a call leaves does
-pub change-order-free : (c : Call) (t u : List ℕ) → T (sound t) → T (sound u) → decode t ≡ decode u → T (not (isQuestion c)) → isRefused ((outcome c t) .answer) ≡ false → (outcome c t) .table ≡ (outcome c u) .table
-change-order-free c t u s r e q n =
-    let m : isRefused ((outcome c u) .answer) ≡ false = ap isRefused (sym ((answer-order-free c t u s r e) .answer)) ∙ n in
+pub change-order-free : (c : Call) → T (onSound c) → (t u : List ℕ) → T (sound t) → T (sound u) → decode t ≡ decode u → T (not (isQuestion c)) → isRefused ((outcome c t) .answer) ≡ false → (outcome c t) .table ≡ (outcome c u) .table
+change-order-free c f t u s r e q n =
+    let m : isRefused ((outcome c u) .answer) ≡ false = ap isRefused (sym ((answer-order-free c f t u s r e) .answer)) ∙ n in
     ap (λ o. o .table) ((accepted-by c t n) .1)
     ∙ ap (λ b. (accepted c t b) .table) e
     ∙ accepted-table c t u (decode u) q

@@ -12,11 +12,11 @@ use Rattle.spec_table.specs.Board.{Board, stands, namesFit}
 use Rattle.spec_table.specs.Table.{paired, sound, decode, encode, Storable}
 use Rattle.spec_sharing.specs.Sharing.{Change, arrive, close, Levelled, relevel, level}
 use Rattle.spec_calls.specs.Answers.{Refusal, Outcome, firstHolding, isRefused, refusedOr, said, levelled}
-use Rattle.spec_calls.specs.Calls.{Arriving, Closing, namable, MayArrive, Call, arrival, closing, levelling, ask, conditions, refusals, lentTo, accepted, outcome, arrivalOutcome, closingOutcome, levellingOutcome}
+use Rattle.spec_calls.specs.Calls.{Arriving, Closing, namable, MayArrive, Call, arrival, closing, levelling, ask, arrivalConditions, closingConditions, refusals, lentTo, accepted, outcome, arrivalOutcome, closingOutcome, levellingOutcome}
 use Rattle.spec_sharing.specs.Demand2.{OneMore}
 use Rattle.spec_lists.proofs.Tests.{not-false, false→not, left, right, or-right}
 use Rattle.spec_table.proofs.Named.{resized, changed-storable}
-use Rattle.spec_calls.proofs.Refusals.{accepted-by, accepted-answers, isQuestion, question-leaves}
+use Rattle.spec_calls.proofs.Refusals.{accepted-by, accepted-answers, on-sound, conditions, isQuestion, question-leaves}
 use Rattle.spec_calls.proofs.ChainOrder.{sound-outcome}
 use Rattle.spec_calls.proofs.Tally.{isChange}
 use Rattle.spec_table.proofs.Sound.{sound-storable}
@@ -53,8 +53,8 @@ module _ (b : Board) (given : List ℕ) (n : T (namable b given)) where
   pub namable-fit : T (namesFit (b .benches) given)
   namable-fit = right (eqb (length given) 2) (namesFit (b .benches) given) n
 
-may-arrive : (b : Board) (a : Arriving) → Each (λ k. k .holds ≡ false) (conditions (arrival a) b) → MayArrive b a
-unfolding conditions
+may-arrive : (b : Board) (a : Arriving) → Each (λ k. k .holds ≡ false) (arrivalConditions a b) → MayArrive b a
+unfolding arrivalConditions
 may-arrive b a e =
     record {
       number = not-false (within 1 (length (b .named)) (a .job)) (e .0);
@@ -62,8 +62,8 @@ may-arrive b a e =
       fit = not-false (namable b (a .given)) (e .1 .0);
     }
 
-may-close : (b : Board) (c : Closing) → Each (λ k. k .holds ≡ false) (conditions (closing c) b) → T (stands b (c .job))
-unfolding conditions
+may-close : (b : Board) (c : Closing) → Each (λ k. k .holds ≡ false) (closingConditions c b) → T (stands b (c .job))
+unfolding closingConditions
 may-close b c e = not-false (stands b (c .job)) (e .1 .0)
 
 -- what an accepted arrival leaves of a sound table: one bench's load rose by one, the one in the answer, and the number
@@ -129,9 +129,9 @@ pub record Relevelled (t : List ℕ) (allowance : ℕ) (r : Levelled) : Type 0 w
 
 -- a levelling of any sound table
 pub levelling-accepted : (t : List ℕ) → T (sound t) → (allowance : ℕ) → Relevelled t allowance (relevel allowance (decode t))
-unfolding conditions accepted levellingOutcome
+unfolding accepted levellingOutcome
 levelling-accepted t s allowance =
-    let e = sound-outcome (levelling allowance) t s in
+    let e = sound-outcome (levelling allowance) tt t s in
     let st = sound-storable t s in
     let r = relevel allowance (decode t) in
     let d = levelling-does allowance (decode t) (st .valid) in
@@ -173,7 +173,7 @@ module _ (t : List ℕ) (s : T (sound t)) (P : Call → Type 0) (arrives : (a : 
   by-call c = go (firstHolding (conditions c (decode t))) refl
     where
       is : (o : Option Refusal) → firstHolding (conditions c (decode t)) ≡ o → outcome c t ≡ refusedOr o t (lentTo c) (accepted c t (decode t))
-      is o e = sound-outcome c t s ∙ ap (λ o. refusedOr o t (lentTo c) (accepted c t (decode t))) e
+      is o e = sound-outcome c (on-sound c) t s ∙ ap (λ o. refusedOr o t (lentTo c) (accepted c t (decode t))) e
 
       go : (o : Option Refusal) → firstHolding (conditions c (decode t)) ≡ o → P c
       go none e = by-accepted c (is none e)

@@ -15,7 +15,7 @@ use Rattle.spec_table.specs.Table.{mostBenches, words, bytesOf, fits, sound, de
 use Rattle.spec_sharing.specs.Paths.{BenchPath, IsPath, improves}
 use Rattle.spec_sharing.specs.Sharing.{level, tightSet, inside, density}
 use Rattle.spec_calls.specs.Answers.{Refusal, firstHolding, isRefused, refuse, refusedOr, refused, said, sizes, unsound, benchNumber, height, listTooShort, loadIs, heaviestIs, tightSetIs, isSound, levelYes, levelNo}
-use Rattle.spec_calls.specs.Calls.{ask, loadOf, heaviestLoad, tightSetOf, formCheck, levelCheck, questionConditions, conditions, refusals, telling, answering, asked, accepted, outcome, tightSetTold}
+use Rattle.spec_calls.specs.Calls.{ask, loadOf, heaviestLoad, tightSetOf, formCheck, levelCheck, questionConditions, refusals, telling, answering, asked, accepted, outcome, tightSetTold}
 use Rattle.spec_lists.proofs.Tests.{or-left, or-right, eqb-T, within-high, neither, true→T, T→true, never→false}
 use Rattle.spec_lists.proofs.Elements.{in-each}
 use Rattle.spec_table.proofs.Sound.{sound-storable}
@@ -40,32 +40,32 @@ module _ (t : List ℕ) (s : T (sound t)) where
 
   -- the load of a bench of 1 to B ..
   pub load-answered : (x : ℕ) → within 1 ((decode t) .benches) x ≡ true → (outcome (ask (loadOf x) []) t) .answer ≡ said (loadIs (load ((decode t) .holders) x))
-  unfolding conditions questionConditions accepted asked
-  load-answered x w = ap (λ o. o .answer) (sound-outcome (ask (loadOf x) []) t s) ∙ rw w
+  unfolding questionConditions accepted asked
+  load-answered x w = ap (λ o. o .answer) (sound-outcome (ask (loadOf x) []) tt t s) ∙ rw w
 
   -- .. and 4 for any other number
   pub load-refused : (x : ℕ) → within 1 ((decode t) .benches) x ≡ false → (outcome (ask (loadOf x) []) t) .answer ≡ refused benchNumber
-  unfolding conditions questionConditions accepted asked
-  load-refused x w = ap (λ o. o .answer) (sound-outcome (ask (loadOf x) []) t s) ∙ rw w
+  unfolding questionConditions accepted asked
+  load-refused x w = ap (λ o. o .answer) (sound-outcome (ask (loadOf x) []) tt t s) ∙ rw w
 
   -- a tight set of a height of 1 to the heaviest load, in a list that is long enough
   pub tight-answered : (h : ℕ) (list : List ℕ) → 1 ≤ h → h ≤ heaviest (decode t) → 2 * length (tightSet (decode t) h) ≤ length list → outcome (ask (tightSetOf h) list) t ≡ answering t (tightSetTold (decode t) (tightSet (decode t) h) list)
-  unfolding conditions questionConditions accepted asked
+  unfolding questionConditions accepted asked
   tight-answered h list l u r =
-      sound-outcome (ask (tightSetOf h) list) t s
+      sound-outcome (ask (tightSetOf h) list) tt t s
       ∙ rw (ne-eqb h 0 (λ e. omega arith), le-ltb (heaviest (decode t)) h u, le-ltb (length list) (2 * length (tightSet (decode t) h)) r)
 
   -- "list shorter than the set's words" gives 8
   pub tight-list-refused : (h : ℕ) (list : List ℕ) → 1 ≤ h → h ≤ heaviest (decode t) → length list < 2 * length (tightSet (decode t) h) → (outcome (ask (tightSetOf h) list) t) .answer ≡ refused listTooShort
-  unfolding conditions questionConditions accepted asked
+  unfolding questionConditions accepted asked
   tight-list-refused h list l u r =
-      ap (λ o. o .answer) (sound-outcome (ask (tightSetOf h) list) t s)
+      ap (λ o. o .answer) (sound-outcome (ask (tightSetOf h) list) tt t s)
       ∙ rw (ne-eqb h 0 (λ e. omega arith), le-ltb (heaviest (decode t)) h u, lt-ltb (length list) (2 * length (tightSet (decode t) h)) r)
 
   -- "height 0, or above the heaviest load" gives 7
   pub tight-height-refused : (h : ℕ) (list : List ℕ) → (h ≡ 0) ⊎ (heaviest (decode t) < h) → (outcome (ask (tightSetOf h) list) t) .answer ≡ refused height
-  unfolding conditions questionConditions accepted asked
-  tight-height-refused h list c = ap (λ o. o .answer) (sound-outcome (ask (tightSetOf h) list) t s) ∙ rw (T→true (eqb h 0 || ltb (heaviest (decode t)) h) (wrong c))
+  unfolding questionConditions accepted asked
+  tight-height-refused h list c = ap (λ o. o .answer) (sound-outcome (ask (tightSetOf h) list) tt t s) ∙ rw (T→true (eqb h 0 || ltb (heaviest (decode t)) h) (wrong c))
     where
       wrong : (h ≡ 0) ⊎ (heaviest (decode t) < h) → T (eqb h 0 || ltb (heaviest (decode t)) h)
       wrong (inl e) = or-left (eqb h 0) (ltb (heaviest (decode t)) h) (eqb-T h 0 e)
@@ -79,7 +79,7 @@ module _ (t : List ℕ) (s : T (sound t)) where
     pub insideJobs : inside (tightSet (decode t) h) ((decode t) .named) ≡ i
 
   pub tight-says : (h : ℕ) (list : List ℕ) (n i : ℕ) → (outcome (ask (tightSetOf h) list) t) .answer ≡ said (tightSetIs n i) → TightAnswer h n i
-  unfolding refusals conditions questionConditions accepted asked tightSetTold
+  unfolding refusals questionConditions accepted asked tightSetTold
   tight-says h list n i e =
       let b = decode t in
       let a = accepted-by (ask (tightSetOf h) list) t (ap isRefused e) in
@@ -97,7 +97,7 @@ module _ (t : List ℕ) (s : T (sound t)) where
     pub long : length left ≡ length list
 
   pub tight-list : (h : ℕ) (list : List ℕ) (n i : ℕ) → (outcome (ask (tightSetOf h) list) t) .answer ≡ said (tightSetIs n i) → TightList h n list ((outcome (ask (tightSetOf h) list) t) .lent)
-  unfolding refusals conditions questionConditions accepted asked tightSetTold
+  unfolding refusals questionConditions accepted asked tightSetTold
   tight-list h list n i e =
       let set = tightSet (decode t) h in
       let a = accepted-by (ask (tightSetOf h) list) t (ap isRefused e) in
@@ -120,12 +120,12 @@ module _ (t : List ℕ) (s : T (sound t)) where
 
   -- the heaviest load
   pub heaviest-answered : (outcome (ask heaviestLoad []) t) .answer ≡ said (heaviestIs (heaviest (decode t)))
-  unfolding conditions questionConditions accepted asked
-  heaviest-answered = ap (λ o. o .answer) (sound-outcome (ask heaviestLoad []) t s)
+  unfolding questionConditions accepted asked
+  heaviest-answered = ap (λ o. o .answer) (sound-outcome (ask heaviestLoad []) tt t s)
 
   level-answered : (outcome (ask levelCheck []) t) .answer ≡ said (cond (level (decode t)) levelYes levelNo)
-  unfolding conditions questionConditions accepted asked
-  level-answered = ap (λ o. o .answer) (sound-outcome (ask levelCheck []) t s)
+  unfolding questionConditions accepted asked
+  level-answered = ap (λ o. o .answer) (sound-outcome (ask levelCheck []) tt t s)
 
   -- the level check says yes exactly if no improving path exists ..
   pub level-check-yes : ((outcome (ask levelCheck []) t) .answer ≡ said levelYes) ↔ ((p : BenchPath) → IsPath (decode t) p → T (improves (decode t) p) → ⊥)
@@ -153,7 +153,7 @@ module _ (t : List ℕ) (s : T (sound t)) where
 
 -- "The form check returns 1, 2 or sound", for any bytes
 pub form-check : (t : List ℕ) → (outcome (ask formCheck []) t) .answer ≡ cond (fits t) (cond (sound t) (said isSound) (refused unsound)) (refused sizes)
-unfolding outcome refusals conditions questionConditions asked accepted
+unfolding outcome refusals questionConditions asked accepted
 form-check t = go (fits t) (sound t)
   where
     go : (f z : Bool) → (refusedOr (firstHolding (refuse sizes (not f) ∷ refuse unsound (not z) ∷ [])) t [] (answering t (telling isSound []))) .answer ≡ cond f (cond z (said isSound) (refused unsound)) (refused sizes)

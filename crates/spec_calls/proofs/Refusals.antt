@@ -2,7 +2,7 @@
 -- condition holds; a refused call and a question leave the table as it was.
 use Prim.Native.Nat.{ℕ, _≤_}
 use native.Mathlib.Omega.{arith}
-use mathlib.Core.Path.{_≡_, refl, sym, ap, _∙_}
+use mathlib.Core.Path.{_≡_, refl, sym, ap, subst, _∙_}
 use mathlib.Core.Logic.{_⊎_, inl, inr}
 use mathlib.Core.Bool.{Bool, true, false, cond, _&&_, false≢true}
 use mathlib.Core.List.{List, [], _∷_, _++_, map}
@@ -14,7 +14,7 @@ use Rattle.spec_sharing.specs.Sharing.{level, relevel}
 use Rattle.spec_table.specs.Board.{Board}
 use Rattle.spec_lists.proofs.Tests.{not-false}
 use Rattle.spec_calls.specs.Answers.{Refusal, Condition, refusalNumber, inNumbers, firstHolding, isRefused, refusedOr, refused, said, levelYes, levelNo, levelled, stopped, sizes, unsound, jobNumber, benchNumber, alreadyStanding, notStanding, height, listTooShort, countFull, unreadable}
-use Rattle.spec_calls.specs.Calls.{Question, loadOf, heaviestLoad, tightSetOf, formCheck, levelCheck, Call, arrival, closing, levelling, ask, formConditions, questionConditions, conditions, refusals, questionOrder, order, lentTo, accepted, outcome, arrivalOutcome, closingOutcome, levellingOutcome}
+use Rattle.spec_calls.specs.Calls.{Question, loadOf, heaviestLoad, tightSetOf, formCheck, levelCheck, Call, arrival, closing, levelling, ask, formConditions, arrivalConditions, closingConditions, questionConditions, refusals, questionOrder, order, lentTo, accepted, outcome, arrivalOutcome, closingOutcome, levellingOutcome}
 
 -- "returned": 1 to 10, in the table's order
 pub refusals-told : map refusalNumber (sizes ∷ unsound ∷ jobNumber ∷ benchNumber ∷ alreadyStanding ∷ notStanding ∷ height ∷ listTooShort ∷ countFull ∷ unreadable ∷ []) ≡ range 1 10
@@ -30,7 +30,7 @@ conditionNumbers = map (λ k. refusalNumber (k .refusal))
 
 -- a call's conditions stand in the call's own order
 pub conditions-ordered : (c : Call) (t : List ℕ) → conditionNumbers (refusals c t) ≡ order c
-unfolding refusals conditions questionConditions
+unfolding refusals arrivalConditions closingConditions questionConditions
 conditions-ordered (arrival a) t = refl
 conditions-ordered (closing c) t = refl
 conditions-ordered (levelling allowance) t = refl
@@ -103,10 +103,38 @@ accepted-answers (closing c) t b = refl
 accepted-answers (levelling allowance) t b = refl
 accepted-answers (ask q lent) t b = refl
 
--- a table that 1 or 2 refuses is refused so by every call
-pub form-stops : (c : Call) (t : List ℕ) (r : Refusal) → firstHolding (formConditions t) ≡ some r → (outcome c t) .answer ≡ refused r
-unfolding outcome refusals
-form-stops c t r e = rw (first-stays (formConditions t) (conditions c (decode t)) r e)
+-- the calls that test the form of their table first ..
+abbrev pub onSound : Call → Bool
+onSound (arrival a) = true
+onSound (closing c) = true
+onSound (levelling allowance) = true
+onSound (ask q lent) = true
+
+-- .. all of document 01's do ..
+pub on-sound : (c : Call) → T (onSound c)
+on-sound (arrival a) = tt
+on-sound (closing c) = tt
+on-sound (levelling allowance) = tt
+on-sound (ask q lent) = tt
+
+-- .. and what such a call tests of the board then
+abbrev pub conditions : Call → Board → List Condition
+conditions (arrival a) b = arrivalConditions a b
+conditions (closing c) b = closingConditions c b
+conditions (levelling allowance) b = []
+conditions (ask q lent) b = questionConditions q lent b
+
+pub formed-first : (c : Call) → T (onSound c) → (t : List ℕ) → refusals c t ≡ formConditions t ++ conditions c (decode t)
+unfolding refusals
+formed-first (arrival a) f t = refl
+formed-first (closing c) f t = refl
+formed-first (levelling allowance) f t = refl
+formed-first (ask q lent) f t = refl
+
+-- a table that 1 or 2 refuses is refused so by each of these calls
+pub form-stops : (c : Call) → T (onSound c) → (t : List ℕ) (r : Refusal) → firstHolding (formConditions t) ≡ some r → (outcome c t) .answer ≡ refused r
+unfolding outcome
+form-stops c f t r e = rw (formed-first c f t, first-stays (formConditions t) (conditions c (decode t)) r e)
 
 -- a refused call names the first condition that holds, and leaves every lent byte
 pub record RefusedBy (r : Refusal) (c : Call) (t : List ℕ) : Type 0 where
@@ -139,10 +167,10 @@ accepted-by c t e = go (firstHolding cs) refl e
     go none f d = (none-holds cs f, ap (λ o. refusedOr o t (lentTo c) (accepted c t (decode t))) f)
     go (some s) f d = absurd (false≢true (sym d))
 
--- a call that is not refused was lent a sound table
-pub accepted-sound : (c : Call) (t : List ℕ) → isRefused ((outcome c t) .answer) ≡ false → T (sound t)
-unfolding refusals
-accepted-sound c t n = not-false (sound t) ((accepted-by c t n) .0 .1 .0)
+-- where such a call is not refused, its table is sound
+pub accepted-sound : (c : Call) → T (onSound c) → (t : List ℕ) → isRefused ((outcome c t) .answer) ≡ false → T (sound t)
+accepted-sound c f t n =
+    not-false (sound t) (subst (Each (λ k. k .holds ≡ false)) (formed-first c f t) ((accepted-by c t n) .0) .1 .0)
 
 -- refusals are numbered from 1 on ..
 pub refusal-positive : (r : Refusal) → 1 ≤ refusalNumber r

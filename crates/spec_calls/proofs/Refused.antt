@@ -10,7 +10,7 @@ use Rattle.spec_lists.specs.Lists.{within}
 use Rattle.spec_table.specs.Board.{stands, namesFit}
 use Rattle.spec_table.specs.Table.{sound, decode}
 use Rattle.spec_calls.specs.Answers.{isRefused, refused, jobNumber, benchNumber, alreadyStanding, notStanding}
-use Rattle.spec_calls.specs.Calls.{Arriving, Closing, namable, MayArrive, arrival, closing, conditions, accepted, outcome, arrivalOutcome, closingOutcome}
+use Rattle.spec_calls.specs.Calls.{Arriving, Closing, namable, MayArrive, arrival, closing, arrivalConditions, closingConditions, accepted, outcome, arrivalOutcome, closingOutcome}
 use Rattle.spec_lists.proofs.Tests.{T→true, not→false, never→false}
 use Rattle.spec_table.proofs.Named.{pair-fits}
 use Rattle.spec_sharing.proofs.Paths.{stands-within}
@@ -20,19 +20,19 @@ use Rattle.spec_calls.proofs.Outcomes.{arrival-accepted, closing-accept
 module _ (t : List ℕ) (s : T (sound t)) where
   -- 3: "job number not 1 to J"
   pub arrival-number-refused : (a : Arriving) → within 1 (length ((decode t) .named)) (a .job) ≡ false → (outcome (arrival a) t) .answer ≡ refused jobNumber
-  unfolding conditions accepted
-  arrival-number-refused a w = ap (λ o. o .answer) (sound-outcome (arrival a) t s) ∙ rw w
+  unfolding arrivalConditions closingConditions accepted
+  arrival-number-refused a w = ap (λ o. o .answer) (sound-outcome (arrival a) tt t s) ∙ rw w
 
   pub closing-number-refused : (c : Closing) → within 1 (length ((decode t) .named)) (c .job) ≡ false → (outcome (closing c) t) .answer ≡ refused jobNumber
-  unfolding conditions accepted
-  closing-number-refused c w = ap (λ o. o .answer) (sound-outcome (closing c) t s) ∙ rw w
+  unfolding arrivalConditions closingConditions accepted
+  closing-number-refused c w = ap (λ o. o .answer) (sound-outcome (closing c) tt t s) ∙ rw w
 
   -- 4: "bench not 1 to B, or both benches the same"
   pub arrival-bench-refused : (j x y : ℕ) → within 1 (length ((decode t) .named)) j ≡ true → (within 1 ((decode t) .benches) x ≡ false) ⊎ (within 1 ((decode t) .benches) y ≡ false) ⊎ (x ≡ y) → (outcome (arrival (record { job = j; given = x ∷ y ∷ [] })) t) .answer ≡ refused benchNumber
-  unfolding conditions accepted
+  unfolding arrivalConditions closingConditions accepted
   arrival-bench-refused j x y w c =
       let a : Arriving = record { job = j; given = x ∷ y ∷ [] } in
-      ap (λ o. o .answer) (sound-outcome (arrival a) t s) ∙ rw (w, never→false (namesFit ((decode t) .benches) (x ∷ y ∷ [])) (λ f. wrong ((pair-fits ((decode t) .benches) x y) .0 f) c))
+      ap (λ o. o .answer) (sound-outcome (arrival a) tt t s) ∙ rw (w, never→false (namesFit ((decode t) .benches) (x ∷ y ∷ [])) (λ f. wrong ((pair-fits ((decode t) .benches) x y) .0 f) c))
     where
       bench : ℕ → Bool
       bench = within 1 ((decode t) .benches)
@@ -44,29 +44,29 @@ module _ (t : List ℕ) (s : T (sound t)) where
 
   -- 5: "arrival of a standing job"
   pub arrival-standing-refused : (a : Arriving) → T (namable (decode t) (a .given)) → T (stands (decode t) (a .job)) → (outcome (arrival a) t) .answer ≡ refused alreadyStanding
-  unfolding conditions accepted
+  unfolding arrivalConditions closingConditions accepted
   arrival-standing-refused a f n =
       let b = decode t in
-      ap (λ o. o .answer) (sound-outcome (arrival a) t s) ∙ rw (T→true (within 1 (length (b .named)) (a .job)) (stands-within b (a .job) n), T→true (namable b (a .given)) f, T→true (stands b (a .job)) n)
+      ap (λ o. o .answer) (sound-outcome (arrival a) tt t s) ∙ rw (T→true (within 1 (length (b .named)) (a .job)) (stands-within b (a .job) n), T→true (namable b (a .given)) f, T→true (stands b (a .job)) n)
 
   -- 6: "closing of a job not standing"
   pub closing-standing-refused : (c : Closing) → within 1 (length ((decode t) .named)) (c .job) ≡ true → stands (decode t) (c .job) ≡ false → (outcome (closing c) t) .answer ≡ refused notStanding
-  unfolding conditions accepted
-  closing-standing-refused c w n = ap (λ o. o .answer) (sound-outcome (closing c) t s) ∙ rw (w, n)
+  unfolding arrivalConditions closingConditions accepted
+  closing-standing-refused c w n = ap (λ o. o .answer) (sound-outcome (closing c) tt t s) ∙ rw (w, n)
 
   -- an arrival is accepted exactly if its number is one of 1 to J, no such job stands, and its benches are two different
   -- ones of 1 to B
   pub arrival-exact : (a : Arriving) → (isRefused ((outcome (arrival a) t) .answer) ≡ false) ↔ MayArrive (decode t) a
-  unfolding conditions accepted arrivalOutcome
+  unfolding arrivalConditions closingConditions accepted arrivalOutcome
   arrival-exact a = (λ e. (arrival-accepted t s a e) .may, λ m. goes m)
     where
       goes : MayArrive (decode t) a → isRefused ((outcome (arrival a) t) .answer) ≡ false
       goes m =
           let b = decode t in
-          ap (λ o. isRefused (o .answer)) (sound-outcome (arrival a) t s) ∙ rw (T→true (within 1 (length (b .named)) (a .job)) (m .number), T→true (namable b (a .given)) (m .fit), not→false (stands b (a .job)) (m .free))
+          ap (λ o. isRefused (o .answer)) (sound-outcome (arrival a) tt t s) ∙ rw (T→true (within 1 (length (b .named)) (a .job)) (m .number), T→true (namable b (a .given)) (m .fit), not→false (stands b (a .job)) (m .free))
 
   -- a closing is accepted exactly if its job stands
   pub closing-exact : (c : Closing) → (isRefused ((outcome (closing c) t) .answer) ≡ false) ↔ T (stands (decode t) (c .job))
-  unfolding conditions accepted closingOutcome
+  unfolding arrivalConditions closingConditions accepted closingOutcome
   closing-exact c =
-      (λ e. (closing-accepted t s c e) .stood, λ n. ap (λ o. isRefused (o .answer)) (sound-outcome (closing c) t s) ∙ rw (T→true (within 1 (length ((decode t) .named)) (c .job)) (stands-within (decode t) (c .job) n), T→true (stands (decode t) (c .job)) n))
+      (λ e. (closing-accepted t s c e) .stood, λ n. ap (λ o. isRefused (o .answer)) (sound-outcome (closing c) tt t s) ∙ rw (T→true (within 1 (length ((decode t) .named)) (c .job)) (stands-within (decode t) (c .job) n), T→true (stands (decode t) (c .job)) n))

@@ -36,7 +36,7 @@ pub data Call : Type 0 where
   levelling : ℕ → Call
   ask : Question → List ℕ → Call
 
--- 1 and 2: what every call on a table tests first
+-- 1 and 2: the form of a table
 abbrev pub formConditions : List ℕ → List Condition
 formConditions t = refuse sizes (not (fits t)) ∷ refuse unsound (not (sound t)) ∷ []
 
@@ -58,7 +58,19 @@ pub record MayArrive (b : Board) (a : Arriving) : Type 0 where
   pub free : T (not (stands b (a .job)))
   pub fit : T (namable b (a .given))
 
--- when each question is refused, from 3 on, in the order that counts
+-- when an arrival is refused, from 3 on, in the order that counts
+unfoldable pub arrivalConditions : Arriving → Board → List Condition
+arrivalConditions a b =
+    refuse jobNumber (noJob b (a .job))
+    ∷ refuse benchNumber (not (namable b (a .given)))
+    ∷ refuse alreadyStanding (stands b (a .job))
+    ∷ []
+
+-- when a closing is
+unfoldable pub closingConditions : Closing → Board → List Condition
+closingConditions c b = refuse jobNumber (noJob b (c .job)) ∷ refuse notStanding (not (stands b (c .job))) ∷ []
+
+-- when each question is
 unfoldable pub questionConditions : Question → List ℕ → Board → List Condition
 questionConditions (loadOf x) lent b = refuse benchNumber (noBench b x) ∷ []
 questionConditions heaviestLoad lent b = []
@@ -69,21 +81,12 @@ questionConditions (tightSetOf h) lent b =
 questionConditions formCheck lent b = []
 questionConditions levelCheck lent b = []
 
--- when each call is refused, from 3 on, in the order that counts
-unfoldable pub conditions : Call → Board → List Condition
-conditions (arrival a) b =
-    refuse jobNumber (noJob b (a .job))
-    ∷ refuse benchNumber (not (namable b (a .given)))
-    ∷ refuse alreadyStanding (stands b (a .job))
-    ∷ []
-conditions (closing c) b =
-    refuse jobNumber (noJob b (c .job)) ∷ refuse notStanding (not (stands b (c .job))) ∷ []
-conditions (levelling allowance) b = []
-conditions (ask q lent) b = questionConditions q lent b
-
--- when each call is refused: the whole list, in the order that counts
+-- when each call is refused: its whole list, in the order that counts
 unfoldable pub refusals : Call → List ℕ → List Condition
-refusals c t = formConditions t ++ conditions c (decode t)
+refusals (arrival a) t = formConditions t ++ arrivalConditions a (decode t)
+refusals (closing c) t = formConditions t ++ closingConditions c (decode t)
+refusals (levelling allowance) t = formConditions t
+refusals (ask q lent) t = formConditions t ++ questionConditions q lent (decode t)
 
 -- the numbers that a question may be refused with, in the order that counts
 abbrev pub questionOrder : Question → List ℕ

@@ -12,7 +12,7 @@ use Rattle.spec_table.specs.Board.{heaviest, standing}
 use Rattle.spec_table.specs.Table.{mostBenches, mostJobs, sizesFit, lengthFor, sound, decode, blankTable}
 use Rattle.spec_sharing.specs.Sharing.{tightSet}
 use Rattle.spec_calls.specs.Answers.{Outcome, isRefused, said, tightSetIs}
-use Rattle.spec_calls.specs.Calls.{arrival, closing, ask, heaviestLoad, tightSetOf, questionConditions, conditions, asked, accepted, outcome, blanking}
+use Rattle.spec_calls.specs.Calls.{arrival, closing, ask, heaviestLoad, tightSetOf, questionConditions, asked, accepted, outcome, blanking}
 use Rattle.spec_calls.specs.Tally.{zeroTally, noted}
 use Rattle.spec_counter.specs.Counter.{Counter, Command, setTable, takeIn, closeJob, askTightSet, askHeaviest, command, printed, lineFor, done, after, prints, atFirst, room, counterList}
 use Rattle.spec_counter.specs.Text.{text}
@@ -46,16 +46,11 @@ pub refused-keeps : (benches jobs : ℕ) (s : Counter) (o : Outcome) → isRefus
 unfolding after
 refused-keeps benches jobs s o e = rw e
 
--- a question keeps the state
-pub question-keeps : (s : Counter) (o : Outcome) (h : ℕ) → (after (askTightSet h) s o ≡ s) × (after askHeaviest s o ≡ s)
-unfolding after
-question-keeps s o h = (refl, refl)
-
 module _ (t : List ℕ) (s : T (sound t)) where
   -- "H heaviest"
   pub heaviest-line : lineFor askHeaviest (done askHeaviest t) ≡ printed (code "H") (heaviest (decode t) ∷ [])
-  unfolding lineFor done conditions questionConditions accepted asked
-  heaviest-line = rw (sound-outcome (ask heaviestLoad []) t s)
+  unfolding lineFor done questionConditions accepted asked
+  heaviest-line = rw (sound-outcome (ask heaviestLoad []) tt t s)
 
   -- "S height, benches, inside jobs, then the benches"
   pub tight-line : (h n i : ℕ) → (outcome (ask (tightSetOf h) counterList) t) .answer ≡ said (tightSetIs n i) → lineFor (askTightSet h) (done (askTightSet h) t) ≡ printed (code "S") (h ∷ n ∷ i ∷ tightSet (decode t) h)

@@ -77,14 +77,6 @@ module _ (benches : ℕ) (out : ℕ → List Step) where
     pub shortest-once : (x : ℕ) (r : List Step) → T (within 1 benches x) → Walk out x r → endOf x r ≡ t → d x ≡ suc (length r) → T (distinct (x ∷ benchesOf r))
     shortest-once x r w v e l = fewest-once out x r v (λ q u f. omega (arith, (to .short x q w u (f ∙ e)) .1))
 
-    -- from every bench that is not t itself a step leads nearer
-    pub nearer-step : (x n : ℕ) → T (within 1 benches x) → d x ≡ suc (suc n) → (s : Step) × Nearer d x s
-    nearer-step x n w e = go (to .walk x (suc n) w e)
-      where
-        go : (r : List Step) × Walk out x r × (endOf x r ≡ t) × (length r ≡ suc n) → (s : Step) × Nearer d x s
-        go ([], v, f, l) = absurd (omega arith)
-        go (s ∷ r, v, f, l) = let h = falls x s r w v f (omega arith) in (s, (v .0, omega arith, omega arith))
-
     -- only t is at distance 0
     pub nearest : (x : ℕ) → T (within 1 benches x) → d x ≡ 1 → x ≡ t
     nearest x w e = go (to .walk x 0 w e)

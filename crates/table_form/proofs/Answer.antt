@@ -7,7 +7,7 @@ use lib.Dec.{T}
 use Rattle.spec_lists.proofs.Tests.{true→T, T→true}
 use Rattle.spec_table.specs.Table.{formed, fits, sound}
 use Rattle.spec_table.proofs.Sound.{sound-storable}
-use Rattle.spec_calls.specs.Calls.{outcome, ask, formCheck, questionConditions, conditions, asked, accepted}
+use Rattle.spec_calls.specs.Calls.{outcome, ask, formCheck, questionConditions, asked, accepted}
 use Rattle.spec_calls.proofs.Refusals.{form-stops}
 use Rattle.spec_calls.proofs.ChainOrder.{sound-outcome}
 use Rattle.table_words.specs.Bytes.{layoutIn}
@@ -41,9 +41,9 @@ checked t f e = rw e (go (fits t) (formed (layoutIn t)) refl refl)
 
 -- so it is the definition's answer
 answer-is : (t : List ℕ) (f : Form) → Checked t f → formAnswer f ≡ (outcome (ask formCheck []) t) .answer
-unfolding questionConditions conditions asked accepted
-answer-is t (Refused r) k = sym (form-stops (ask formCheck []) t (refusalOf r) k)
-answer-is t (Sound s) k = sym (ap (λ o. o .answer) (sound-outcome (ask formCheck []) t (k .sound)))
+unfolding questionConditions asked accepted
+answer-is t (Refused r) k = sym (form-stops (ask formCheck []) tt t (refusalOf r) k)
+answer-is t (Sound s) k = sym (ap (λ o. o .answer) (sound-outcome (ask formCheck []) tt t (k .sound)))
 
 -- all of the contract, of the form check's value
 answered : (t : List ℕ) (f : Form) → f ≡ formIn t → FormOf t f

@@ -22,7 +22,7 @@ same-length : tie.Need-same-length
 same-length c = search needs
 
 returns : tie.Need-returns
-returns c = form-refused _ (closing _) _ (rw (c .before .r .given .1) at (c .before .before .before .check .ensures .says))
+returns c = form-refused _ (closing _) tt _ (rw (c .before .r .given .1) at (c .before .before .before .check .ensures .says))
 
 same-length-2 : tie.Need-same-length-2
 same-length-2 c = search needs

@@ -17,7 +17,7 @@ enum-told : tie.Need-enum-told
 enum-told c = search needs
 
 returns : tie.Need-returns
-returns c = form-refused _ (ask formCheck []) _ (rw (c .before .r .given .1) at (c .before .before .before .check .ensures .says))
+returns c = form-refused _ (ask formCheck []) tt _ (rw (c .before .r .given .1) at (c .before .before .before .check .ensures .says))
 
 returns-2 : tie.Need-returns-2
 returns-2 c = form-sound (rw (c .enum-told .given .1) at (c .before .before .check .ensures .says))

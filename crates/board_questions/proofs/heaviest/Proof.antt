@@ -25,7 +25,7 @@ heaviest-requires : tie.Need-heaviest-requires
 heaviest-requires c κs = sound-table c
 
 returns : tie.Need-returns
-returns c = form-refused _ (ask heaviestLoad []) _ (rw (c .before .r .given .1) at (c .before .before .before .check .ensures .says))
+returns c = form-refused _ (ask heaviestLoad []) tt _ (rw (c .before .r .given .1) at (c .before .before .before .check .ensures .says))
 
 returns-2 : tie.Need-returns-2
 returns-2 c = heaviest-told (sound-table (c .before)) (c .heaviest .result) (c .heaviest .ensures)

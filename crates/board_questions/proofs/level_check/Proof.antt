@@ -28,7 +28,7 @@ is-level-requires : tie.Need-is-level-requires
 is-level-requires c κs = sound-holds-board _ _ (sound-table c)
 
 returns : tie.Need-returns
-returns c = form-refused _ (ask levelCheck []) _ (rw (c .before .r .given .1) at (c .before .before .before .check .ensures .says))
+returns c = form-refused _ (ask levelCheck []) tt _ (rw (c .before .r .given .1) at (c .before .before .before .check .ensures .says))
 
 returns-2 : tie.Need-returns-2
 returns-2 c = level-told (sound-table (c .before .before)) true (sym (c .if1 .taken) ∙ c .before .is-level .ensures)

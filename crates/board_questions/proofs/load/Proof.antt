@@ -31,7 +31,7 @@ load-requires : tie.Need-load-requires
 load-requires c κs = (sound-table (c .before .before), bench-in _ _ (true→T _ (sym (c .before .has-bench .ensures) ∙ c .if1 .taken)))
 
 returns : tie.Need-returns
-returns c = form-refused _ (ask (loadOf _) []) _ (rw (c .before .r .given .1) at (c .before .before .before .check .ensures .says))
+returns c = form-refused _ (ask (loadOf _) []) tt _ (rw (c .before .r .given .1) at (c .before .before .before .check .ensures .says))
 
 returns-2 : tie.Need-returns-2
 returns-2 c = load-told (sound-table (c .before .before .before)) _ (c .load .result) (c .before .before .has-bench .ensures) (c .before .if1 .taken) (c .load .ensures)

@@ -18,7 +18,7 @@ tight-set-on-requires : tie.Need-tight-set-on-requires
 tight-set-on-requires c κs = rw (c .before .before .s .given .1) at (c .before .before .before .before .check .ensures .says)
 
 returns : tie.Need-returns
-returns c = form-refused _ (ask (tightSetOf _) _) _ (rw (c .before .r .given .1) at (c .before .before .before .check .ensures .says))
+returns c = form-refused _ (ask (tightSetOf _) _) tt _ (rw (c .before .r .given .1) at (c .before .before .before .check .ensures .says))
 
 same-length : tie.Need-same-length
 same-length c = search needs

@@ -32,31 +32,31 @@ returns : tie.Need-returns
 returns c =
     let a = c .before .args in
     let l = a .self .first ∷ a .self .second ∷ a .self .third ∷ [] in
-    sym (beyond (take (a .self .count) l) (a .k) (a .lent) (omega (arith, length-take (a .self .count) l, c .if1 .taken)))
+    sym (beyond (take (a .self .count) l) (a .k) (a .otherwise) (omega (arith, length-take (a .self .count) l, c .if1 .taken)))
 
 returns-2 : tie.Need-returns-2
 returns-2 c =
     let a = c .before .before .args in
     let l = a .self .first ∷ a .self .second ∷ a .self .third ∷ [] in
-    sym (within l (a .self .count) (a .k) (a .lent) (c .before .if1 .left) ∙ ap (λ k. nth l k (a .lent)) (c .if2 .taken))
+    sym (within l (a .self .count) (a .k) (a .otherwise) (c .before .if1 .left) ∙ ap (λ k. nth l k (a .otherwise)) (c .if2 .taken))
 
 returns-3 : tie.Need-returns-3
 returns-3 c =
     let a = c .before .before .before .args in
     let l = a .self .first ∷ a .self .second ∷ a .self .third ∷ [] in
-    sym (within l (a .self .count) (a .k) (a .lent) (c .before .before .if1 .left) ∙ ap (λ k. nth l k (a .lent)) (c .if3 .taken))
+    sym (within l (a .self .count) (a .k) (a .otherwise) (c .before .before .if1 .left) ∙ ap (λ k. nth l k (a .otherwise)) (c .if3 .taken))
 
 returns-4 : tie.Need-returns-4
 returns-4 c =
     let a = c .before .before .before .before .args in
     let l = a .self .first ∷ a .self .second ∷ a .self .third ∷ [] in
-    sym (within l (a .self .count) (a .k) (a .lent) (c .before .before .before .if1 .left) ∙ ap (λ k. nth l k (a .lent)) (c .if4 .taken))
+    sym (within l (a .self .count) (a .k) (a .otherwise) (c .before .before .before .if1 .left) ∙ ap (λ k. nth l k (a .otherwise)) (c .if4 .taken))
 
 returns-5 : tie.Need-returns-5
 returns-5 c =
     let a = c .before .before .before .before .args in
     let l = a .self .first ∷ a .self .second ∷ a .self .third ∷ [] in
-    sym (within l (a .self .count) (a .k) (a .lent) (c .before .before .before .if1 .left) ∙ none (a .self .first) (a .self .second) (a .self .third) (a .k) (a .lent) (c .before .before .if2 .left) (c .before .if3 .left) (c .if4 .left))
+    sym (within l (a .self .count) (a .k) (a .otherwise) (c .before .before .before .if1 .left) ∙ none (a .self .first) (a .self .second) (a .self .third) (a .k) (a .otherwise) (c .before .before .if2 .left) (c .before .if3 .left) (c .if4 .left))
 
 pub get-spec : {M : Type 1} → statement M
 get-spec = tie.close (tie.spec returns returns-2 returns-3 returns-4 returns-5)

@@ -10,11 +10,11 @@ use Rattle.board_tally.proofs.Tally.new.Reads as new
 use Rattle.board_tally.proofs.Tally.note.Reads as note
 
 -- "each answer is noted once without a 9": from the tally y on, and the tally z is handed back in the end
-pub data Noting : Tally → List Outcome → Tally → Type 0 where
-  ended : (y : Tally) → Noting y [] y
+pub data NotedEach : Tally → List Outcome → Tally → Type 0 where
+  ended : (y : Tally) → NotedEach y [] y
   then :
       (κs : Lfts 0) (a : _) (r : _) (s : _) (o : Outcome) (os : List Outcome) (z : Tally) → note.Post κs a r s →
-      o .answer ≡ answerOf (a .1 .0) → r .note ≡ Counted → Noting (r .tally) os z → Noting (a .0) (o ∷ os) z
+      o .answer ≡ answerOf (a .1 .0) → r .note ≡ Counted → NotedEach (r .tally) os z → NotedEach (a .0) (o ∷ os) z
 
 -- the tally that `Tally::new` makes
 pub record New (y : Tally) : Type 0 where

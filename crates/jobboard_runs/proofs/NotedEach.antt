@@ -15,17 +15,17 @@ use Rattle.spec_calls.proofs.Blanking.{blanking-fits, blanking-blank}
 use Rattle.spec_calls.proofs.Demand3.{runs-defined}
 use Rattle.spec_calls.proofs.TallyRun.{arrivals-less-closings}
 use Rattle.board_answers.specs.Answered.{answerOf}
-use Rattle.board_changes.proofs.Contracts.{blank-does}
+use Rattle.board_changes.proofs.Contracts.{blank-meets}
 use Rattle.board_changes.proofs.blank.Reads as blank
 use Rattle.board_tally.specs.declared.Tally.{Tally}
 use Rattle.board_tally.specs.Counts.{tallyOf, noteOf}
 use Rattle.board_tally.proofs.Contracts.{new-zero, note-notes}
 use Rattle.jobboard_runs.specs.Done.{Done}
-use Rattle.jobboard_runs.specs.Noting.{Noting, ended, then, New}
+use Rattle.jobboard_runs.specs.NotedEach.{NotedEach, ended, then, New}
 use Rattle.jobboard_runs.proofs.Done.{done-defined}
 
 -- answers noted by the code are noted as defined: no 9, and the tally handed back is the definition's
-noting-noted : (y : Tally) (os : List Outcome) (z : Tally) → Noting y os z → NoNine (tallyOf y) os × (tallyOf z ≡ tallyAfter (tallyOf y) os)
+noting-noted : (y : Tally) (os : List Outcome) (z : Tally) → NotedEach y os z → NoNine (tallyOf y) os × (tallyOf z ≡ tallyAfter (tallyOf y) os)
 noting-noted y os z (ended x) = (tt, refl)
 noting-noted y os z (then κs a r s o rest w p e c n) =
     let one = note-notes κs a r s p in
@@ -37,9 +37,9 @@ noting-noted y os z (then κs a r s o rest w p e c n) =
 
 -- "If a blank table and a zero tally start together, each answer is noted once without a 9, and the table is not blanked
 -- again, arrivals less closings are the jobs standing": of the code
-pub board-balanced : (κs : Lfts 1) (a : _) (r : _) (s : _) → blank.Post κs a r s → answerOf r ≡ said blanked → (y : Tally) → New y → (cs : List Call) (os : List Outcome) → Runs Done (s .0 .now) cs os → (z : Tally) → Noting y os z → z .arrivals ≡ z .closings + standing (decode (tableAfter (s .0 .now) os))
+pub board-balanced : (κs : Lfts 1) (a : _) (r : _) (s : _) → blank.Post κs a r s → answerOf r ≡ said blanked → (y : Tally) → New y → (cs : List Call) (os : List Outcome) → Runs Done (s .0 .now) cs os → (z : Tally) → NotedEach y os z → z .arrivals ≡ z .closings + standing (decode (tableAfter (s .0 .now) os))
 board-balanced κs a r s p e y new cs os runs z n =
-    let o = blank-does κs a r s p in
+    let o = blank-meets κs a r s p in
     let b = a .1 .0 in
     let j = a .1 .1 .0 in
     let fits = blanking-fits b j (a .0 .now) (ap (λ (o : Outcome). isRefused (o .answer)) (sym o) ∙ ap isRefused e) in

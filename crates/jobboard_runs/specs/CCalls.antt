@@ -1,4 +1,5 @@
--- A C call, by its own contract: what a C program sees of it.
+-- A C call, by its own contract: what a C program observes of it. What it is lent stands in the order of its
+-- parameters, which the comment names: `a .0` is the first, `a .1 .0` the second, `a .1 .1 .0` the third ..
 use mathlib.Core.Path.{_≡_}
 use mathlib.Core.List.{List, [], _∷_}
 use Prim.Native.Nat.{ℕ}
@@ -21,66 +22,74 @@ use Rattle.jobboard.proofs.jobboard_tight_set.Reads as c-tight-set
 
 -- the number returned, the bytes left of the table and of what was lent beside it, and the lent numbers before and
 -- after, which lie outside both
-pub record Seen : Type 0 where
+pub record Observed : Type 0 where
   pub number : ℕ
   pub table : List ℕ
   pub beside : List ℕ
   pub before : List ℕ
   pub after : List ℕ
 
--- what is seen of a call, by what it left and its lent numbers
-abbrev pub seen : ℕ → List ℕ → List ℕ → List ℕ → List ℕ → Seen
-seen r table beside before after =
+-- what is observed of a call: the number, what it left, and its lent numbers
+abbrev pub observed : ℕ → List ℕ → List ℕ → List ℕ → List ℕ → Observed
+observed r table beside before after =
     record { number = r; table = table; beside = beside; before = before; after = after }
 
--- the C call of c, made of the table t, was seen as v
-pub data Called : Call → List ℕ → Seen → Type 0 where
+-- the C call of c, made of the table t, was observed as v
+pub data Called : Call → List ℕ → Observed → Type 0 where
+  -- table, job, first, second; holder, rose, moved
   byArrival :
       (κs : Lfts 4) (a : _) (r : _) (s : _) → c-arrival.Post κs a r s →
       Called (arrival (record { job = a .1 .0; given = a .1 .1 .0 ∷ a .1 .1 .1 .0 ∷ [] })) (a .0 .now)
-      (seen r (s .0 .now) []
+      (observed r (s .0 .now) []
       (a .1 .1 .1 .1 .0 .now ∷ a .1 .1 .1 .1 .1 .0 .now ∷ a .1 .1 .1 .1 .1 .1 .0 .now ∷ [])
       (s .1 .1 .1 .1 .0 .now ∷ s .1 .1 .1 .1 .1 .0 .now ∷ s .1 .1 .1 .1 .1 .1 .0 .now ∷ []))
+  -- table, job; fell, moved
   byClosing :
       (κs : Lfts 3) (a : _) (r : _) (s : _) → c-closing.Post κs a r s →
       Called (closing (record { job = a .1 .0 })) (a .0 .now)
-      (seen r (s .0 .now) [] (a .1 .1 .0 .now ∷ a .1 .1 .1 .0 .now ∷ [])
+      (observed r (s .0 .now) [] (a .1 .1 .0 .now ∷ a .1 .1 .1 .0 .now ∷ [])
       (s .1 .1 .0 .now ∷ s .1 .1 .1 .0 .now ∷ []))
+  -- table, allowance; paths, level
   byLevelling :
       (κs : Lfts 3) (a : _) (r : _) (s : _) → c-levelling.Post κs a r s →
       Called (levelling (a .1 .0)) (a .0 .now)
-      (seen r (s .0 .now) [] (a .1 .1 .0 .now ∷ a .1 .1 .1 .0 .now ∷ [])
+      (observed r (s .0 .now) [] (a .1 .1 .0 .now ∷ a .1 .1 .1 .0 .now ∷ [])
       (s .1 .1 .0 .now ∷ s .1 .1 .1 .0 .now ∷ []))
+  -- table, bench; load
   byLoad :
       (κs : Lfts 2) (a : _) (r : _) (s : _) → c-load.Post κs a r s →
       Called (ask (loadOf (a .1 .0)) []) (a .0 .now)
-      (seen r (a .0 .now) [] (a .1 .1 .0 .now ∷ []) (s .1 .1 .0 .now ∷ []))
+      (observed r (a .0 .now) [] (a .1 .1 .0 .now ∷ []) (s .1 .1 .0 .now ∷ []))
+  -- table; load
   byHeaviest :
       (κs : Lfts 2) (a : _) (r : _) (s : _) → c-heaviest.Post κs a r s →
       Called (ask heaviestLoad []) (a .0 .now)
-      (seen r (a .0 .now) [] (a .1 .0 .now ∷ []) (s .1 .0 .now ∷ []))
+      (observed r (a .0 .now) [] (a .1 .0 .now ∷ []) (s .1 .0 .now ∷ []))
+  -- table, height, list; benches, jobs
   byTightSet :
       (κs : Lfts 4) (a : _) (r : _) (s : _) → c-tight-set.Post κs a r s →
       Called (ask (tightSetOf (a .1 .0)) (a .1 .1 .0 .now)) (a .0 .now)
-      (seen r (a .0 .now) (s .1 .1 .0 .now) (a .1 .1 .1 .0 .now ∷ a .1 .1 .1 .1 .0 .now ∷ [])
+      (observed r (a .0 .now) (s .1 .1 .0 .now) (a .1 .1 .1 .0 .now ∷ a .1 .1 .1 .1 .0 .now ∷ [])
       (s .1 .1 .1 .0 .now ∷ s .1 .1 .1 .1 .0 .now ∷ []))
+  -- table
   byCheck :
       (κs : Lfts 1) (a : _) (r : _) (s : _) → c-check.Post κs a r s →
-      Called (ask formCheck []) (a .0 .now) (seen r (a .0 .now) [] [] [])
+      Called (ask formCheck []) (a .0 .now) (observed r (a .0 .now) [] [] [])
+  -- table; level
   byLevelCheck :
       (κs : Lfts 2) (a : _) (r : _) (s : _) → c-level-check.Post κs a r s →
       Called (ask levelCheck []) (a .0 .now)
-      (seen r (a .0 .now) [] (a .1 .0 .now ∷ []) (s .1 .0 .now ∷ []))
+      (observed r (a .0 .now) [] (a .1 .0 .now ∷ []) (s .1 .0 .now ∷ []))
 
 -- C calls one after the other, each on the table that the last one left
-abbrev pub CallsMade : List ℕ → List Call → List Seen → Type 0
+abbrev pub CallsMade : List ℕ → List Call → List Observed → Type 0
 CallsMade t [] [] = Unit {0}
 CallsMade t [] (v ∷ vs) = ⊥
 CallsMade t (c ∷ cs) [] = ⊥
 CallsMade t (c ∷ cs) (v ∷ vs) = Called c t v × CallsMade (v .table) cs vs
 
--- what is seen of each call is what the outcome reports
-abbrev pub ReportedEach : List Outcome → List Seen → Type 0
+-- what is observed of each call is what the outcome reports
+abbrev pub ReportedEach : List Outcome → List Observed → Type 0
 ReportedEach [] [] = Unit {0}
 ReportedEach [] (v ∷ vs) = ⊥
 ReportedEach (o ∷ os) [] = ⊥
@@ -88,7 +97,7 @@ ReportedEach (o ∷ os) (v ∷ vs) =
     Reported o (v .number) (v .table) (v .beside) (v .before) (v .after) × ReportedEach os vs
 
 -- the table that the C program holds in the end
-abbrev pub lastTable : List ℕ → List Seen → List ℕ
+abbrev pub lastTable : List ℕ → List Observed → List ℕ
 lastTable t [] = t
 lastTable t (v ∷ vs) = lastTable (v .table) vs
 
@@ -102,9 +111,9 @@ pub data CStarted : List ℕ → Book → Type 0 where
       (κs : Lfts 2) (a : _) (r : _) (s : _) → c-level-check.Post κs a r s → r ≡ 0 → s .1 .0 .now ≡ 1 →
       CStarted (a .0 .now) ((decode (a .0 .now)) .named)
 
--- what demand 3 claims of a list of C calls: the claim of the defined outcomes, which are what the C program sees,
--- call by call, and the table it holds is theirs
-pub record CClaim (t : List ℕ) (k : Book) (cs : List Call) (vs : List Seen) : Type 0 where
+-- what demand 3 claims of a list of C calls: the claim of the defined outcomes, which are what the C program
+-- observes, call by call, and the table it holds is theirs
+pub record CClaim (t : List ℕ) (k : Book) (cs : List Call) (vs : List Observed) : Type 0 where
   pub claim : Claim t k cs (run t cs)
   pub reported : ReportedEach (run t cs) vs
   pub table : lastTable t vs ≡ tableAfter t (run t cs)

@@ -18,11 +18,11 @@ use Rattle.board_answers.specs.Answered.{returned}
 use Rattle.jobboard_report.specs.Report.{results}
 use Rattle.jobboard.specs.Desk.{Reported}
 use Rattle.jobboard.proofs.Contracts.{blank-reports, check-reports, arrival-reports, closing-reports, levelling-reports, level-check-reports, load-reports, heaviest-reports, tight-set-reports}
-use Rattle.jobboard_runs.specs.Seen.{Seen, Called, byArrival, byClosing, byLevelling, byLoad, byHeaviest, byTightSet, byCheck, byLevelCheck, CallsMade, ReportedEach, lastTable, CStarted, byBlank, byLevel, CClaim}
+use Rattle.jobboard_runs.specs.CCalls.{Observed, Called, byArrival, byClosing, byLevelling, byLoad, byHeaviest, byTightSet, byCheck, byLevelCheck, CallsMade, ReportedEach, lastTable, CStarted, byBlank, byLevel, CClaim}
 use Rattle.jobboard_runs.proofs.Done.{level-start}
 
 -- each C call reports the defined outcome
-pub called-reported : (c : Call) (t : List ℕ) (v : Seen) → Called c t v → Reported (outcome c t) (v .number) (v .table) (v .beside) (v .before) (v .after)
+pub called-reported : (c : Call) (t : List ℕ) (v : Observed) → Called c t v → Reported (outcome c t) (v .number) (v .table) (v .beside) (v .before) (v .after)
 called-reported c t v (byArrival κs a r s p) = arrival-reports κs a r s p
 called-reported c t v (byClosing κs a r s p) = closing-reports κs a r s p
 called-reported c t v (byLevelling κs a r s p) = levelling-reports κs a r s p
@@ -32,8 +32,8 @@ called-reported c t v (byTightSet κs a r s p) = tight-set-reports κs a r s p
 called-reported c t v (byCheck κs a r s p) = check-reports κs a r s p
 called-reported c t v (byLevelCheck κs a r s p) = level-check-reports κs a r s p
 
--- call by call, what is seen is the definition's run ..
-reported-each : (t : List ℕ) (cs : List Call) (vs : List Seen) → CallsMade t cs vs → ReportedEach (run t cs) vs
+-- call by call, what is observed is the definition's run ..
+reported-each : (t : List ℕ) (cs : List Call) (vs : List Observed) → CallsMade t cs vs → ReportedEach (run t cs) vs
 reported-each t [] [] m = tt
 reported-each t [] (v ∷ vs) m = absurd m
 reported-each t (c ∷ cs) [] m = absurd m
@@ -42,7 +42,7 @@ reported-each t (c ∷ cs) (v ∷ vs) m =
     (r, subst (λ (u : List ℕ). ReportedEach (run u cs) vs) (r .bytes) (reported-each (v .table) cs vs (m .1)))
 
 -- .. and the table in the end is that run's
-last-table : (t : List ℕ) (cs : List Call) (vs : List Seen) → CallsMade t cs vs → lastTable t vs ≡ tableAfter t (run t cs)
+last-table : (t : List ℕ) (cs : List Call) (vs : List Observed) → CallsMade t cs vs → lastTable t vs ≡ tableAfter t (run t cs)
 last-table t [] [] m = refl
 last-table t [] (v ∷ vs) m = absurd m
 last-table t (c ∷ cs) [] m = absurd m
@@ -50,7 +50,7 @@ last-table t (c ∷ cs) (v ∷ vs) m =
     last-table (v .table) cs vs (m .1) ∙ ap (λ (u : List ℕ). tableAfter u (run u cs)) ((called-reported c t v (m .0)) .bytes)
 
 -- demand 3: whatever C calls are made, in whatever order
-pub c-demand-3 : (t : List ℕ) (k : Book) → Start t k → (cs : List Call) (vs : List Seen) → CallsMade t cs vs → CClaim t k cs vs
+pub c-demand-3 : (t : List ℕ) (k : Book) → Start t k → (cs : List Call) (vs : List Observed) → CallsMade t cs vs → CClaim t k cs vs
 c-demand-3 t k s cs vs m =
     record { claim = run-claim t k s cs; reported = reported-each t cs vs m; table = last-table t cs vs m }
 
@@ -71,11 +71,11 @@ pub c-starts : (t : List ℕ) (k : Book) → CStarted t k → Start t k
 unfolding asked accepted
 c-starts t k (byBlank κs a r s p z) =
     let o = blank-reports κs a r s p in
-    let n = zero-accepted ((blanking (a .1 .0) (a .1 .1 .0) (a .0 .now)) .answer) (sym (o .number) ∙ z) in
+    let n = zero-accepted ((blanking (a .1 .0) (a .1 .1 .0) (a .0 .now)) .answer) (sym (o .delivered .number) ∙ z) in
     subst (λ (u : List ℕ). Start u (replicate (a .1 .1 .0) [])) (sym (o .bytes)) (blanking-starts (a .1 .0) (a .1 .1 .0) (a .0 .now) (blanking-fits (a .1 .0) (a .1 .1 .0) (a .0 .now) n))
 c-starts t k (byLevel κs a r s p z e) =
     let o = level-check-reports κs a r s p in
     let u = a .0 .now in
-    let n = zero-accepted ((outcome (ask levelCheck []) u) .answer) (sym (o .number) ∙ z) in
+    let n = zero-accepted ((outcome (ask levelCheck []) u) .answer) (sym (o .delivered .number) ∙ z) in
     let is = ap (λ o. o .answer) ((accepted-by (ask levelCheck []) u n) .1) in
-    level-start u (is ∙ one-level (level (decode u)) (a .1 .0 .now) (s .1 .0 .now) (o .values ∙ ap (λ b. results b (a .1 .0 .now ∷ [])) is) e)
+    level-start u (is ∙ one-level (level (decode u)) (a .1 .0 .now) (s .1 .0 .now) (o .delivered .values ∙ ap (λ b. results b (a .1 .0 .now ∷ [])) is) e)
