@@ -113,8 +113,9 @@ fn special(benches: usize, jobs: usize, random: &mut Random) -> [Trial; 4] {
     let back = boards::long_path_back(benches, jobs);
     let heap = boards::heap(benches, jobs, jobs);
     let disordered = disordered(&level(PAIRS, benches, jobs, random), random);
+    let as_stored = vec![vec![Call::FormCheck], vec![tightest(&disordered)]];
     [
-        ("random pairs, chains in no order".into(), disordered, vec![vec![Call::FormCheck]]),
+        ("random pairs, chains in no order".into(), disordered, as_stored),
         ("long path".into(), path, along),
         ("long path back".into(), back, vec![vec![closing_moving(benches - 1)]]),
         ("all jobs on bench 1".into(), heap, vec![vec![Call::Levelling(u32::MAX)]]),
