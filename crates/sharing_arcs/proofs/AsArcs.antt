@@ -15,7 +15,6 @@ use Rattle.spec_table.specs.Table.{mostBenches, mostJobs, decode}
 use Rattle.spec_sharing.specs.Paths.{Step, stepBy, steps, endOf, Walk}
 use Rattle.spec_lists.proofs.Tests.{T→true, within-low, within-high, within-both}
 use Rattle.spec_lists.proofs.Elements.{is-empty, some-in, each-nth, two-elements, in-enumerate, enumerate-nth}
-use Rattle.spec_lists.proofs.NumberLists.{length-values}
 use Rattle.spec_table.proofs.Named.{length-shares, pair-fits}
 use Rattle.spec_lists.proofs.Counting.{count-none, count-most}
 use Rattle.spec_sharing.proofs.Distances.{storable-one-other}
@@ -161,23 +160,20 @@ load-beyond t s x k l = count-none x ((decode t) .holders) never
 
 -- the loads of a board are loads of its size ..
 pub loads-in : {t : List ℕ} {s : Size} {loads : List ℕ} → HoldsBoard t s → Loaded (decode t) loads → LoadsIn s loads
-loads-in {t} {s} {loads} k l = record { most = most; beyond = beyond; long = long }
+loads-in {t} {s} {loads} k l = record { most = most; beyond = beyond; long = l .long }
   where
-    long : length loads ≡ mostBenches + 1
-    long = rw (l .whole) (length-values (load ((decode t) .holders)) 0 (mostBenches + 1))
-
     -- what stands at x is the load of x, or 0
-    at-load : (P : ℕ → Type 0) (x : ℕ) → P (load ((decode t) .holders) x) → P 0 → P (at loads x)
-    at-load P x p z = elim (decLe x mostBenches) [
-      | yes h ↦ rw (l .bench x h) p
-      | no h ↦ rw (List·getD-eq-default loads 0 {n = x} (omega (arith, long))) z
+    at-load : (P : ℕ → Type 0) (x : ℕ) → 1 ≤ x → P (load ((decode t) .holders) x) → P 0 → P (at loads x)
+    at-load P x i p z = elim (decLe x mostBenches) [
+      | yes h ↦ rw (l .bench x i h) p
+      | no h ↦ rw (List·getD-eq-default loads 0 {n = x} (omega (arith, l .long))) z
     ]
 
     most : (x : ℕ) → 1 ≤ x → at loads x ≤ s .jobs
-    most x h = at-load (λ n. n ≤ s .jobs) x (omega (arith, count-most x ((decode t) .holders), holders-long k)) (omega arith)
+    most x h = at-load (λ n. n ≤ s .jobs) x h (omega (arith, count-most x ((decode t) .holders), holders-long k)) (omega arith)
 
     beyond : (x : ℕ) → s .benches < x → at loads x ≡ 0
-    beyond x h = at-load (λ n. n ≡ 0) x (load-beyond t s x k h) refl
+    beyond x h = at-load (λ n. n ≡ 0) x (omega arith) (load-beyond t s x k h) refl
 
 -- .. so none is above the most jobs
 pub loads-keys : {t : List ℕ} {s : Size} {loads : List ℕ} → HoldsBoard t s → Loaded (decode t) loads → KeysIn s loads
@@ -190,7 +186,7 @@ module _ {t : List ℕ} {s : Size} (holdsBoard : HoldsBoard t s) where
 
   -- .. and its load stands at its number
   pub load-at : {loads : List ℕ} {x : ℕ} → Loaded (decode t) loads → BenchIn s x → at loads x ≡ load ((decode t) .holders) x
-  load-at {x = x} l i = l .bench x (omega (arith, i .most, holdsBoard .size .limits .benches-most))
+  load-at {x = x} l i = l .bench x (i .least) (omega (arith, i .most, holdsBoard .size .limits .benches-most))
 
 -- jobs and steps
 

@@ -4,15 +4,14 @@ use native.Mathlib.Omega.{arith}
 use native.Mathlib.Numerals.{add-one}
 use mathlib.Core.Path.{_≡_, refl, sym, _∙_}
 use mathlib.Core.Bool.{Bool}
-use mathlib.Core.List.{List, [], _∷_, map}
+use mathlib.Core.List.{List, [], _∷_}
 use lib.Dec.{eqb}
 use lib.ListN.{length, getD, take, set, replicate, length-set, length-replicate, getD-replicate}
 use lib.Seq.{length-take-le, take-all, take-suc, getD-set-same, getD-set-other}
-use Rattle.spec_lists.specs.Lists.{bit, range, nth}
+use Rattle.spec_lists.specs.Lists.{bit, nth}
 use Rattle.spec_table.specs.Board.{Board, load}
 use Rattle.spec_table.specs.Table.{mostBenches, decode}
 use Rattle.spec_lists.proofs.Tests.{Compared, same, other, compared}
-use Rattle.spec_lists.proofs.NumberLists.{values-same}
 use Rattle.spec_table.proofs.Named.{length-shares}
 use Rattle.spec_lists.proofs.Counting.{bit-same, bit-other, count-most, count-append}
 use Rattle.table_board.specs.BoardView.{HoldsBoard, Loaded}
@@ -55,13 +54,9 @@ module _ {n : ℕ} {holders : List ℕ} {done : ℕ} {loads : List ℕ} where
   count-all : Counted n holders done loads → length holders ≤ done → (x : ℕ) → x < n → getD loads x 0 ≡ load holders x
   count-all c h x l = rw (take-all done holders h) at (c .held x l)
 
-  -- .. so they are the loads, as one list ..
-  count-whole : Counted n holders done loads → length holders ≤ done → loads ≡ map (load holders) (range 0 n)
-  count-whole c h = values-same (load holders) 0 n loads 0 (c .long) (λ x l. let e : 0 + x ≡ x = omega arith in rw e (count-all c h x l))
-
 -- .. and as the contract says it
 pub count-end : {b : Board} {done : ℕ} {loads : List ℕ} → Counted (mostBenches + 1) (b .holders) done loads → length (b .holders) ≤ done → Loaded b loads
-count-end c h = record { whole = count-whole c h; bench = λ x l. count-all c h x (omega arith) }
+count-end c h = record { long = c .long; bench = λ x l u. count-all c h x (omega arith) }
 
 module _ {t : List ℕ} {s : Size} (k : HoldsBoard t s) where
   -- a holder for each job number

@@ -1,10 +1,10 @@
 -- The table as the crate above sees it: a board, and what each promise says of it.
 use Prim.Native.Nat.{ℕ, _+_, _≤_}
 use mathlib.Core.Path.{_≡_}
-use mathlib.Core.List.{List, map}
+use mathlib.Core.List.{List}
 use lib.Dec.{T}
 use lib.ListN.{length, getD}
-use Rattle.spec_lists.specs.Lists.{member, range, In, nth}
+use Rattle.spec_lists.specs.Lists.{member, In, nth}
 use Rattle.spec_table.specs.Board.{Board, namesOf, holderOf, load, namesFit}
 use Rattle.spec_table.specs.Table.{mostBenches, decode, Storable}
 use Rattle.table_size.specs.Sizes.{SizeOf, JobIn, BenchIn}
@@ -44,7 +44,7 @@ pub record Fillable (s : Size) (j : ℕ) (names : List ℕ) (h : ℕ) : Type 0 w
   pub fit : T (namesFit (s .benches) names)
   pub held : T (member h names)
 
--- at each bench its load, at 0 the number of job numbers that do not stand
+-- at each bench its load, which is 0 beyond the last bench
 pub record Loaded (b : Board) (loads : List ℕ) : Type 0 where
-  pub whole : loads ≡ map (load (b .holders)) (range 0 (mostBenches + 1))
-  pub bench : (x : ℕ) → x ≤ mostBenches → getD loads x 0 ≡ load (b .holders) x
+  pub long : length loads ≡ mostBenches + 1
+  pub bench : (x : ℕ) → 1 ≤ x → x ≤ mostBenches → getD loads x 0 ≡ load (b .holders) x

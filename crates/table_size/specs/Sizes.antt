@@ -1,10 +1,10 @@
 -- Sizes within the limits, and the size of a table.
-use Prim.Native.Nat.{ℕ, _≤_}
+use Prim.Native.Nat.{ℕ, _+_, _≤_, _<_}
 use mathlib.Core.Path.{_≡_}
 use mathlib.Core.Bool.{Bool, true, false, cond, _&&_}
 use mathlib.Core.List.{List, [], _∷_}
 use lib.Dec.{T}
-use lib.ListN.{length}
+use lib.ListN.{length, getD}
 use Rattle.spec_lists.specs.Lists.{within}
 use Rattle.spec_table.specs.Table.{mostBenches, mostJobs, lengthFor, fits, sound, decode, Storable}
 use Rattle.spec_calls.specs.Answers.{refusalNumber, sizes}
@@ -62,6 +62,11 @@ pub record JobIn (s : Size) (j : ℕ) : Type 0 where
 pub record BenchIn (s : Size) (x : ℕ) : Type 0 where
   pub least : 1 ≤ x
   pub most : x ≤ s .benches
+
+-- numbers by bench, 0 beyond the last bench
+pub record ByBench (s : Size) (numbers : List ℕ) : Type 0 where
+  pub long : length numbers ≡ mostBenches + 1
+  pub beyond : (x : ℕ) → s .benches < x → getD numbers x 0 ≡ 0
 
 -- a sound table of size s
 pub record SoundTable (t : List ℕ) (s : Size) : Type 0 where
