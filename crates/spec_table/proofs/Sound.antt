@@ -12,7 +12,7 @@ use Rattle.spec_lists.specs.Lists.{filter, bit, within, count, Each, In, empty,
 use Rattle.spec_table.specs.Board.{holderOf, stands, standing, Shares, mayHold, namesFit}
 use Rattle.spec_table.specs.Table.{paired, words, mostJobs, Entry, vacant, filled, holderIn, Layout, entriesIn, layout, follow, chains, entryFits, placed, fits, sound, boardOf, decode, entryWords, Storable}
 use Rattle.spec_lists.proofs.Tests.{true→T, both, left, right, or-right, Compared, same, other, compared, T-eqb, eqb-T, within-low, within-high}
-use Rattle.spec_lists.proofs.Elements.{two-elements, in-right, all-in, each-in, in-getD, in-nth, in-enumerate, in-enumerate-nth, enumerate-nth, in-map, nth-map, each-map}
+use Rattle.spec_lists.proofs.Elements.{two-elements, in-right, all-in, each-in, each-nth, in-getD, in-nth, in-enumerate, in-enumerate-nth, enumerate-nth, in-map, nth-map, each-map}
 use Rattle.spec_lists.proofs.NumberLists.{in-member, Member, is-in, not-in, membered}
 use Rattle.spec_table.proofs.Named.{pair-fits}
 use Rattle.spec_lists.proofs.Counting.{bit-le, bit-same, bit-other, count-none, count-some, few, filter-counts}
@@ -82,14 +82,14 @@ pub layout-pairs : (ws : List ℕ) → Each (λ (e : Entry). length (e .names) �
 unfolding layout
 layout-pairs ws = entriesIn-pairs (drop (4 + getD ws 0 0) ws)
 
--- a sound table holds a board of two-bench jobs within the limits
-pub sound-storable : (t : List ℕ) → T (sound t) → Storable (decode t)
+-- a table whose sizes fit, and whose filled records do, holds a board of two-bench jobs within the limits ..
+pub fit-storable : (t : List ℕ) → T (fits t) → ((e : Entry) → In e ((layout (words t)) .entries) → T (filled e) → T (entryFits ((layout (words t)) .benches) e)) → Storable (decode t)
 unfolding decode boardOf
-sound-storable t s =
+fit-storable t f fit =
     record {
       valid = record { names = each-map (λ n. T (namesFit (l .benches) n)) namesIn es (λ e i. (job e i) .fit); shares = shared es (λ e i. (job e i) .held) };
       benches = size .benches-within;
-      jobs = subst (λ (n : ℕ). T (within 1 mostJobs n)) (sym (length-map es namesIn ∙ fits-entries t (sound-fits t s))) (size .jobs-within);
+      jobs = subst (λ (n : ℕ). T (within 1 mostJobs n)) (sym (length-map es namesIn ∙ fits-entries t f)) (size .jobs-within);
       pairs = each-map (λ n. T (empty n || eqb (length n) 2)) namesIn es (λ e i. (job e i) .pair);
     }
   where
@@ -100,10 +100,14 @@ sound-storable t s =
     es = l .entries
 
     size : Sized (length t) (l .benches) (l .jobs)
-    size = fits-sized t (sound-fits t s)
+    size = fits-sized t f
 
     job : (e : Entry) → In e es → Job (l .benches) (namesIn e) (holderIn e)
-    job e i = entry-job (l .benches) e (each-in (λ (e : Entry). length (e .names) ≡ 2) e es (layout-pairs (words t)) i) ((sound-formed t s) .entry e i)
+    job e i = entry-job (l .benches) e (each-in (λ (e : Entry). length (e .names) ≡ 2) e es (layout-pairs (words t)) i) (fit e i)
+
+-- .. and so does a sound table
+pub sound-storable : (t : List ℕ) → T (sound t) → Storable (decode t)
+sound-storable t s = fit-storable t (sound-fits t s) ((sound-formed t s) .entry)
 
 -- chains
 
@@ -186,18 +190,24 @@ same-standing i (e ∷ es) f =
     let jobs = filter-counts (λ (n : List ℕ). not (empty n)) (namesIn e) (map namesIn es) in
     omega (arith, standing-first i e es, jobs, ap bit (f e (inl refl)), same-standing (suc i) es (λ x k. f x (inr k)))
 
--- a record names benches on a sound table's board exactly if it is filled
-named-filled : (t : List ℕ) → T (sound t) → (e : Entry) → (T (filled e) → In e ((layout (words t)) .entries)) → not (empty (namesIn e)) ≡ filled e
-named-filled t s e i = go (filled e) refl
+-- a record names benches on the board exactly if it is filled
+named-filled : (e : Entry) → length (e .names) ≡ 2 → not (empty (namesIn e)) ≡ filled e
+named-filled e two = go (filled e)
   where
-    go : (z : Bool) → filled e ≡ z → not (empty (cond z (e .names) [])) ≡ z
-    go true d = let f = true→T (filled e) d in rw ((standing-record t s e (i f) f) .names) refl
-    go false d = refl
+    go : (z : Bool) → not (empty (cond z (e .names) [])) ≡ z
+    go true = rw (two-elements (e .names) two .2) refl
+    go false = refl
 
--- "number of standing jobs": word 2 is the board's
-pub standing-word : (t : List ℕ) → T (sound t) → (layout (words t)) .standing ≡ standing (decode t)
+-- the filled records of a table are as many as its board's standing jobs ..
+pub standing-count : (t : List ℕ) → length (standingFrom 1 ((layout (words t)) .entries)) ≡ standing (decode t)
 unfolding decode boardOf
-standing-word t s = (sound-formed t s) .standing ∙ same-standing 1 ((layout (words t)) .entries) (λ e i. named-filled t s e (λ f. i))
+standing-count t =
+    let es = (layout (words t)) .entries in
+    same-standing 1 es (λ e i. named-filled e (each-in (λ (e : Entry). length (e .names) ≡ 2) e es (layout-pairs (words t)) i))
+
+-- .. and that is the "number of standing jobs" of a sound table's word 2
+pub standing-word : (t : List ℕ) → T (sound t) → (layout (words t)) .standing ≡ standing (decode t)
+standing-word t s = (sound-formed t s) .standing ∙ standing-count t
 
 -- how often a placed job is on a chain with its number ..
 enumerate-placed : (cs : List (List ℕ)) (j h : ℕ) → T (placed cs j h) → (s : ℕ × List ℕ) → In s (enumerate 1 cs) → count j (s .1) ≡ bit (eqb (s .0) h)
@@ -280,7 +290,7 @@ pub stands-record : (t : List ℕ) → T (sound t) → (j : ℕ) → stands (dec
 unfolding decode boardOf
 stands-record t s j =
     let es = (layout (words t)) .entries in
-    ap (λ (n : List ℕ). not (empty n)) (nth-map namesIn es j vacant) ∙ named-filled t s (nth es j vacant) (filled-in es j)
+    ap (λ (n : List ℕ). not (empty n)) (nth-map namesIn es j vacant) ∙ named-filled (nth es j vacant) (each-nth (λ (e : Entry). length (e .names) ≡ 2) es j vacant refl (layout-pairs (words t)))
 
 -- a job is on bench x's chain exactly if it stands and x holds it
 pub on-chain : (t : List ℕ) → T (sound t) → (j x : ℕ) → 1 ≤ x → x ≤ (decode t) .benches → In j (nth (chains (layout (words t))) x []) ↔ (T (stands (decode t) j) × (holderOf (decode t) j ≡ x))

@@ -109,7 +109,7 @@ stage-none l =
     rw (take-length es, drop-length es) (λ i. withBoth l (heads i) (entries i))
 
 -- what is held by a bench of 1 to B is put at the front of its chain
-push-some : (l : Layout) (j x : ℕ) → 1 ≤ x → pushFor l j x ≡ pushAt l j x
+pub push-some : (l : Layout) (j x : ℕ) → 1 ≤ x → pushFor l j x ≡ pushAt l j x
 push-some l j zero u = absurd (omega arith)
 push-some l j (suc x) u = refl
 

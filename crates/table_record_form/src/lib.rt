@@ -8,7 +8,7 @@ use table_records::Record;
 use table_size::Size;
 
 // What a record is.
-enum Kind {
+pub enum Kind {
     Vacant,
     Fitting,
     Unfit,

@@ -1,0 +1,221 @@
+-- The pass, job by job, and what it shows at its end.
+use Prim.Native.Nat.{ℕ, suc, _+_, _≤_, _<_}
+use native.Mathlib.Omega.{arith}
+use native.Mathlib.Numerals.{add-one}
+use mathlib.Core.Path.{_≡_, refl, sym, ap, subst, _∙_}
+use mathlib.Core.Bool.{Bool, true, false}
+use mathlib.Core.List.{List, map}
+use lib.Dec.{T}
+use lib.ListN.{length, getD, set, drop, replicate, length-map, length-set, length-replicate, getD-replicate}
+use lib.Seq.{getD-set-same, getD-set-other}
+use Rattle.spec_lists.specs.Lists.{In, nth, update}
+use Rattle.spec_lists.proofs.Tests.{true→T, Compared, same, other, compared}
+use Rattle.spec_lists.proofs.Elements.{each-nth, each-getD, each-replicate, length-update, nth-update-same, nth-update-other}
+use Rattle.spec_lists.proofs.NumberLists.{length-values, nth-range, values-same}
+use Rattle.spec_table.specs.Board.{standing}
+use Rattle.spec_table.specs.Table.{mostBenches, words, Entry, vacant, filled, holderIn, entryFits, Layout, layoutOf, boardOf, decode}
+use Rattle.spec_table.proofs.Sound.{fit-storable, standingFrom, standing-count, layout-pairs, two-benches, holder-within, holder-record, not-held}
+use Rattle.table_words.specs.Bytes.{layoutIn}
+use Rattle.table_size.specs.Sizes.{SizeOf, BenchIn, ByBench}
+use Rattle.table_size.specs.Written.{recordIn, withHeads, withStanding, cleared}
+use Rattle.table_size.specs.declared.Size.{Size}
+use Rattle.table_size.proofs.Sizes.{entries-long, heads-long}
+use Rattle.table_board.specs.BoardView.{HoldsBoard}
+use Rattle.table_record_form.specs.Kinds.{kindIf, kindOf, byKind, counted}
+use Rattle.table_record_form.specs.declared.Kind.the-variants.{Vacant, Fitting}
+use Rattle.table_record_form.specs.declared.Seen.the-variants.{Jobs}
+use Rattle.table_record_form.proofs.Counted.{AllFit, count-step, count-end, counted-seen}
+use Rattle.table_chains.specs.Chains.{pushed, pushedFrom}
+use Rattle.table_chains.proofs.Rebuilding.{rebuild-layout, rebuild-bytes}
+use Rattle.table_rising.specs.Passing.{dueHeads, Passed, Rising}
+use Rattle.table_rising.proofs.Undoing.{undo-vacant, undo-standing}
+use Rattle.table_rising.proofs.LoadCounts.{LoadsTo, loads-start, loads-turn, loads-pass, loads-end}
+
+-- due jobs as heads
+
+-- a list with the same job at each bench
+due-heads : (s : Size) (due heads : List ℕ) → length heads ≡ s .benches → ((x : ℕ) → BenchIn s x → nth heads x 0 ≡ getD due x 0) → heads ≡ dueHeads s due
+due-heads s due heads e f =
+    values-same (λ x. getD due x 0) 1 (s .benches) heads 0 e (λ k l. f (suc k) (record { least = omega arith; most = l }) ∙ ap (λ (x : ℕ). getD due x 0) (omega arith))
+
+-- another job due at a bench
+due-set : (s : Size) (due : List ℕ) (x n : ℕ) → BenchIn s x → x < length due → update (dueHeads s due) x n ≡ dueHeads s (set due x n)
+due-set s due x n b l = due-heads s (set due x n) (update old x n) (length-update old x n ∙ long) (λ y i. go y i (compared x y))
+  where
+    old : List ℕ
+    old = dueHeads s due
+
+    long : length old ≡ s .benches
+    long = length-values (λ y. getD due y 0) 1 (s .benches)
+
+    go : (y : ℕ) → BenchIn s y → {z : Bool} → Compared x y z → nth (update old x n) y 0 ≡ getD (set due x n) y 0
+    go y i (same e) = rw (← e) (nth-update-same old x n 0 (b .least) (omega (arith, long, b .most)) ∙ sym (getD-set-same due x n 0 l))
+    go y i (other d) =
+        nth-update-other old x y n 0 (λ e. d (sym e))
+        ∙ nth-range (λ z. getD due z 0) (s .benches) y 0 (i .least) (i .most)
+        ∙ sym (getD-set-other due x y n 0 (λ e. d (sym e)))
+
+-- no job due at any
+due-none : (s : Size) (due : List ℕ) → ((x : ℕ) → BenchIn s x → getD due x 0 ≡ 0) → replicate (s .benches) 0 ≡ dueHeads s due
+due-none s due z = due-heads s due (replicate (s .benches) 0) (length-replicate {A = ℕ} (s .benches) 0) (λ x b. each-nth (λ n. n ≡ 0) (replicate (s .benches) 0) x 0 refl (each-replicate (λ n. n ≡ 0) (s .benches) 0 refl) ∙ sym (z x b))
+
+-- records
+
+-- a vacant record is no job's ..
+kind-vacant : (benches : ℕ) (e : Entry) → kindOf benches e ≡ Vacant → holderIn e ≡ 0
+unfolding kindOf
+kind-vacant benches e q = go (filled e) refl (entryFits benches e) q
+  where
+    go : (y : Bool) → filled e ≡ y → (z : Bool) → kindIf y z ≡ Vacant → holderIn e ≡ 0
+    go false p z k = not-held e p
+    go true p true k = absurd (true→T false cc)
+    go true p false k = absurd (true→T false cc)
+
+-- .. and a fitting one's holder is a bench
+kind-bench : (t : List ℕ) (s : Size) (j : ℕ) → kindOf (s .benches) (recordIn t j) ≡ Fitting → BenchIn s (holderIn (recordIn t j))
+unfolding kindOf
+kind-bench t s j q = go (filled e) (entryFits (s .benches) e) refl q
+  where
+    e : Entry
+    e = recordIn t j
+
+    go : (y z : Bool) → entryFits (s .benches) e ≡ z → kindIf y z ≡ Fitting → BenchIn s (holderIn e)
+    go false z p k = absurd (true→T false cc)
+    go true false p k = absurd (true→T false cc)
+    go true true p k =
+        let pair = each-nth (λ (e : Entry). length (e .names) ≡ 2) ((layoutIn t) .entries) j vacant refl (layout-pairs (words t)) in
+        let h = holder-within (s .benches) e (two-benches (s .benches) e pair (true→T (entryFits (s .benches) e) p)) in
+        record { least = h .0; most = h .1 }
+
+-- the pass
+
+-- a table has a holder for each job number
+holders-long : (t : List ℕ) (s : Size) → SizeOf t s → length ((decode t) .holders) ≡ s .jobs
+unfolding decode boardOf
+holders-long t s z = length-map ((layoutIn t) .entries) holderIn ∙ entries-long t s z
+
+-- the first `done` jobs were met, `count` of which stand: pushed again, from the jobs that are due now, they give the table's own chains
+pub record Meeting (t : List ℕ) (s : Size) (due loads : List ℕ) (count done : ℕ) : Type 0 where
+  pub few : count ≤ done
+  pub long : length due ≡ mostBenches + 1
+  pub chains : pushedFrom done (withHeads (layoutIn t) (dueHeads s due)) ≡ layoutIn t
+  pub records : counted (s .benches) count (drop done ((layoutIn t) .entries)) ≡ counted (s .benches) 0 ((layoutIn t) .entries)
+  pub loaded : LoadsTo ((decode t) .holders) done loads
+  pub beyond : (x : ℕ) → s .benches < x → getD loads x 0 ≡ 0
+
+-- none was met: each chain's first job is due ..
+pub meeting-start : {t : List ℕ} {s : Size} {due loads : List ℕ} → length due ≡ mostBenches + 1 → (layoutIn t) .heads ≡ dueHeads s due → loads ≡ replicate (mostBenches + 1) 0 → Meeting t s due loads 0 0
+meeting-start {t} {s} {due} {loads} l e z =
+    record {
+      few = omega arith;
+      long = l;
+      chains = ap (withHeads (layoutIn t)) (sym e);
+      records = refl;
+      loaded = rw z (loads-start ((decode t) .holders));
+      beyond = λ x b. rw z (each-getD (λ n. n ≡ 0) (replicate (mostBenches + 1) 0) x 0 refl (each-replicate (λ n. n ≡ 0) (mostBenches + 1) 0 refl));
+    }
+
+module _ {t : List ℕ} {s : Size} {due loads : List ℕ} {count done : ℕ} (z : SizeOf t s) (m : Meeting t s due loads count done) (d : done < s .jobs) where
+  abbrev e : Entry
+  e = recordIn t (done + 1)
+
+  -- what the next record does to the count
+  step : byKind (kindOf (s .benches) e) (counted (s .benches) count (drop (done + 1) ((layoutIn t) .entries))) (counted (s .benches) (count + 1) (drop (done + 1) ((layoutIn t) .entries))) ≡ counted (s .benches) 0 ((layoutIn t) .entries)
+  step = sym (count-step (s .benches) count done ((layoutIn t) .entries) e refl (omega (arith, entries-long t s z))) ∙ m .records
+
+  fewer : done < length ((decode t) .holders)
+  fewer = omega (arith, holders-long t s z)
+
+  -- .. a record that is no job's leaves all as it was ..
+  pub meeting-pass : kindOf (s .benches) e ≡ Vacant → Meeting t s due loads count (done + 1)
+  meeting-pass k =
+      record {
+        few = omega (arith, m .few);
+        long = m .long;
+        chains = rw add-one (ap (pushedFrom done) (undo-vacant (layoutIn t) (suc done) (dueHeads s due) (rw add-one at (kind-vacant (s .benches) e k))) ∙ m .chains);
+        records = rw k at step;
+        loaded = loads-pass (m .loaded) fewer (sym (holder-record t (done + 1) ∙ kind-vacant (s .benches) e k));
+        beyond = m .beyond;
+      }
+
+  -- .. a job that fits and is due at its holder h is met: the next job on that chain is due then, and h has one more ..
+  pub meeting-turn : (h : ℕ) → h ≡ holderIn e → kindOf (s .benches) e ≡ Fitting → getD due h 0 ≡ done + 1 → Meeting t s (set due h (e .next)) (set loads h (getD loads h 0 + 1)) (count + 1) (done + 1)
+  meeting-turn h q k u =
+      record {
+        few = omega (arith, m .few);
+        long = length-set due h (e .next) ∙ m .long;
+        chains = ap (λ (k : ℕ). pushedFrom k met) (add-one done) ∙ ap (pushedFrom done) undone ∙ m .chains;
+        records = rw k at step;
+        loaded = loads-turn (m .loaded) h fewer (q ∙ sym (holder-record t (done + 1))) (bench .least) (omega (arith, bench .most, z .limits .benches-most));
+        beyond = λ x l. getD-set-other loads h x (getD loads h 0 + 1) 0 (λ i. omega (arith, bench .most)) ∙ m .beyond x l;
+      }
+    where
+      bench : BenchIn s h
+      bench = subst (BenchIn s) (sym q) (kind-bench t s (done + 1) k)
+
+      heads : List ℕ
+      heads = dueHeads s due
+
+      many : length heads ≡ s .benches
+      many = length-values (λ x. getD due x 0) 1 (s .benches)
+
+      due-here : nth heads h 0 ≡ done + 1
+      due-here = nth-range (λ x. getD due x 0) (s .benches) h 0 (bench .least) (bench .most) ∙ u
+
+      -- the layout with the jobs that are due then as heads
+      met : Layout
+      met = withHeads (layoutIn t) (dueHeads s (set due h (e .next)))
+
+      after : Layout
+      after = withHeads (layoutIn t) (update heads h (e .next))
+
+      undone : pushed (suc done) met ≡ withHeads (layoutIn t) heads
+      undone =
+          ap (λ (l : List ℕ). pushed (suc done) (withHeads (layoutIn t) l)) (sym (due-set s due h (e .next) bench (omega (arith, m .long, bench .most, z .limits .benches-most))))
+          ∙ ap (λ (j : ℕ). pushed j after) (sym (add-one done))
+          ∙ undo-standing (layoutIn t) (done + 1) h heads (sym q) (bench .least) (omega (arith, many, bench .most)) due-here
+
+-- .. and in the end all are met
+pub meeting-end : {t : List ℕ} {s : Size} {due loads : List ℕ} {count done : ℕ} → SizeOf t s → Meeting t s due loads count done → s .jobs ≤ done → Passed t s due loads count
+meeting-end {t} {s} {due} {loads} {count} {done} z m l =
+    record {
+      chains = subst (λ (n : ℕ). pushedFrom n (withHeads (layoutIn t) (dueHeads s due)) ≡ layoutIn t) all (m .chains);
+      records = sym (m .records) ∙ sym (count-end (s .benches) count done ((layoutIn t) .entries) (omega (arith, entries-long t s z)));
+      loaded = loads-end (m .loaded) (omega (arith, holders-long t s z));
+    }
+  where
+    all : done ≡ s .jobs
+    all = omega (arith, m .loaded .most, holders-long t s z)
+
+-- the end
+
+-- all jobs were met and none is due: the layout is that of the board ..
+module _ {t : List ℕ} {s : Size} {due loads : List ℕ} {n : ℕ} (z : SizeOf t s) (p : Passed t s due loads n) (none : (x : ℕ) → BenchIn s x → getD due x 0 ≡ 0) (standing-word : (layoutIn t) .standing ≡ n) (spare : (layoutIn t) .spare ≡ 0) where
+  -- the filled records fit, and are n
+  seen : AllFit (s .benches) ((layoutIn t) .entries) × (n ≡ 0 + length (standingFrom 1 ((layoutIn t) .entries)))
+  seen = counted-seen (s .benches) 0 1 ((layoutIn t) .entries) n (p .records)
+
+  holds : HoldsBoard t s
+  holds = record { size = z; storable = fit-storable t (z .fit) (subst (λ (b : ℕ). (e : Entry) → In e ((layoutIn t) .entries) → T (filled e) → T (entryFits b e)) (sym (z .benches)) (seen .0)) }
+
+  -- no chain has a job before the first is pushed
+  emptied : withHeads (layoutIn t) (dueHeads s due) ≡ cleared (layoutIn t)
+  emptied = ap (withHeads (layoutIn t)) (sym (due-none s due none) ∙ ap (λ (b : ℕ). replicate b 0) (sym (z .benches)))
+
+  count : n ≡ standing (decode t)
+  count = omega (arith, seen .1, standing-count t)
+
+  laid : layoutIn t ≡ layoutOf (decode t)
+  laid =
+      (λ i. record { benches = l .benches; jobs = l .jobs; standing = (standing-word ∙ count) i; spare = spare i; heads = l .heads; entries = l .entries })
+      ∙ ap (λ (m : Layout). withStanding m (standing (decode t))) (sym (p .chains) ∙ ap (pushedFrom (s .jobs)) emptied)
+      ∙ rebuild-layout t s holds
+    where
+      l : Layout
+      l = layoutIn t
+
+  -- .. so the bytes are, too
+  pub passed-rising : ((i : ℕ) → getD t i 0 < 256) → Rising t s loads
+  passed-rising small =
+      let r = rebuild-bytes t t s holds z small laid in
+      record { bytes = r .bytes; sound = r .sound; loaded = p .loaded }

@@ -1,0 +1,2 @@
+-- What the pass promises.
+pub mod Passing

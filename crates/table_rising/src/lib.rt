@@ -1,0 +1,1 @@
+// The form check in one pass.
