@@ -1,15 +1,15 @@
 -- Sizes within the limits, byte lengths that fit them, and the size of a table.
-use Prim.Native.Nat.{ℕ, _+_, _*_, _<_}
+use Prim.Native.Nat.{ℕ, _+_, _*_, _^_, _%_, _<_}
 use native.Mathlib.Omega.{arith}
 use mathlib.Core.Path.{_≡_, refl, sym, ap, _∙_, subst}
 use mathlib.Core.Bool.{Bool, true, false, cond, _&&_}
 use mathlib.Core.List.{List, [], _∷_}
-use lib.Dec.{T}
+use lib.Dec.{T, ltb, ltb→lt, lt→ltb}
 use lib.ListN.{length, getD, length-map}
 use borrow.Author.Tests.{le-leb}
 use Rattle.spec_lists.specs.Lists.{within}
 use Rattle.spec_table.specs.Table.{words, lengthFor, mostBenches, mostJobs, sizesFit, fits, layout, boardOf, decode}
-use Rattle.spec_lists.proofs.Tests.{true→T, T→true, never→false, left, right, within-low, within-high, within-both}
+use Rattle.spec_lists.proofs.Tests.{true→T, T→true, never→false, left, right, tests-same, within-low, within-high, within-both}
 use Rattle.spec_table.proofs.Words.{within-fit}
 use Rattle.spec_table.proofs.Places.{length-words, misfit, short-refused, fits-sized, fits-heads, fits-entries}
 use Rattle.spec_calls.specs.Answers.{refusalNumber, sizes}
@@ -154,6 +154,11 @@ entries-long t s z = fits-entries t (z .fit) ∙ z .jobs
 
 pub words-long : (t : List ℕ) (s : Size) → SizeOf t s → length (words t) ≡ 4 + s .benches + 4 * s .jobs
 words-long t s z = omega (arith, length-words t)
+
+-- one less than a number, 0 wrapped, is below a limit exactly if the number is 1 to the limit
+pub wrapped-within : (n x r : ℕ) → n < 2 ^ 64 → r < 2 ^ 64 → (r + 1) % 2 ^ 64 ≡ x → ltb r n ≡ within 1 n x
+wrapped-within n x r m l e =
+    tests-same (ltb r n) (within 1 n x) (λ t. let h = ltb→lt r n t in within-both 1 n x (omega arith) (omega arith), λ t. let h = within-low 1 n x t in let k = within-high 1 n x t in lt→ltb r n (omega arith))
 
 -- numbers that pass the tests of a size ..
 pub job-in : (s : Size) (j : ℕ) → T (within 1 (s .jobs) j) → JobIn s j

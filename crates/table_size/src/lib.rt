@@ -69,18 +69,18 @@ impl Size {
         self.jobs
     }
 
-    // Tells whether j is a job number of 1 to J.
+    // Tells whether j is a job number of 1 to J. One comparison: 0 wraps to a number above every limit.
     pub fn has_job(self, j: usize) -> bool
         ensures { λ r. ⌜ r ≡ within 1 (self .jobs) j ⌝ }
     {
-        1 <= j && j <= self.jobs
+        std::num::wrapping_sub_usize(j, 1) < self.jobs
     }
 
-    // Tells whether x is a bench of 1 to B.
+    // Tells whether x is a bench of 1 to B. One comparison, as in has_job.
     pub fn has_bench(self, x: usize) -> bool
         ensures { λ r. ⌜ r ≡ within 1 (self .benches) x ⌝ }
     {
-        1 <= x && x <= self.benches
+        std::num::wrapping_sub_usize(x, 1) < self.benches
     }
 
     // Computes the byte length of a table of this size.

@@ -1,15 +1,18 @@
--- The two tests of `within`.
-use Prim.Native.Nat.{_≤_, _<_}
+-- One comparison is the two tests of `within`, by `wrapped-within`.
 use native.Mathlib.Omega.{arith}
-use borrow.Author.Tests.{le-leb, lt-leb}
+use borrow.Author.Needs.{needs}
+use Rattle.table_size.proofs.Sizes.{wrapped-within}
 use Rattle.table_size.proofs.Size.has_bench.Statement.{statement}
 use Rattle.table_size.proofs.Size.has_bench.Tie as tie
 
-returns : tie.Need-returns
-returns c = let h : 1 ≤ c .before .before .args .x = omega arith in rw (le-leb 1 (c .before .before .args .x) h)
+wrapping-sub-usize-requires : tie.Need-wrapping-sub-usize-requires
+wrapping-sub-usize-requires c κs = search needs
 
-returns-2 : tie.Need-returns-2
-returns-2 c = let h : c .before .args .x < 1 = omega arith in rw (lt-leb 1 (c .before .args .x) h)
+returns : tie.Need-returns
+returns c =
+    let a = c .before .before .args in
+    let one-less = c .before .wrapping-sub-usize in
+    wrapped-within (a .self .benches) (a .x) (one-less .result) (omega arith) (omega arith) (omega arith)
 
 pub has-bench-spec : {M : Type 1} → statement M
-has-bench-spec = tie.close (tie.spec returns returns-2)
+has-bench-spec = tie.close (tie.spec wrapping-sub-usize-requires returns)
