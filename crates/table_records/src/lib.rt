@@ -1,11 +1,11 @@
 // Jobs' records: words B + 4 × j and the next three are job j's, which is 4 + B + 4 × (j − 1).
 ghost use mathlib.Core.Path.{_≡_};
-ghost use Prim.Native.Nat.{_+_, _*_, _<_};
+ghost use Prim.Native.Nat.{_+_, _*_, _≤_, _<_};
 ghost use Rattle.spec_table.specs.Table.{holderIn};
 ghost use Rattle.table_words.specs.Bytes.{layoutIn};
 ghost use Rattle.table_size.specs.Sizes.{Limits, SizeOf, JobIn};
 ghost use Rattle.table_size.specs.Written.{recordIn, HasLayout, withEntry, withWord, withHolder, withNext};
-ghost use Rattle.table_records.specs.Records.{entryOf, RecordFits, RecordOf};
+ghost use Rattle.table_records.specs.Records.{entryOf, RecordFits, RecordOf, NameAt};
 use table_size::Size;
 
 // "First bench, second bench, holder (1 first-named, 2 second-named), next job on the chain."
@@ -44,6 +44,17 @@ pub fn read_record(t: &[u8], s: Size, j: usize) -> Record
     }
 }
 
+// Reads the k-th bench that job j's record names, counted from 1.
+pub fn name_at(t: &[u8], s: Size, j: usize, k: usize) -> usize
+    requires { ⌜ SizeOf (now t) s ⌝ }
+    requires { ⌜ JobIn s j ⌝ }
+    requires { ⌜ 1 ≤ k ⌝ }
+    requires { ⌜ k ≤ 2 ⌝ }
+    ensures { λ r. ⌜ NameAt (now (t .entry)) j k r ⌝ }
+{
+    table_words::read(t, record_at(s, j) + k - 1)
+}
+
 // Reads the bench that job j's holder word tells, 0 for none. It reads that bench alone: no branch on which of the
 // names it is, which a processor would guess wrong every other time.
 pub fn holder_at(t: &[u8], s: Size, j: usize) -> usize
@@ -51,12 +62,11 @@ pub fn holder_at(t: &[u8], s: Size, j: usize) -> usize
     requires { ⌜ JobIn s j ⌝ }
     ensures { λ r. ⌜ r ≡ holderIn (recordIn (now (t .entry)) j) ⌝ }
 {
-    let at = record_at(s, j);
-    let place = table_words::read(t, at + 2);
+    let place = table_words::read(t, record_at(s, j) + 2);
     if place < 1 || 2 < place {
         return 0;
     }
-    table_words::read(t, at + place - 1)
+    name_at(t, s, j, place)
 }
 
 // Writes job j's record.

@@ -13,7 +13,7 @@ use Rattle.spec_table.proofs.Words.{words-append}
 use Rattle.spec_table.proofs.Places.{two-more, length-words, entryFrom, head-at, entry-at}
 use Rattle.table_words.specs.Bytes.{IsWord, setWord, layoutIn}
 use Rattle.table_size.specs.Sizes.{SizeOf, JobIn, BenchIn}
-use Rattle.table_size.specs.Written.{withWord, HeadOf, withHead, cleared, withEntry, withStanding, HasLayout}
+use Rattle.table_size.specs.Written.{recordIn, withWord, HeadOf, withHead, cleared, withEntry, withStanding, HasLayout}
 use Rattle.table_size.specs.declared.Size.{Size}
 use Rattle.table_words.proofs.Bytes.{words-setWord, length-setWord, zero-bytes}
 use Rattle.table_size.proofs.Sizes.{size-kept, words-long, entries-long}
@@ -274,16 +274,19 @@ none-named a b (suc zero) o = ⊎-elim (λ h. absurd (omega arith)) (λ h. absur
 none-named a b (suc (suc zero)) o = ⊎-elim (λ h. absurd (omega arith)) (λ h. absurd (omega arith)) o
 none-named a b (suc (suc (suc p))) o = refl
 
-module _ (t : List ℕ) (s : Size) (j place : ℕ) (size : SizeOf t s) (job : JobIn s j) (holder : IsWord t (s .benches + 4 * j + 2) place) where
-  -- the holder word tells the bench at its place among the names
-  holder-place : holderIn (nth ((layoutIn t) .entries) j vacant) ≡ nth (getD (words t) (s .benches + 4 * j) 0 ∷ getD (words t) (s .benches + 4 * j + 1) 0 ∷ []) place 0
-  holder-place = ap holderIn (record-words t s j size job) ∙ ap (λ p. nth (getD (words t) (s .benches + 4 * j) 0 ∷ getD (words t) (s .benches + 4 * j + 1) 0 ∷ []) p 0) (sym (holder .value))
+module _ (t : List ℕ) (s : Size) (j : ℕ) (size : SizeOf t s) (job : JobIn s j) where
+  -- the first two words of job j's record are the benches that it names
+  pub name-word : (k r : ℕ) → 1 ≤ k → k ≤ 2 → IsWord t (s .benches + 4 * j + k - 1) r → r ≡ nth ((recordIn t j) .names) k 0
+  name-word k r l m w =
+      w .value ∙ sym (ap (λ (e : Entry). nth (e .names) k 0) (record-words t s j size job) ∙ named-word (words t) (s .benches + 4 * j) k l m)
 
-  -- .. which is one word
-  pub holder-word : (r : ℕ) → 1 ≤ place → place ≤ 2 → IsWord t (s .benches + 4 * j + place - 1) r → r ≡ holderIn (nth ((layoutIn t) .entries) j vacant)
-  holder-word r l m w = w .value ∙ sym (holder-place ∙ named-word (words t) (s .benches + 4 * j) place l m)
+  -- the third tells which of them ..
+  pub holder-word : (place : ℕ) → IsWord t (s .benches + 4 * j + 2) place → nth ((recordIn t j) .names) place 0 ≡ holderIn (recordIn t j)
+  holder-word place w =
+      ap (λ (p : ℕ). nth ((recordIn t j) .names) p 0) (w .value ∙ sym (ap (λ (e : Entry). e .holder) (record-words t s j size job)))
 
   -- .. or none
-  pub holder-none : (place < 1) ⊎ (2 < place) → 0 ≡ holderIn (nth ((layoutIn t) .entries) j vacant)
-  holder-none o =
-      sym (holder-place ∙ none-named (getD (words t) (s .benches + 4 * j) 0) (getD (words t) (s .benches + 4 * j + 1) 0) place o)
+  pub holder-none : (place : ℕ) → IsWord t (s .benches + 4 * j + 2) place → (place < 1) ⊎ (2 < place) → 0 ≡ holderIn (recordIn t j)
+  holder-none place w o =
+      let named = ap (λ (e : Entry). nth (e .names) place 0) (record-words t s j size job) in
+      sym (none-named (getD (words t) (s .benches + 4 * j) 0) (getD (words t) (s .benches + 4 * j + 1) 0) place o) ∙ sym named ∙ holder-word place w
