@@ -1,4 +1,4 @@
--- Chains copied: one bench or job more, and all of them.
+-- Jobs copied: one more, and all of them.
 use Prim.Native.Nat.{ℕ, _+_, _≤_, _<_}
 use native.Mathlib.Omega.{arith}
 use native.Mathlib.Decide.{ℕ-discrete}
@@ -18,52 +18,12 @@ use Rattle.spec_sharing.proofs.Paths.{holder-bench}
 use Rattle.table_board.specs.BoardView.{HoldsBoard, HolderOf}
 use Rattle.table_board.proofs.RecordsAsBoard.{stands-job}
 use Rattle.table_chains.proofs.ChainView.{held-stands}
-use Rattle.table_chains.specs.Chains.{storedHead, storedNext}
+use Rattle.table_chains.specs.Chains.{storedNext}
 use Rattle.graph_lists.specs.Arrays.{at}
 use Rattle.graph_lists.proofs.Listing.{array-at, array-long}
 use Rattle.sharing_arcs.specs.Arcs.{otherOf}
 use Rattle.sharing_arcs.proofs.AsArcs.{at-more}
-use Rattle.sharing_chains.specs.StoredChains.{StoredHeads, StoredJobs}
-
--- heads
-
--- the heads of the first `done` benches are copied
-pub record HeadsTo (t : List ℕ) (s : Size) (head : List ℕ) (done : ℕ) : Type 0 where
-  pub few : done ≤ s .benches
-  pub copied : (x : ℕ) → T (within 1 done x) → at head x ≡ storedHead t x
-  pub beyond : (x : ℕ) → done < x → at head x ≡ 0
-  pub long : length head ≡ mostBenches + 1
-
--- none yet ..
-pub heads-start : (t : List ℕ) (s : Size) (head : List ℕ) → head ≡ replicate (mostBenches + 1) 0 → HeadsTo t s head 0
-heads-start t s head e =
-    record {
-      few = omega arith;
-      copied = λ x w. absurd (omega (arith, within-low 1 0 x w, within-high 1 0 x w));
-      beyond = λ x l. array-at (mostBenches + 1) e x;
-      long = array-long 0 e;
-    }
-
-module _ {t : List ℕ} {s : Size} {head : List ℕ} {done : ℕ} (c : HeadsTo t s head done) where
-  -- .. one bench more ..
-  pub heads-turn : {r : ℕ} → done < s .benches → done < mostBenches → r ≡ storedHead t (done + 1) → HeadsTo t s (set head (done + 1) r) (done + 1)
-  heads-turn {r} l m e =
-      record {
-        few = omega arith;
-        copied = λ x. at-more (storedHead t) head done r (omega (arith, c .long)) e x (c .copied x);
-        beyond = λ x h. getD-set-other head (done + 1) x r 0 (λ q. omega arith) ∙ c .beyond x (omega arith);
-        long = length-set head (done + 1) r ∙ c .long;
-      }
-
-  -- .. and all of them
-  pub heads-end : s .benches ≤ done → StoredHeads t s head
-  heads-end l =
-      record {
-        heads = λ x b. c .copied x (within-both 1 done x (b .least) (omega (arith, b .most)));
-        beyond = λ x h. c .beyond x (omega (arith, c .few));
-      }
-
--- jobs
+use Rattle.sharing_chains.specs.StoredChains.{StoredJobs}
 
 -- what the holder tells: a job that a bench holds stands ..
 pub found-stands : {t : List ℕ} {s : Size} {j x : ℕ} → HoldsBoard t s → HolderOf t s j x → x ≢ 0 → T (stands (decode t) j)

@@ -4,24 +4,9 @@ ghost use Prim.Native.Nat.{_+_};
 ghost use lib.ListN.{length, replicate};
 ghost use Rattle.spec_table.specs.Table.{mostBenches, mostJobs};
 ghost use Rattle.table_size.specs.Sizes.{SoundTable};
-ghost use Rattle.sharing_chains.specs.StoredChains.{StoredHeads, StoredJobs, StoredChains};
+ghost use Rattle.sharing_chains.specs.StoredChains.{StoredJobs, StoredChains};
 use table_board::jobs;
 use table_size::Size;
-
-// Writes, at x, the first job on bench x's chain; what stands beyond the last bench stays.
-fn copy_heads(t: &[u8], s: Size, head: &mut [u16; Size::MOST_BENCHES + 1])
-    requires { ⌜ SoundTable (now t) s ⌝ }
-    requires { ⌜ now head ≡ replicate (mostBenches + 1) 0 ⌝ }
-    ensures { λ _. ⌜ StoredHeads (now (t .entry)) s (now (head .exit)) ⌝ }
-{
-    let benches = s.benches();
-    let mut done = 0;
-    while done < benches {
-        let x = done + 1;
-        head[x] = table_chains::head(t, s, x) as u16;
-        done += 1;
-    }
-}
 
 // Writes, at each standing job, the job after it on its chain and the other bench that it names.
 fn copy_jobs(
@@ -63,6 +48,6 @@ pub fn copy_chains(
     requires { ⌜ length (now to) ≡ mostJobs + 1 ⌝ }
     ensures { λ _. ⌜ StoredChains (now (t .entry)) s (now (head .exit)) (now (next .exit)) (now (to .exit)) ⌝ }
 {
-    copy_heads(t, s, head);
+    table_chains::copy_heads(t, s, head);
     copy_jobs(t, s, next, to);
 }

@@ -43,7 +43,7 @@ module _ {t : List ℕ} {s : Size} {head next to : List ℕ} (sound : SoundTable
   unfolding chainOn
   same-chain x b =
       let c = first-chain t s x sound b in
-      rw (stored .heads .heads x b)
+      rw (stored .heads .head x b)
       (same-along (suc mostJobs) (storedHead t x) (omega (arith, c .few, sound .size .limits .jobs-most)) (λ i o. (c .held i) .0 o .0))
 
   -- .. on it are the jobs that x holds
@@ -66,7 +66,7 @@ module _ {t : List ℕ} {s : Size} {head next to : List ℕ} (sound : SoundTable
   chains-walkable = record {
     bench = λ x w. elim (decLe x (s .benches)) [
       | yes l ↦ bench x (record { least = within-low 1 mostBenches x w; most = l })
-      | no d ↦ beyond (stored .heads .beyond x (omega arith))
+      | no d ↦ beyond (stored .heads .byBench .beyond x (omega arith))
     ];
   }
     where

@@ -1,9 +1,12 @@
 // Chains: the jobs that a bench holds, one after the other.
 ghost use mathlib.Core.Path.{_≡_};
+ghost use Prim.Native.Nat.{_+_};
 ghost use lib.Dec.{T};
+ghost use lib.ListN.{replicate};
 ghost use Rattle.spec_table.specs.Board.{stands, standing};
-ghost use Rattle.spec_table.specs.Table.{decode};
+ghost use Rattle.spec_table.specs.Table.{mostBenches, decode};
 ghost use Rattle.table_size.specs.Sizes.{JobIn, BenchIn, SoundTable};
+ghost use Rattle.table_size.specs.Written.{HeadsOf};
 ghost use Rattle.table_board.specs.BoardView.{HoldsBoard};
 ghost use Rattle.table_chains.specs.Chains.{ChainOf, NextOf, ChainsRebuilt, Pushed, Linked};
 use table_board::jobs;
@@ -25,6 +28,15 @@ pub fn head(t: &[u8], s: Size, x: usize) -> usize
     ensures { λ r. ⌜ ChainOf (now (t .entry)) s x r ⌝ }
 {
     heads::head(t, s, x)
+}
+
+// Writes, at x, the first job on bench x's chain; what stands beyond the last bench stays.
+pub fn copy_heads(t: &[u8], s: Size, head: &mut [u16; Size::MOST_BENCHES + 1])
+    requires { ⌜ SoundTable (now t) s ⌝ }
+    requires { ⌜ now head ≡ replicate (mostBenches + 1) 0 ⌝ }
+    ensures { λ _. ⌜ HeadsOf (now (t .entry)) s (now (head .exit)) ⌝ }
+{
+    heads::copy_heads(t, s, head);
 }
 
 // Reads the job after job j on its chain, 0 for none.

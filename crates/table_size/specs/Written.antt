@@ -2,10 +2,10 @@
 use Prim.Native.Nat.{ℕ, zero, suc, _<_}
 use mathlib.Core.Path.{_≡_}
 use mathlib.Core.List.{List}
-use lib.ListN.{set, replicate}
+use lib.ListN.{getD, set, replicate}
 use Rattle.table_size.specs.declared.Size.{Size}
 use Rattle.spec_lists.specs.Lists.{nth, update}
-use Rattle.table_size.specs.Sizes.{SizeOf}
+use Rattle.table_size.specs.Sizes.{SizeOf, BenchIn, ByBench}
 use Rattle.spec_table.specs.Table.{Entry, Layout, vacant}
 use Rattle.table_words.specs.Bytes.{layoutIn}
 
@@ -17,6 +17,11 @@ recordIn t j = nth ((layoutIn t) .entries) j vacant
 pub record HeadOf (t : List ℕ) (x j : ℕ) : Type 0 where
   pub head : j ≡ nth ((layoutIn t) .heads) x 0
   pub small : j < 65536
+
+-- at each bench the first job on its chain
+pub record HeadsOf (t : List ℕ) (s : Size) (heads : List ℕ) : Type 0 where
+  pub byBench : ByBench s heads
+  pub head : (x : ℕ) → BenchIn s x → getD heads x 0 ≡ nth ((layoutIn t) .heads) x 0
 
 -- a record with another word at place k: 0 and 1 are the names, 2 the holder, 3 the next job
 abbrev pub withWord : ℕ → ℕ → Entry → Entry

@@ -1,0 +1,2 @@
+-- Heads copied to an array.
+pub mod Copying
