@@ -1,10 +1,11 @@
 -- What a record is, told by its words.
 use Prim.Native.Nat.{ℕ, _≤_}
+use native.Mathlib.Omega.{arith}
 use mathlib.Core.Path.{_≡_, refl, sym, ap, _∙_}
 use mathlib.Core.Logic.{_≢_}
 use mathlib.Core.Bool.{Bool, true, false}
 use lib.Dec.{T}
-use Rattle.spec_lists.specs.Lists.{Each}
+use Rattle.spec_lists.specs.Lists.{within, Each}
 use Rattle.spec_table.specs.Table.{filled, entryFits, entryWords}
 use Rattle.spec_lists.proofs.Tests.{T→true, never→false, within-low, within-high, within-both}
 use Rattle.spec_table.proofs.Named.{pair-fits}
@@ -21,10 +22,8 @@ AllZero r = Each (λ w. w ≡ 0) (entryWords (entryOf r))
 
 -- "two different benches of 1 to B and holder 1 or 2"
 pub record Fits (benches : ℕ) (r : Record) : Type 0 where
-  pub first-least : 1 ≤ r .first
-  pub first-most : r .first ≤ benches
-  pub second-least : 1 ≤ r .second
-  pub second-most : r .second ≤ benches
+  pub first : T (within 1 benches (r .first))
+  pub second : T (within 1 benches (r .second))
   pub apart : r .first ≢ r .second
   pub holder-least : 1 ≤ r .holder
   pub holder-most : r .holder ≤ 2
@@ -35,10 +34,8 @@ entry-fits benches r t =
     let tests = (entry-tests benches (entryOf r)) .0 t in
     let named = (pair-fits benches (r .first) (r .second)) .0 (tests .0) in
     record {
-      first-least = within-low 1 benches (r .first) (named .0);
-      first-most = within-high 1 benches (r .first) (named .0);
-      second-least = within-low 1 benches (r .second) (named .1);
-      second-most = within-high 1 benches (r .second) (named .1);
+      first = named .0;
+      second = named .1;
       apart = named .2;
       holder-least = within-low 1 2 (r .holder) (tests .1);
       holder-most = within-high 1 2 (r .holder) (tests .1);
@@ -47,10 +44,8 @@ entry-fits benches r t =
 -- .. and the other way round
 fits-entry : (benches : ℕ) (r : Record) → Fits benches r → T (entryFits benches (entryOf r))
 fits-entry benches r f =
-    let first = within-both 1 benches (r .first) (f .first-least) (f .first-most) in
-    let second = within-both 1 benches (r .second) (f .second-least) (f .second-most) in
     let held = within-both 1 2 (r .holder) (f .holder-least) (f .holder-most) in
-    (entry-tests benches (entryOf r)) .1 ((pair-fits benches (r .first) (r .second)) .1 (first, second, f .apart), held)
+    (entry-tests benches (entryOf r)) .1 ((pair-fits benches (r .first) (r .second)) .1 (f .first, f .second, f .apart), held)
 
 -- "A job number that is not standing has four zero words .."
 pub vacant-kind : (benches : ℕ) (r : Record) → AllZero r → Vacant ≡ kindOf benches (entryOf r)
@@ -69,11 +64,12 @@ standing-kind benches r d = go (filled (entryOf r)) refl
     go true q = refl
     go false q = absurd (d (vacant-words (entryOf r) q))
 
--- .. which fits ..
-pub fitting-kind : (benches : ℕ) (r : Record) → (AllZero r → ⊥) → Fits benches r → Fitting ≡ kindOf benches (entryOf r)
-fitting-kind benches r d f =
+-- .. which fits, and then its first word is not 0 ..
+pub fitting-kind : (benches : ℕ) (r : Record) → Fits benches r → Fitting ≡ kindOf benches (entryOf r)
+fitting-kind benches r f =
     let fit = entryFits benches (entryOf r) in
-    ap (kindIf true) (sym (T→true fit (fits-entry benches r f))) ∙ standing-kind benches r d
+    let first = within-low 1 benches (r .first) (f .first) in
+    ap (kindIf true) (sym (T→true fit (fits-entry benches r f))) ∙ standing-kind benches r (λ z. omega arith)
 
 -- .. or does not
 pub unfit-kind : (benches : ℕ) (r : Record) → (AllZero r → ⊥) → (Fits benches r → ⊥) → Unfit ≡ kindOf benches (entryOf r)

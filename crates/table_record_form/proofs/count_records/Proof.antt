@@ -15,16 +15,13 @@ use Rattle.table_record_form.proofs.count_records.Statement.{statement}
 use Rattle.table_record_form.proofs.count_records.Tie as tie
 
 abbrev Inv-loop : tie.InvT-loop
-Inv-loop t s benches jobs count₀ done₀ count done =
+Inv-loop t s jobs count₀ done₀ count done =
     (done ≤ s .jobs)
     × (count ≤ done)
     × (counted (s .benches) count (drop done ((layoutIn t) .entries)) ≡ counted (s .benches) 0 ((layoutIn t) .entries))
 
 abbrev μ-loop : tie.MeasureT-loop
-μ-loop t s benches jobs count₀ done₀ count done = jobs - done
-
-benches-requires : tie.Need-benches-requires Inv-loop μ-loop
-benches-requires c κs = search needs
+μ-loop t s jobs count₀ done₀ count done = jobs - done
 
 jobs-requires : tie.Need-jobs-requires Inv-loop μ-loop
 jobs-requires c κs = search needs
@@ -45,15 +42,15 @@ enum-told : tie.Need-enum-told Inv-loop μ-loop
 enum-told c = search needs
 
 -- what is left of the count at a record's kind
-turn : (c : tie.After-kind-of Inv-loop μ-loop) → let a = c .before .before .before .before .before .before .before .args in let l = c .before .before .before .loop in let es = (layoutIn (a .t .now)) .entries in counted (a .s .benches) 0 es ≡ byKind (c .kind-of .result) (counted (a .s .benches) (l .count) (drop (l .done + 1) es)) (counted (a .s .benches) (l .count + 1) (drop (l .done + 1) es))
+turn : (c : tie.After-kind-of Inv-loop μ-loop) → let a = c .before .before .before .before .before .before .args in let l = c .before .before .before .loop in let es = (layoutIn (a .t .now)) .entries in counted (a .s .benches) 0 es ≡ byKind (c .kind-of .result) (counted (a .s .benches) (l .count) (drop (l .done + 1) es)) (counted (a .s .benches) (l .count + 1) (drop (l .done + 1) es))
 turn c =
-    let a = c .before .before .before .before .before .before .before .args in
+    let a = c .before .before .before .before .before .before .args in
     let l = c .before .before .before .loop in
     let r = c .before .read-record in
     let es = (layoutIn (a .t .now)) .entries in
-    let long = entries-long (a .t .now) (a .s) (c .before .before .before .before .before .before .before .pre) in
+    let long = entries-long (a .t .now) (a .s) (c .before .before .before .before .before .before .pre) in
     let step = count-step (a .s .benches) (l .count) (l .done) es (entryOf (r .result)) (r .ensures .entry) (omega arith) in
-    rw (c .kind-of .ensures, c .before .before .before .before .before .benches .ensures) (sym (l .inv .2) ∙ step)
+    rw (c .kind-of .ensures) (sym (l .inv .2) ∙ step)
 
 returns : tie.Need-returns Inv-loop μ-loop
 returns c = sym (rw (c .enum-told .given .1) at (turn (c .before .before)))
@@ -86,7 +83,7 @@ loop-again c =
 
 returns-2 : tie.Need-returns-2 Inv-loop μ-loop
 returns-2 c =
-    let start = c .before .before .before .before .before in
+    let start = c .before .before .before .before in
     let l = c .before .loop in
     let es = (layoutIn (start .args .t .now)) .entries in
     let long = entries-long (start .args .t .now) (start .args .s) (start .pre) in
@@ -98,7 +95,6 @@ count-records-spec =
     (tie.spec
     Inv-loop
     μ-loop
-    benches-requires
     jobs-requires
     loop-holds
     add-read-record
