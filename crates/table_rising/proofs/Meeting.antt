@@ -9,25 +9,27 @@ use lib.Dec.{T}
 use lib.ListN.{length, getD, set, drop, replicate, length-map, length-set, length-replicate, getD-replicate}
 use lib.Seq.{getD-set-same, getD-set-other}
 use Rattle.spec_lists.specs.Lists.{In, nth, update}
-use Rattle.spec_lists.proofs.Tests.{true→T, Compared, same, other, compared}
+use Rattle.spec_lists.proofs.Tests.{true→T, within-low, within-high, Compared, same, other, compared}
 use Rattle.spec_lists.proofs.Elements.{each-nth, each-getD, each-replicate, length-update, nth-update-same, nth-update-other}
 use Rattle.spec_lists.proofs.NumberLists.{length-values, nth-range, values-same}
 use Rattle.spec_table.specs.Board.{standing}
 use Rattle.spec_table.specs.Table.{mostBenches, words, Entry, vacant, filled, holderIn, entryFits, Layout, layoutOf, boardOf, decode}
-use Rattle.spec_table.proofs.Sound.{fit-storable, standingFrom, standing-count, layout-pairs, two-benches, holder-within, holder-record, not-held}
+use Rattle.spec_table.proofs.Sound.{fit-storable, standingFrom, standing-count, layout-pairs, two-benches, entry-tests, holder-within, holder-record, not-held}
 use Rattle.table_words.specs.Bytes.{layoutIn}
 use Rattle.table_size.specs.Sizes.{SizeOf, BenchIn, ByBench}
 use Rattle.table_size.specs.Written.{recordIn, withHeads, withStanding, cleared}
 use Rattle.table_size.specs.declared.Size.{Size}
 use Rattle.table_size.proofs.Sizes.{entries-long, heads-long}
 use Rattle.table_board.specs.BoardView.{HoldsBoard}
+use Rattle.table_records.specs.Records.{entryOf, RecordOf, NameAt}
+use Rattle.table_records.specs.declared.Record.{Record}
 use Rattle.table_record_form.specs.Kinds.{kindIf, kindOf, byKind, counted}
 use Rattle.table_record_form.specs.declared.Kind.the-variants.{Vacant, Fitting}
 use Rattle.table_record_form.specs.declared.Seen.the-variants.{Jobs}
 use Rattle.table_record_form.proofs.Counted.{AllFit, count-step, count-end, counted-seen}
 use Rattle.table_chains.specs.Chains.{pushed, pushedFrom}
 use Rattle.table_chains.proofs.Rebuilding.{rebuild-layout, rebuild-bytes}
-use Rattle.table_rising.specs.Passing.{dueHeads, Passed, Rising}
+use Rattle.table_rising.specs.Passing.{dueHeads, Met, Passed, NoneDue, Rising}
 use Rattle.table_rising.proofs.Undoing.{undo-vacant, undo-standing}
 use Rattle.table_rising.proofs.LoadCounts.{LoadsTo, loads-start, loads-turn, loads-pass, loads-end}
 
@@ -56,7 +58,7 @@ due-set s due x n b l = due-heads s (set due x n) (update old x n) (length-updat
         ∙ sym (getD-set-other due x y n 0 (λ e. d (sym e)))
 
 -- no job due at any
-due-none : (s : Size) (due : List ℕ) → ((x : ℕ) → BenchIn s x → getD due x 0 ≡ 0) → replicate (s .benches) 0 ≡ dueHeads s due
+due-none : (s : Size) (due : List ℕ) → NoneDue s due → replicate (s .benches) 0 ≡ dueHeads s due
 due-none s due z = due-heads s due (replicate (s .benches) 0) (length-replicate {A = ℕ} (s .benches) 0) (λ x b. each-nth (λ n. n ≡ 0) (replicate (s .benches) 0) x 0 refl (each-replicate (λ n. n ≡ 0) (s .benches) 0 refl) ∙ sym (z x b))
 
 -- records
@@ -71,21 +73,56 @@ kind-vacant benches e q = go (filled e) refl (entryFits benches e) q
     go true p true k = absurd (true→T false cc)
     go true p false k = absurd (true→T false cc)
 
--- .. and a fitting one's holder is a bench
-kind-bench : (t : List ℕ) (s : Size) (j : ℕ) → kindOf (s .benches) (recordIn t j) ≡ Fitting → BenchIn s (holderIn (recordIn t j))
+-- .. a fitting one passes the tests of a standing job's record ..
+kind-fits : (benches : ℕ) (e : Entry) → kindOf benches e ≡ Fitting → T (entryFits benches e)
 unfolding kindOf
-kind-bench t s j q = go (filled e) (entryFits (s .benches) e) refl q
+kind-fits benches e q = go (filled e) (entryFits benches e) refl q
   where
-    e : Entry
-    e = recordIn t j
-
-    go : (y z : Bool) → entryFits (s .benches) e ≡ z → kindIf y z ≡ Fitting → BenchIn s (holderIn e)
+    go : (y z : Bool) → entryFits benches e ≡ z → kindIf y z ≡ Fitting → T (entryFits benches e)
     go false z p k = absurd (true→T false cc)
     go true false p k = absurd (true→T false cc)
-    go true true p k =
-        let pair = each-nth (λ (e : Entry). length (e .names) ≡ 2) ((layoutIn t) .entries) j vacant refl (layout-pairs (words t)) in
-        let h = holder-within (s .benches) e (two-benches (s .benches) e pair (true→T (entryFits (s .benches) e) p)) in
-        record { least = h .0; most = h .1 }
+    go true true p k = true→T (entryFits benches e) p
+
+-- .. so its holder is a bench
+kind-bench : (t : List ℕ) (s : Size) (j : ℕ) → kindOf (s .benches) (recordIn t j) ≡ Fitting → BenchIn s (holderIn (recordIn t j))
+kind-bench t s j q =
+    let e = recordIn t j in
+    let pair = each-nth (λ (e : Entry). length (e .names) ≡ 2) ((layoutIn t) .entries) j vacant refl (layout-pairs (words t)) in
+    let h = holder-within (s .benches) e (two-benches (s .benches) e pair (kind-fits (s .benches) e q)) in
+    record { least = h .0; most = h .1 }
+
+-- a record that was read
+
+module _ (s : Size) {t : List ℕ} {j : ℕ} {r : Record} (f : RecordOf t j r) (k : kindOf (s .benches) (entryOf r) ≡ Fitting) where
+  -- it is job j's
+  read-fits : kindOf (s .benches) (recordIn t j) ≡ Fitting
+  read-fits = ap (kindOf (s .benches)) (sym (f .entry)) ∙ k
+
+  -- its holder word is one of its two places
+  pub read-place : (1 ≤ r .holder) × (r .holder ≤ 2)
+  read-place =
+      let w = (entry-tests (s .benches) (entryOf r)) .0 (kind-fits (s .benches) (entryOf r) k) .1 in
+      (within-low 1 2 (r .holder) w, within-high 1 2 (r .holder) w)
+
+  module _ {x : ℕ} (a : NameAt t j (r .holder) x) where
+    -- the name at that place is the holder ..
+    holder-there : x ≡ holderIn (recordIn t j)
+    holder-there = a .value ∙ ap (λ (e : Entry). nth ((recordIn t j) .names) (e .holder) 0) (f .entry)
+
+    -- .. a bench of 1 to B ..
+    pub read-bench : BenchIn s x
+    read-bench = subst (BenchIn s) (sym holder-there) (kind-bench t s j read-fits)
+
+    -- .. and if the job is due there, it is met
+    pub read-met : {due loads : List ℕ} → getD due x 0 ≡ j → Met s (recordIn t j) j due loads (set due x (r .next)) (set loads x (getD loads x 0 + 1))
+    read-met {due} {loads} u =
+        let n : r .next ≡ (recordIn t j) .next = ap (λ (e : Entry). e .next) (f .entry) in
+        record {
+          fits = read-fits;
+          inTurn = ap (λ (y : ℕ). getD due y 0) (sym holder-there) ∙ u;
+          next = λ i. set due (holder-there i) (n i);
+          load = λ i. set loads (holder-there i) (getD loads (holder-there i) 0 + 1);
+        }
 
 -- the pass
 
@@ -138,20 +175,24 @@ module _ {t : List ℕ} {s : Size} {due loads : List ℕ} {count done : ℕ} (z 
         beyond = m .beyond;
       }
 
-  -- .. a job that fits and is due at its holder h is met: the next job on that chain is due then, and h has one more ..
-  pub meeting-turn : (h : ℕ) → h ≡ holderIn e → kindOf (s .benches) e ≡ Fitting → getD due h 0 ≡ done + 1 → Meeting t s (set due h (e .next)) (set loads h (getD loads h 0 + 1)) (count + 1) (done + 1)
-  meeting-turn h q k u =
-      record {
+  -- .. a job that is met in its turn leaves the next one on its chain due, and its holder with one more ..
+  pub meeting-turn : {due₂ loads₂ : List ℕ} → Met s e (done + 1) due loads due₂ loads₂ → Meeting t s due₂ loads₂ (count + 1) (done + 1)
+  meeting-turn w =
+      rw (w .next, w .load)
+      (record {
         few = omega (arith, m .few);
         long = length-set due h (e .next) ∙ m .long;
         chains = ap (λ (k : ℕ). pushedFrom k met) (add-one done) ∙ ap (pushedFrom done) undone ∙ m .chains;
-        records = rw k at step;
-        loaded = loads-turn (m .loaded) h fewer (q ∙ sym (holder-record t (done + 1))) (bench .least) (omega (arith, bench .most, z .limits .benches-most));
+        records = rw (w .fits) at step;
+        loaded = loads-turn (m .loaded) h fewer (sym (holder-record t (done + 1))) (bench .least) (omega (arith, bench .most, z .limits .benches-most));
         beyond = λ x l. getD-set-other loads h x (getD loads h 0 + 1) 0 (λ i. omega (arith, bench .most)) ∙ m .beyond x l;
-      }
+      })
     where
+      h : ℕ
+      h = holderIn e
+
       bench : BenchIn s h
-      bench = subst (BenchIn s) (sym q) (kind-bench t s (done + 1) k)
+      bench = kind-bench t s (done + 1) (w .fits)
 
       heads : List ℕ
       heads = dueHeads s due
@@ -160,7 +201,7 @@ module _ {t : List ℕ} {s : Size} {due loads : List ℕ} {count done : ℕ} (z 
       many = length-values (λ x. getD due x 0) 1 (s .benches)
 
       due-here : nth heads h 0 ≡ done + 1
-      due-here = nth-range (λ x. getD due x 0) (s .benches) h 0 (bench .least) (bench .most) ∙ u
+      due-here = nth-range (λ x. getD due x 0) (s .benches) h 0 (bench .least) (bench .most) ∙ w .inTurn
 
       -- the layout with the jobs that are due then as heads
       met : Layout
@@ -173,7 +214,7 @@ module _ {t : List ℕ} {s : Size} {due loads : List ℕ} {count done : ℕ} (z 
       undone =
           ap (λ (l : List ℕ). pushed (suc done) (withHeads (layoutIn t) l)) (sym (due-set s due h (e .next) bench (omega (arith, m .long, bench .most, z .limits .benches-most))))
           ∙ ap (λ (j : ℕ). pushed j after) (sym (add-one done))
-          ∙ undo-standing (layoutIn t) (done + 1) h heads (sym q) (bench .least) (omega (arith, many, bench .most)) due-here
+          ∙ undo-standing (layoutIn t) (done + 1) h heads refl (bench .least) (omega (arith, many, bench .most)) due-here
 
 -- .. and in the end all are met
 pub meeting-end : {t : List ℕ} {s : Size} {due loads : List ℕ} {count done : ℕ} → SizeOf t s → Meeting t s due loads count done → s .jobs ≤ done → Passed t s due loads count
@@ -190,7 +231,7 @@ meeting-end {t} {s} {due} {loads} {count} {done} z m l =
 -- the end
 
 -- all jobs were met and none is due: the layout is that of the board ..
-module _ {t : List ℕ} {s : Size} {due loads : List ℕ} {n : ℕ} (z : SizeOf t s) (p : Passed t s due loads n) (none : (x : ℕ) → BenchIn s x → getD due x 0 ≡ 0) (standing-word : (layoutIn t) .standing ≡ n) (spare : (layoutIn t) .spare ≡ 0) where
+module _ {t : List ℕ} {s : Size} {due loads : List ℕ} {n : ℕ} (z : SizeOf t s) (p : Passed t s due loads n) (none : NoneDue s due) (standing-word : (layoutIn t) .standing ≡ n) (spare : (layoutIn t) .spare ≡ 0) where
   -- the filled records fit, and are n
   seen : AllFit (s .benches) ((layoutIn t) .entries) × (n ≡ 0 + length (standingFrom 1 ((layoutIn t) .entries)))
   seen = counted-seen (s .benches) 0 1 ((layoutIn t) .entries) n (p .records)
