@@ -2,6 +2,7 @@
 use Prim.Native.Nat.{ℕ, suc, _+_, _≤_, _<_}
 use native.Mathlib.Omega.{arith}
 use native.Mathlib.Numerals.{add-one}
+use native.Mathlib.Decide.{ℕ-discrete}
 use mathlib.Core.Path.{_≡_, refl, sym, ap, subst, _∙_}
 use mathlib.Core.Bool.{Bool, true, false}
 use mathlib.Core.List.{List, map}
@@ -17,7 +18,7 @@ use Rattle.spec_table.specs.Table.{mostBenches, words, Entry, vacant, filled, h
 use Rattle.spec_table.proofs.Sound.{fit-storable, standingFrom, standing-count, layout-pairs, two-benches, entry-tests, holder-within, holder-record, not-held}
 use Rattle.table_words.specs.Bytes.{layoutIn}
 use Rattle.table_size.specs.Sizes.{SizeOf, BenchIn, ByBench}
-use Rattle.table_size.specs.Written.{recordIn, withHeads, withStanding, cleared}
+use Rattle.table_size.specs.Written.{recordIn, HeadsOf, withHeads, withStanding, cleared}
 use Rattle.table_size.specs.declared.Size.{Size}
 use Rattle.table_size.proofs.Sizes.{entries-long, heads-long}
 use Rattle.table_board.specs.BoardView.{HoldsBoard}
@@ -29,9 +30,9 @@ use Rattle.table_record_form.specs.declared.Seen.the-variants.{Jobs}
 use Rattle.table_record_form.proofs.Counted.{AllFit, count-step, count-end, counted-seen}
 use Rattle.table_chains.specs.Chains.{pushed, pushedFrom}
 use Rattle.table_chains.proofs.Rebuilding.{rebuild-layout, rebuild-bytes}
-use Rattle.table_rising.specs.Passing.{dueHeads, Met, Passed, NoneDue, Rising}
+use Rattle.table_rising.specs.Passing.{dueHeads, Before, Met, Passed, NoneDue, Rising}
 use Rattle.table_rising.proofs.Undoing.{undo-vacant, undo-standing}
-use Rattle.table_rising.proofs.LoadCounts.{LoadsTo, loads-start, loads-turn, loads-pass, loads-end}
+use Rattle.table_rising.proofs.LoadCounts.{LoadsTo, loads-start, loads-turn, loads-pass, loads-few, loads-end}
 
 -- due jobs as heads
 
@@ -126,6 +127,14 @@ module _ (s : Size) {t : List ℕ} {j : ℕ} {r : Record} (f : RecordOf t j r) (
 
 -- the pass
 
+-- loads of which none is counted
+pub zeros-by-bench : {s : Size} {loads : List ℕ} → loads ≡ replicate (mostBenches + 1) 0 → ByBench s loads
+zeros-by-bench e =
+    record {
+      long = rw e (length-replicate {A = ℕ} (mostBenches + 1) 0);
+      beyond = λ x b. rw e (each-getD (λ n. n ≡ 0) (replicate (mostBenches + 1) 0) x 0 refl (each-replicate (λ n. n ≡ 0) (mostBenches + 1) 0 refl));
+    }
+
 -- a table has a holder for each job number
 holders-long : (t : List ℕ) (s : Size) → SizeOf t s → length ((decode t) .holders) ≡ s .jobs
 unfolding decode boardOf
@@ -141,16 +150,25 @@ pub record Meeting (t : List ℕ) (s : Size) (due loads : List ℕ) (count done 
   pub beyond : (x : ℕ) → s .benches < x → getD loads x 0 ≡ 0
 
 -- none was met: each chain's first job is due ..
-pub meeting-start : {t : List ℕ} {s : Size} {due loads : List ℕ} → length due ≡ mostBenches + 1 → (layoutIn t) .heads ≡ dueHeads s due → loads ≡ replicate (mostBenches + 1) 0 → Meeting t s due loads 0 0
-meeting-start {t} {s} {due} {loads} l e z =
+pub meeting-start : {t : List ℕ} {s : Size} {due loads : List ℕ} → SizeOf t s → HeadsOf t s due → loads ≡ replicate (mostBenches + 1) 0 → Meeting t s due loads 0 0
+meeting-start {t} {s} {due} {loads} z h e =
     record {
       few = omega arith;
-      long = l;
-      chains = ap (withHeads (layoutIn t)) (sym e);
+      long = h .byBench .long;
+      chains = ap (withHeads (layoutIn t)) (sym (due-heads s due ((layoutIn t) .heads) (heads-long t s z) (λ x b. sym (h .head x b))));
       records = refl;
-      loaded = rw z (loads-start ((decode t) .holders));
-      beyond = λ x b. rw z (each-getD (λ n. n ≡ 0) (replicate (mostBenches + 1) 0) x 0 refl (each-replicate (λ n. n ≡ 0) (mostBenches + 1) 0 refl));
+      loaded = rw e (loads-start ((decode t) .holders));
+      beyond = zeros-by-bench {s = s} e .beyond;
     }
+
+-- .. until a job is not met, no bench has more than the jobs before it, and none beyond B has one ..
+module _ {t : List ℕ} {s : Size} {due loads : List ℕ} {count done : ℕ} (m : Meeting t s due loads count done) where
+  pub meeting-before : SizeOf t s → Before s (done + 1) loads
+  meeting-before z =
+      record { long = m .loaded .long; below = λ x b. omega (arith, loads-few (m .loaded) x (b .least) (omega (arith, b .most, z .limits .benches-most))) }
+
+  pub meeting-by-bench : {loads₂ : List ℕ} → loads₂ ≡ loads → ByBench s loads₂
+  meeting-by-bench e = rw e (record { long = m .loaded .long; beyond = m .beyond })
 
 module _ {t : List ℕ} {s : Size} {due loads : List ℕ} {count done : ℕ} (z : SizeOf t s) (m : Meeting t s due loads count done) (d : done < s .jobs) where
   abbrev e : Entry
@@ -164,16 +182,17 @@ module _ {t : List ℕ} {s : Size} {due loads : List ℕ} {count done : ℕ} (z 
   fewer = omega (arith, holders-long t s z)
 
   -- .. a record that is no job's leaves all as it was ..
-  pub meeting-pass : kindOf (s .benches) e ≡ Vacant → Meeting t s due loads count (done + 1)
-  meeting-pass k =
-      record {
+  pub meeting-pass : {due₂ loads₂ : List ℕ} → (kindOf (s .benches) e ≡ Vacant) × (due₂ ≡ due) × (loads₂ ≡ loads) → Meeting t s due₂ loads₂ count (done + 1)
+  meeting-pass (k, p, q) =
+      rw (p, q)
+      (record {
         few = omega (arith, m .few);
         long = m .long;
         chains = rw add-one (ap (pushedFrom done) (undo-vacant (layoutIn t) (suc done) (dueHeads s due) (rw add-one at (kind-vacant (s .benches) e k))) ∙ m .chains);
         records = rw k at step;
         loaded = loads-pass (m .loaded) fewer (sym (holder-record t (done + 1) ∙ kind-vacant (s .benches) e k));
         beyond = m .beyond;
-      }
+      })
 
   -- .. a job that is met in its turn leaves the next one on its chain due, and its holder with one more ..
   pub meeting-turn : {due₂ loads₂ : List ℕ} → Met s e (done + 1) due loads due₂ loads₂ → Meeting t s due₂ loads₂ (count + 1) (done + 1)
@@ -229,6 +248,19 @@ meeting-end {t} {s} {due} {loads} {count} {done} z m l =
     all = omega (arith, m .loaded .most, holders-long t s z)
 
 -- the end
+
+-- at the benches before x no job is due
+pub record EndedTo (due : List ℕ) (x : ℕ) : Type 0 where
+  pub least : 1 ≤ x
+  pub none : (y : ℕ) → 1 ≤ y → y < x → getD due y 0 ≡ 0
+
+-- at one bench more
+pub ended-turn : {due : List ℕ} {x : ℕ} → EndedTo due x → getD due x 0 ≡ 0 → EndedTo due (x + 1)
+ended-turn {due} {x} m e =
+    record {
+      least = omega (arith, m .least);
+      none = λ y l u. elim (ℕ-discrete y x) [ yes q ↦ rw q e | no d ↦ m .none y l (omega arith) ];
+    }
 
 -- all jobs were met and none is due: the layout is that of the board ..
 module _ {t : List ℕ} {s : Size} {due loads : List ℕ} {n : ℕ} (z : SizeOf t s) (p : Passed t s due loads n) (none : NoneDue s due) (standing-word : (layoutIn t) .standing ≡ n) (spare : (layoutIn t) .spare ≡ 0) where

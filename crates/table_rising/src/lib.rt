@@ -78,7 +78,7 @@ fn meet_all(
 // Tells whether no job is due.
 fn none_due(s: Size, due: &[u16; Size::MOST_BENCHES + 1]) -> bool
     requires { ⌜ Limits s ⌝ }
-    ensures { λ r. ⌜ T r → NoneDue s (now (due .entry)) ⌝ }
+    ensures { λ r. ⌜ (T r → NoneDue s (now (due .entry))) ⌝ }
 {
     let benches = s.benches();
     let mut x = 1;
@@ -95,7 +95,7 @@ fn none_due(s: Size, due: &[u16; Size::MOST_BENCHES + 1]) -> bool
 pub fn is_rising(t: &[u8], s: Size, loads: &mut [u16; Size::MOST_BENCHES + 1]) -> bool
     requires { ⌜ SizeOf (now t) s ⌝ }
     requires { ⌜ now loads ≡ replicate (mostBenches + 1) 0 ⌝ }
-    ensures { λ r. ⌜ T r → Rising (now (t .entry)) s (now (loads .exit)) ⌝ }
+    ensures { λ r. ⌜ (T r → Rising (now (t .entry)) s (now (loads .exit))) ⌝ }
     ensures { λ _. ⌜ ByBench s (now (loads .exit)) ⌝ }
 {
     if table_header::spare_word(t, s) != 0 {

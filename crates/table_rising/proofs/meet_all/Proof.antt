@@ -1,0 +1,90 @@
+-- All jobs are met. The loop's invariant: the first `done` were. The measure is the number of jobs that are left.
+use Prim.Native.Nat.{_-_}
+use native.Mathlib.Omega.{arith}
+use mathlib.Core.Path.{refl}
+use mathlib.Core.Logic.{⊎-elim}
+use borrow.Author.Needs.{needs}
+use Rattle.table_rising.proofs.Meeting.{Meeting, meeting-start, meeting-before, meeting-by-bench, meeting-pass, meeting-turn, meeting-end}
+use Rattle.table_rising.proofs.meet_all.Statement.{statement}
+use Rattle.table_rising.proofs.meet_all.Tie as tie
+
+abbrev Inv-loop : tie.InvT-loop
+Inv-loop t s due₀ loads₀ jobs count₀ done₀ due loads count done = Meeting t s due loads count done
+
+abbrev μ-loop : tie.MeasureT-loop
+μ-loop t s due₀ loads₀ jobs count₀ done₀ due loads count done = jobs - done
+
+jobs-requires : tie.Need-jobs-requires Inv-loop μ-loop
+jobs-requires c κs = search needs
+
+loop-holds : tie.Need-loop-holds Inv-loop μ-loop
+loop-holds c =
+    let start = c .before .before in
+    meeting-start (start .pre .0) (start .pre .1 .0) (start .pre .1 .1)
+
+add-meet : tie.Need-add-meet Inv-loop μ-loop
+add-meet c = search needs
+
+meet-requires : tie.Need-meet-requires Inv-loop μ-loop
+meet-requires c κs =
+    let start = c .before .before .before .before .before .before in
+    let m = c .before .before .before .loop .inv in
+    (start .pre .0, (record { least = search needs; most = omega arith }, (m .long, meeting-before m (start .pre .0))))
+
+enum-told : tie.Need-enum-told Inv-loop μ-loop
+enum-told c = search needs
+
+returns : tie.Need-returns Inv-loop μ-loop
+returns c =
+    let m = c .before .before .before .before .before .before .loop .inv in
+    (tt, meeting-by-bench m (rw (c .enum-told .given .1) at (c .before .before .meet .ensures)))
+
+enum-told-2 : tie.Need-enum-told-2 Inv-loop μ-loop
+enum-told-2 c = search needs
+
+add-count : tie.Need-add-count Inv-loop μ-loop
+add-count c = search needs
+
+enum-told-3 : tie.Need-enum-told-3 Inv-loop μ-loop
+enum-told-3 c = search needs
+
+add-done : tie.Need-add-done Inv-loop μ-loop
+add-done c = search needs
+
+loop-less : tie.Need-loop-less Inv-loop μ-loop
+loop-less c = search needs
+
+loop-again : tie.Need-loop-again Inv-loop μ-loop
+loop-again c =
+    let start = c .before .before .before .before .before .before .before .before in
+    let m = c .before .before .before .before .before .loop .inv in
+    ⊎-elim
+    (λ w. rw (w .2) (meeting-turn (start .pre .0) m (omega arith) (rw (w .1 .given .1) at (c .before .meet .ensures))))
+    (λ w. rw (w .2) (meeting-pass (start .pre .0) m (omega arith) (rw (w .1 .given .1) at (c .before .meet .ensures))))
+    (c .match .came)
+
+returns-2 : tie.Need-returns-2 Inv-loop μ-loop
+returns-2 c =
+    let start = c .before .before .before .before in
+    let m = c .before .loop .inv in
+    (meeting-end (start .pre .0) m (omega arith), meeting-by-bench m refl)
+
+pub meet-all-spec : {M : Type 1} → statement M
+meet-all-spec =
+    tie.close
+    (tie.spec
+    Inv-loop
+    μ-loop
+    jobs-requires
+    loop-holds
+    add-meet
+    meet-requires
+    enum-told
+    returns
+    enum-told-2
+    add-count
+    enum-told-3
+    add-done
+    loop-less
+    loop-again
+    returns-2)
