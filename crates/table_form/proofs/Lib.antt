@@ -1,4 +1,2 @@
--- The walks of the form check, and that its passes find a table formed exactly if the definition does.
-pub mod Walking
-pub mod Formed
+-- What the form check answers.
 pub mod Answer

@@ -1,3 +1,2 @@
--- What the form check promises (`FormCheck`), and how its walks go (`ChainWalks`).
+-- What the form check promises.
 pub mod FormCheck
-pub mod ChainWalks

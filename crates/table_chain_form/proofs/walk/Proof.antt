@@ -10,11 +10,11 @@ use borrow.Author.Tests.{eq-eqb, ne-eqb, ltb-true, ltb-false}
 use Rattle.spec_lists.specs.Lists.{nth}
 use Rattle.spec_table.specs.Table.{Entry, vacant}
 use Rattle.table_words.specs.Bytes.{layoutIn}
-use Rattle.table_form.specs.ChainWalks.{onlyIf, walked}
+use Rattle.table_chain_form.specs.ChainWalks.{onlyIf, walked}
 use Rattle.table_size.proofs.Sizes.{entries-long}
-use Rattle.table_form.proofs.Walking.{walk-end, walk-full, walk-step, walk-above}
-use Rattle.table_form.proofs.walk.Statement.{statement}
-use Rattle.table_form.proofs.walk.Tie as tie
+use Rattle.table_chain_form.proofs.Walking.{walk-end, walk-full, walk-step, walk-above}
+use Rattle.table_chain_form.proofs.walk.Statement.{statement}
+use Rattle.table_chain_form.proofs.walk.Tie as tie
 
 abbrev Inv-loop : tie.InvT-loop
 Inv-loop t s x left jobs left₀ j₀ left' j =

@@ -4,9 +4,9 @@ use borrow.Author.Needs.{needs}
 use Rattle.table_words.specs.Bytes.{layoutIn}
 use Rattle.table_record_form.specs.Kinds.{counted}
 use Rattle.table_size.proofs.Sizes.{heads-long, entries-long}
-use Rattle.table_form.proofs.Formed.{Whole, spare-formed, broken-formed, count-formed, walked-formed}
-use Rattle.table_form.proofs.is_formed.Statement.{statement}
-use Rattle.table_form.proofs.is_formed.Tie as tie
+use Rattle.table_chain_form.proofs.Formed.{Whole, spare-formed, broken-formed, count-formed, walked-formed}
+use Rattle.table_chain_form.proofs.is_formed.Statement.{statement}
+use Rattle.table_chain_form.proofs.is_formed.Tie as tie
 
 spare-word-requires : tie.Need-spare-word-requires
 spare-word-requires c κs = search needs

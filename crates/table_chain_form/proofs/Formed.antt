@@ -22,8 +22,8 @@ use Rattle.table_record_form.specs.Kinds.{counted}
 use Rattle.table_record_form.specs.declared.Seen.{Seen}
 use Rattle.table_record_form.specs.declared.Seen.the-variants.{Jobs, Broken}
 use Rattle.table_record_form.proofs.Counted.{AllFit, counted-seen, fit-counted}
-use Rattle.table_form.specs.ChainWalks.{onlyIf, walked, allWalked}
-use Rattle.table_form.proofs.Walking.{all-broken}
+use Rattle.table_chain_form.specs.ChainWalks.{onlyIf, walked, allWalked}
+use Rattle.table_chain_form.proofs.Walking.{all-broken}
 
 -- a layout with a record for each job number and a head for each bench
 pub record Whole (l : Layout) : Type 0 where

@@ -6,12 +6,12 @@ use mathlib.Core.Path.{_≡_, refl, sym, _∙_}
 use lib.ListN.{drop}
 use borrow.Author.Needs.{needs}
 use Rattle.table_words.specs.Bytes.{layoutIn}
-use Rattle.table_form.specs.ChainWalks.{allWalked}
+use Rattle.table_chain_form.specs.ChainWalks.{allWalked}
 use Rattle.table_record_form.specs.declared.Seen.the-variants.{Jobs}
 use Rattle.table_size.proofs.Sizes.{heads-long}
-use Rattle.table_form.proofs.Walking.{all-step, all-broken, all-end}
-use Rattle.table_form.proofs.walk_all.Statement.{statement}
-use Rattle.table_form.proofs.walk_all.Tie as tie
+use Rattle.table_chain_form.proofs.Walking.{all-step, all-broken, all-end}
+use Rattle.table_chain_form.proofs.walk_all.Statement.{statement}
+use Rattle.table_chain_form.proofs.walk_all.Tie as tie
 
 abbrev Inv-loop : tie.InvT-loop
 Inv-loop t s count benches left₀ x₀ left x =

@@ -12,7 +12,7 @@ use borrow.Author.Tests.{ne-eqb}
 use Rattle.spec_lists.specs.Lists.{nth}
 use Rattle.spec_table.specs.Table.{Entry, vacant, holderIn}
 use Rattle.table_record_form.specs.declared.Seen.the-variants.{Jobs, Broken}
-use Rattle.table_form.specs.ChainWalks.{onlyIf, walked, allWalked}
+use Rattle.table_chain_form.specs.ChainWalks.{onlyIf, walked, allWalked}
 
 -- one chain
 

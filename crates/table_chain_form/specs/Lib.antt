@@ -1,0 +1,2 @@
+-- How the walks go.
+pub mod ChainWalks

@@ -1,0 +1,71 @@
+// The form check's clauses after the sizes, exactly: one pass over the records, one walk along the chains.
+ghost use mathlib.Core.Path.{_≡_};
+ghost use Rattle.spec_lists.specs.Lists.{nth};
+ghost use Rattle.spec_table.specs.Table.{formed};
+ghost use Rattle.table_words.specs.Bytes.{layoutIn};
+ghost use Rattle.table_size.specs.Sizes.{SizeOf, BenchIn};
+ghost use Rattle.table_chain_form.specs.ChainWalks.{walked, allWalked};
+use table_header::heads;
+use table_record_form::Seen;
+use table_size::Size;
+
+// Walks bench x's chain, before which `left` jobs are not yet met; how many are left after it.
+fn walk(t: &[u8], s: Size, x: usize, left: usize) -> Seen
+    requires { ⌜ SizeOf (now t) s ⌝ }
+    requires { ⌜ BenchIn s x ⌝ }
+    ensures { λ r. ⌜ r ≡ walked (layoutIn (now (t .entry)) .entries) x left
+        (nth (layoutIn (now (t .entry)) .heads) x 0) ⌝ }
+{
+    let jobs = s.jobs();
+    let mut left = left;
+    let mut j = heads::head(t, s, x);
+    while j != 0 {
+        if left == 0 || jobs < j {
+            return Seen::Broken;
+        }
+        if table_records::holder_at(t, s, j) != x {
+            return Seen::Broken;
+        }
+        left -= 1;
+        j = table_records::read_record(t, s, j).next;
+    }
+    Seen::Jobs(left)
+}
+
+// Tells whether all chains have together this number of jobs, each held by its chain's bench.
+fn walk_all(t: &[u8], s: Size, count: usize) -> bool
+    requires { ⌜ SizeOf (now t) s ⌝ }
+    ensures { λ r. ⌜ r ≡ allWalked (layoutIn (now (t .entry)) .entries) 1 (layoutIn (now (t .entry)) .heads)
+        (Seen.Jobs count) ⌝ }
+{
+    let benches = s.benches();
+    let mut left = count;
+    let mut x = 1;
+    while x <= benches {
+        match walk(t, s, x, left) {
+            Seen::Broken => return false,
+            Seen::Jobs(n) => left = n,
+        }
+        x += 1;
+    }
+    left == 0
+}
+
+// Tests the clauses of the sound table after its sizes.
+pub fn is_formed(t: &[u8], s: Size) -> bool
+    requires { ⌜ SizeOf (now t) s ⌝ }
+    ensures { λ r. ⌜ r ≡ formed (layoutIn (now (t .entry))) ⌝ }
+{
+    if table_header::spare_word(t, s) != 0 {
+        return false;
+    }
+    match table_record_form::count_records(t, s) {
+        Seen::Broken => false,
+        Seen::Jobs(count) => {
+            if table_header::standing_word(t, s) != count {
+                return false;
+            }
+            walk_all(t, s, count)
+        }
+    }
+}
