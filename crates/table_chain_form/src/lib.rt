@@ -9,7 +9,8 @@ use table_header::heads;
 use table_record_form::Seen;
 use table_size::Size;
 
-// Walks bench x's chain, before which `left` jobs are not yet met; how many are left after it.
+// Walks bench x's chain, before which `left` jobs are not yet met; how many are left after it. Reads the next job
+// before it compares the holder, so that this read does not wait for the comparison.
 fn walk(t: &[u8], s: Size, x: usize, left: usize) -> Seen
     requires { ⌜ SizeOf (now t) s ⌝ }
     requires { ⌜ BenchIn s x ⌝ }
@@ -23,11 +24,12 @@ fn walk(t: &[u8], s: Size, x: usize, left: usize) -> Seen
         if left == 0 || jobs < j {
             return Seen::Broken;
         }
+        let next = table_records::read_record(t, s, j).next;
         if table_records::holder_at(t, s, j) != x {
             return Seen::Broken;
         }
         left -= 1;
-        j = table_records::read_record(t, s, j).next;
+        j = next;
     }
     Seen::Jobs(left)
 }
