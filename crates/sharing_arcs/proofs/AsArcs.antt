@@ -14,9 +14,9 @@ use Rattle.spec_table.specs.Board.{Board, holderOf, namesOf, stands, load, name
 use Rattle.spec_table.specs.Table.{mostBenches, mostJobs, decode}
 use Rattle.spec_sharing.specs.Paths.{Step, stepBy, steps, endOf, Walk}
 use Rattle.spec_lists.proofs.Tests.{T→true, within-low, within-high, within-both}
-use Rattle.spec_lists.proofs.Elements.{is-empty, some-in, each-nth, two-elements, in-enumerate, enumerate-nth}
+use Rattle.spec_lists.proofs.Elements.{is-empty, some-in, each-nth, two-elements}
 use Rattle.spec_table.proofs.Named.{length-shares, pair-fits}
-use Rattle.spec_lists.proofs.Counting.{count-none, count-most}
+use Rattle.spec_lists.proofs.Counting.{count-most}
 use Rattle.spec_sharing.proofs.Distances.{storable-one-other}
 use Rattle.spec_sharing.proofs.Paths.{named-stands, named-bench, shares-nth, held-named, holder-bench, step-is, is-step}
 use Rattle.spec_sharing.proofs.Walks.{Reach, reach-here, reach-first}
@@ -24,7 +24,7 @@ use Rattle.table_size.specs.Sizes.{BenchIn}
 use Rattle.table_size.specs.declared.Size.{Size}
 use Rattle.table_size.proofs.Sizes.{board-bench}
 use Rattle.table_board.specs.BoardView.{HoldsBoard, Loaded, Position, NameOf}
-use Rattle.table_board.proofs.RecordsAsBoard.{stands-job, holder-most, stands-held, names-length}
+use Rattle.table_board.proofs.RecordsAsBoard.{stands-job, holder-most, stands-held, names-length, load-beyond}
 use Rattle.table_board.proofs.LoadCounts.{holders-long}
 use Rattle.graph_lists.specs.Arrays.{at, HasArc, Arcs, Reached, here, step, LoadsIn}
 use Rattle.graph_lists.specs.Keys.{KeysIn}
@@ -147,16 +147,6 @@ module _ {b : Board} (s : Size) {from to : List ℕ} where
       wide j w = within-both 1 done j (within-low 1 (s .jobs) j w) (omega (arith, within-high 1 (s .jobs) j w))
 
 -- loads
-
--- a bench beyond the last has no load
-load-beyond : (t : List ℕ) (s : Size) (x : ℕ) → HoldsBoard t s → s .benches < x → load ((decode t) .holders) x ≡ 0
-load-beyond t s x k l = count-none x ((decode t) .holders) never
-  where
-    never : In x ((decode t) .holders) → ⊥
-    never i =
-        let n = in-enumerate 1 x ((decode t) .holders) i in
-        let r = enumerate-nth (n .0, x) ((decode t) .holders) 0 (n .1) in
-        omega (arith, r .2, holder-most t s (n .0) k)
 
 -- the loads of a board are loads of its size ..
 pub loads-in : {t : List ℕ} {s : Size} {loads : List ℕ} → HoldsBoard t s → Loaded (decode t) loads → LoadsIn s loads

@@ -6,11 +6,10 @@ use mathlib.Core.Path.{_≡_, sym, subst, _∙_}
 use mathlib.Core.Logic.{_≢_}
 use mathlib.Core.List.{List}
 use lib.Dec.{T}
-use lib.ListN.{length, set, replicate, length-set}
-use lib.Seq.{getD-set-other}
+use lib.ListN.{length, set, length-set}
 use Rattle.spec_lists.specs.Lists.{within}
 use Rattle.spec_table.specs.Board.{stands, holderOf}
-use Rattle.spec_table.specs.Table.{mostBenches, mostJobs, decode}
+use Rattle.spec_table.specs.Table.{mostJobs, decode}
 use Rattle.spec_lists.proofs.Tests.{within-low, within-high, within-both}
 use Rattle.table_size.specs.Sizes.{SizeOf}
 use Rattle.table_size.specs.declared.Size.{Size}
@@ -20,7 +19,6 @@ use Rattle.table_board.proofs.RecordsAsBoard.{stands-job}
 use Rattle.table_chains.proofs.ChainView.{held-stands}
 use Rattle.table_chains.specs.Chains.{storedNext}
 use Rattle.graph_lists.specs.Arrays.{at}
-use Rattle.graph_lists.proofs.Listing.{array-at, array-long}
 use Rattle.sharing_arcs.specs.Arcs.{otherOf}
 use Rattle.sharing_arcs.proofs.AsArcs.{at-more}
 use Rattle.sharing_chains.specs.StoredChains.{StoredJobs}

@@ -9,11 +9,12 @@ use lib.Dec.{T, eqb}
 use lib.ListN.{length, getD}
 use borrow.Author.Tests.{eq-eqb, ne-eqb}
 use Rattle.spec_lists.specs.Lists.{member, Each, In, empty, nth, update}
-use Rattle.spec_table.specs.Board.{Board, namesOf, holderOf, stands, put, heldBy, mayHold, namesFit}
+use Rattle.spec_table.specs.Board.{Board, namesOf, holderOf, stands, put, load, heldBy, mayHold, namesFit}
 use Rattle.spec_table.specs.Table.{words, Entry, vacant, filled, holderIn, entryWords, positionOf, entryFor, boardOf, decode, paired, entryFits, Storable}
 use Rattle.spec_lists.proofs.Tests.{cond-le, T-eqb, within-low, within-high, within-both}
-use Rattle.spec_lists.proofs.Elements.{not-empty, two-elements, each-nth, in-getD, in-nth, nth-within, nth-map, map-update, update-same}
+use Rattle.spec_lists.proofs.Elements.{not-empty, two-elements, each-nth, in-getD, in-nth, nth-within, nth-map, map-update, update-same, in-enumerate, enumerate-nth}
 use Rattle.spec_lists.proofs.NumberLists.{member-in}
+use Rattle.spec_lists.proofs.Counting.{count-none}
 use Rattle.spec_table.proofs.Named.{fit-bench, changed-storable}
 use Rattle.spec_sharing.proofs.Paths.{named-may, holder-bench, stands-within, named-stands, named-bench}
 use Rattle.spec_sharing.proofs.Flip.{put-valid}
@@ -123,6 +124,16 @@ holder-most t s j k = rw (holder-record t j) (go (holds-record t s j k))
     go : (recordIn t j ≡ vacant) ⊎ Standing (s .benches) (recordIn t j) → holderIn (recordIn t j) ≤ s .benches
     go (inl q) = rw q (omega arith)
     go (inr r) = holder-within (s .benches) (recordIn t j) (r .benches-two) .1
+
+-- a bench beyond the last has no load
+pub load-beyond : (t : List ℕ) (s : Size) (x : ℕ) → HoldsBoard t s → s .benches < x → load ((decode t) .holders) x ≡ 0
+load-beyond t s x k l = count-none x ((decode t) .holders) never
+  where
+    never : In x ((decode t) .holders) → ⊥
+    never i =
+        let n = in-enumerate 1 x ((decode t) .holders) i in
+        let r = enumerate-nth (n .0, x) ((decode t) .holders) 0 (n .1) in
+        omega (arith, r .2, holder-most t s (n .0) k)
 
 -- a job stands exactly if it has a holder
 pub stands-held : (t : List ℕ) (s : Size) (j : ℕ) → HoldsBoard t s → stands (decode t) j ≡ not (eqb (holderOf (decode t) j) 0)

@@ -167,3 +167,7 @@ chain-load t s x j z b c =
       λ o. eqb-T (holderOf (decode t) i) x ((c .held i) .0 o .1),
       λ q. let e = T-eqb (holderOf (decode t) i) x q in (c .held i) .1 (held-stands t s i x (sound-holds-board t s z) (b .least) e, e),
     )
+
+-- .. as the table has it
+pub chain-length : (t : List ℕ) (s : Size) (x : ℕ) → SoundTable t s → BenchIn s x → length (nth (chains (layoutIn t)) x []) ≡ load ((decode t) .holders) x
+chain-length t s x z b = ap length (head-chain t x) ∙ chain-load t s x (storedHead t x) z b (first-chain t s x z b)

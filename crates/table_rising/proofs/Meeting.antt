@@ -5,9 +5,9 @@ use native.Mathlib.Numerals.{add-one}
 use native.Mathlib.Decide.{ℕ-discrete}
 use mathlib.Core.Path.{_≡_, refl, sym, ap, subst, _∙_}
 use mathlib.Core.Bool.{Bool, true, false}
-use mathlib.Core.List.{List, map}
+use mathlib.Core.List.{List}
 use lib.Dec.{T}
-use lib.ListN.{length, getD, set, drop, replicate, length-map, length-set, length-replicate, getD-replicate}
+use lib.ListN.{length, getD, set, drop, replicate, length-map, length-set, length-replicate}
 use lib.Seq.{getD-set-same, getD-set-other}
 use Rattle.spec_lists.specs.Lists.{In, nth, update}
 use Rattle.spec_lists.proofs.Tests.{true→T, within-low, within-high, Compared, same, other, compared}
@@ -26,7 +26,6 @@ use Rattle.table_records.specs.Records.{entryOf, RecordOf, NameAt}
 use Rattle.table_records.specs.declared.Record.{Record}
 use Rattle.table_record_form.specs.Kinds.{kindIf, kindOf, byKind, counted}
 use Rattle.table_record_form.specs.declared.Kind.the-variants.{Vacant, Fitting}
-use Rattle.table_record_form.specs.declared.Seen.the-variants.{Jobs}
 use Rattle.table_record_form.proofs.Counted.{AllFit, count-step, count-end, counted-seen}
 use Rattle.table_chains.specs.Chains.{pushed, pushedFrom}
 use Rattle.table_chains.proofs.Rebuilding.{rebuild-layout, rebuild-bytes}

@@ -1,16 +1,14 @@
 -- Meeting a job that is due undoes pushing it: so jobs met from the first up, until none is due, are those that were pushed from the last
 -- down.
-use Prim.Native.Nat.{ℕ, _≤_, _<_}
-use native.Mathlib.Omega.{arith}
-use mathlib.Core.Path.{_≡_, refl, sym, ap, subst, _∙_}
-use mathlib.Core.Logic.{_≢_}
-use mathlib.Core.List.{List, map}
-use lib.ListN.{length, getD, set, replicate}
-use Rattle.spec_lists.specs.Lists.{range, nth, update}
+use Prim.Native.Nat.{ℕ, _≤_}
+use mathlib.Core.Path.{_≡_, sym, ap, _∙_}
+use mathlib.Core.List.{List}
+use lib.ListN.{length}
+use Rattle.spec_lists.specs.Lists.{nth, update}
 use Rattle.spec_lists.proofs.Elements.{nth-update-same, update-again, update-same}
 use Rattle.spec_table.specs.Table.{Entry, vacant, holderIn, Layout}
 use Rattle.table_size.specs.Written.{withHeads, withNext}
-use Rattle.table_chains.specs.Chains.{pushFor, pushAt, pushed}
+use Rattle.table_chains.specs.Chains.{pushFor, pushed}
 use Rattle.table_chains.proofs.Rebuilding.{push-some}
 
 -- a job without a holder is pushed by leaving it ..

@@ -1,7 +1,6 @@
 -- No job is due at any bench. The loop's invariant: none is at those before x. The measure is the number of benches from x on.
 use Prim.Native.Nat.{_+_, _-_}
 use native.Mathlib.Omega.{arith}
-use mathlib.Core.Logic.{inl, inr}
 use borrow.Author.Needs.{needs}
 use Rattle.table_rising.proofs.Meeting.{EndedTo, ended-turn}
 use Rattle.table_rising.proofs.none_due.Statement.{statement}
