@@ -11,7 +11,6 @@ ghost use Rattle.table_board.specs.BoardView.{Loaded};
 ghost use Rattle.graph_lists.specs.Arrays.{Tells, LoadsIn};
 ghost use Rattle.sharing_tight_set.specs.MarkedSets.{marked, HeavyMarked, Lighter, Measured, TightSet};
 use graph_lists::scratch;
-use table_board::loads;
 use table_size::Size;
 
 // How many benches are in a set, and how many jobs they hold.
@@ -103,18 +102,23 @@ fn mark_closure(
 
 // Marks the tight set of height h; tells the number of its benches and of the jobs inside. Where no bench has less
 // than h, all are marked at once: no chain is copied, and no walk begins. A job inside is held inside, and a job that
-// a bench of the set holds is inside, so the loads are counted and not the jobs.
-pub fn tight_set(t: &[u8], s: Size, h: usize, marks: &mut [bool; Size::MOST_BENCHES + 1]) -> Extent
+// a bench of the set holds is inside, so the loads are added up and no job is counted.
+pub fn tight_set(
+    t: &[u8],
+    s: Size,
+    loads: &[u16; Size::MOST_BENCHES + 1],
+    h: usize,
+    marks: &mut [bool; Size::MOST_BENCHES + 1],
+) -> Extent
     requires { ⌜ SoundTable (now t) s ⌝ }
+    requires { ⌜ Loaded (decode (now t)) (now loads) ⌝ }
     requires { ⌜ now marks ≡ replicate (mostBenches + 1) false ⌝ }
     ensures { λ r. ⌜ TightSet (decode (now (t .entry))) s h (now (marks .exit)) r ⌝ }
 {
-    let mut load = scratch::benches();
-    loads::loads(t, s, &mut load);
-    if mark_heavy(s, &load, h, marks) {
-        mark_closure(t, s, &load, h, marks);
+    if mark_heavy(s, loads, h, marks) {
+        mark_closure(t, s, loads, h, marks);
     }
-    measure(s, &load, marks)
+    measure(s, loads, marks)
 }
 
 // Writes the marked benches, rising, as words at the list's beginning.

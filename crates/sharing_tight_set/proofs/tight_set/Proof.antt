@@ -13,52 +13,40 @@ use Rattle.sharing_tight_set.proofs.AsSet.{all-tight, measured-tight}
 use Rattle.sharing_tight_set.proofs.tight_set.Statement.{statement}
 use Rattle.sharing_tight_set.proofs.tight_set.Tie as tie
 
-benches-requires : tie.Need-benches-requires
-benches-requires c κs = search needs
-
-loads-requires : tie.Need-loads-requires
-loads-requires c κs = search needs
-
 mark-heavy-requires : tie.Need-mark-heavy-requires
 mark-heavy-requires c κs =
-    let l = c .before .before in
-    let b = l .before .before .before .before in
-    (b .pre .0 .size .limits, (loads-in (sound-holds-board _ _ (b .pre .0)) (l .loads .ensures), b .pre .1))
+    let pre = c .before .before .pre in
+    (pre .0 .size .limits, (loads-in (sound-holds-board _ _ (pre .0)) (pre .1 .0), pre .1 .1))
 
 mark-closure-requires : tie.Need-mark-closure-requires
 mark-closure-requires c κs = search needs
 
 measure-requires : tie.Need-measure-requires
 measure-requires c κs =
-    let l = c .before .before .before .before .before .before in
-    let b = l .before .before .before .before in
-    (b .pre .0 .size .limits, loads-in (sound-holds-board _ _ (b .pre .0)) (l .loads .ensures))
+    let pre = c .before .before .before .before .before .pre in
+    (pre .0 .size .limits, loads-in (sound-holds-board _ _ (pre .0)) (pre .1 .0))
 
 -- the marked benches are the tight set
-tight : (c : tie.Joined1) → let b = c .before .before .before .before .before .before .before .before in marked (b .args .s) (c .if1 .marks) ≡ tightSet (decode (b .args .t .now)) (b .args .h)
+tight : (c : tie.Joined1) → let start = c .before .before .before .before in marked (start .args .s) (c .if1 .marks) ≡ tightSet (decode (start .args .t .now)) (start .args .h)
 tight c =
-    let l = c .before .before .before .before in
-    let b = l .before .before .before .before in
+    let start = c .before .before .before .before in
     let m = c .before .mark-heavy in
-    let Less = Lighter (b .args .s) (l .loads .last .1 .1 .0) (b .args .h) in
+    let Less = Lighter (start .args .s) (start .args .loads .now) (start .args .h) in
     ⊎-elim
-    (λ w. rw (w .4) (w .3 .ensures))
-    (λ w. rw (w .1) (all-tight (b .args .h) (sound-holds-board _ _ (b .pre .0)) (l .loads .ensures) (m .ensures .0) (subst (λ (z : Bool). Tells Less z) (w .0 .left) (m .ensures .1))))
+    (λ w. rw (w .3) (w .2 .ensures))
+    (λ w. rw (w .1) (all-tight (start .args .h) (sound-holds-board _ _ (start .pre .0)) (start .pre .1 .0) (m .ensures .0) (subst (λ (z : Bool). Tells Less z) (w .0 .left) (m .ensures .1))))
     (c .if1 .came)
 
 returns : tie.Need-returns
 returns c =
-    let i = c .before .before .before in
-    let l = i .before .before .before .before in
-    let b = l .before .before .before .before in
-    measured-tight (b .args .h) (i .if1 .marks) (sound-holds-board _ _ (b .pre .0)) (l .loads .ensures) (tight i) (c .measure .ensures)
+    let i = c .before .before in
+    let start = i .before .before .before .before in
+    measured-tight (start .args .h) (i .if1 .marks) (sound-holds-board _ _ (start .pre .0)) (start .pre .1 .0) (tight i) (c .measure .ensures)
 
 pub tight-set-spec : {M : Type 1} → statement M
 tight-set-spec =
     tie.close
     (tie.spec
-    benches-requires
-    loads-requires
     mark-heavy-requires
     mark-closure-requires
     measure-requires
