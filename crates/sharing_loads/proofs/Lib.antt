@@ -1,2 +1,2 @@
--- Loads by the chains.
-pub mod ByChains
+-- The greatest of several loads.
+pub mod Greatest

@@ -1,39 +1,25 @@
-// Loads by the chains: of one bench, and the heaviest.
+// The heaviest of all loads.
 ghost use mathlib.Core.Path.{_≡_};
-ghost use Rattle.spec_table.specs.Board.{load, heaviest};
-ghost use Rattle.spec_table.specs.Table.{decode};
-ghost use Rattle.table_size.specs.Sizes.{BenchIn, SoundTable};
+ghost use Rattle.spec_lists.specs.Lists.{greatest};
+ghost use Rattle.table_size.specs.Sizes.{Limits};
+ghost use Rattle.graph_lists.specs.Arrays.{at, LoadsIn};
 use table_size::Size;
 
-// Counts the jobs on bench x's chain: its load.
-pub fn load(t: &[u8], s: Size, x: usize) -> usize
-    requires { ⌜ SoundTable (now t) s ⌝ }
-    requires { ⌜ BenchIn s x ⌝ }
-    ensures { λ r. ⌜ r ≡ load (decode (now (t .entry)) .holders) x ⌝ }
-{
-    let mut count = 0;
-    let mut j = table_chains::head(t, s, x);
-    while j != 0 {
-        count += 1;
-        j = table_chains::next(t, s, j);
-    }
-    count
-}
-
 // Finds the heaviest load, from bench 1 up.
-pub fn heaviest(t: &[u8], s: Size) -> usize
-    requires { ⌜ SoundTable (now t) s ⌝ }
-    ensures { λ r. ⌜ r ≡ heaviest (decode (now (t .entry))) ⌝ }
+pub fn heaviest(s: Size, loads: &[u16; Size::MOST_BENCHES + 1]) -> usize
+    requires { ⌜ Limits s ⌝ }
+    requires { ⌜ LoadsIn s (now loads) ⌝ }
+    ensures { λ r. ⌜ r ≡ greatest (s .benches) (at (now (loads .entry))) ⌝ }
 {
     let benches = s.benches();
     let mut most = 0;
     let mut done = 0;
     while done < benches {
-        let n = load(t, s, done + 1);
+        done += 1;
+        let n = loads[done];
         if most < n {
             most = n;
         }
-        done += 1;
     }
-    most
+    most as usize
 }
