@@ -1,3 +1,4 @@
--- Lists by key, keys of benches.
+-- Lists by key, keys of benches, numbers raised and lowered.
 pub mod Listing
 pub mod Keying
+pub mod Raising
