@@ -1,24 +1,24 @@
--- Arrival and closing: the lighter bench, and what is left once the rule's path is flipped and the chains are made anew.
+-- Arrival and closing: the lighter bench, the loads with the job and without it, and what is left once the rule's path is flipped and
+-- the chains are made anew.
 use Prim.Native.Nat.{ℕ, _+_, _-_, _<_, _≤_}
 use native.Mathlib.Omega.{arith}
 use mathlib.Core.Path.{_≡_, refl, sym, ap, subst, _∙_}
 use mathlib.Core.Logic.{_⊎_, inl, inr}
-use mathlib.Core.Bool.{Bool, true, false, not}
+use mathlib.Core.Bool.{Bool, true, false, not, cond}
 use mathlib.Core.List.{List, [], _∷_}
 use mathlib.Core.Option.{Option, none, some}
-use lib.Dec.{T, eqb}
-use lib.ListN.{length, length-map}
-use borrow.Author.Tests.{lt-ltb, le-ltb}
-use Rattle.spec_lists.specs.Lists.{bit, count, filter, In}
-use Rattle.spec_table.specs.Board.{Board, Valid, holderOf, stands, put, load, namesFit}
+use lib.Dec.{T, eqb, ltb}
+use lib.ListN.{length, set, length-map, length-set}
+use Rattle.spec_lists.specs.Lists.{bit, count, filter, In, update}
+use Rattle.spec_table.specs.Board.{Board, Valid, namesOf, holderOf, stands, put, load, namesFit}
 use Rattle.spec_sharing.specs.Paths.{Step, BenchPath, jobs, IsPath}
 use Rattle.spec_sharing.specs.Sharing.{Change, lightestNamed, arrivalChoice, closingChoice, afterArrival, afterClosing, arrive, close}
 use Rattle.spec_table.specs.Table.{decode, encode}
-use Rattle.spec_lists.proofs.Elements.{nth-update-same}
+use Rattle.spec_lists.proofs.Elements.{nth-update-same, is-empty}
 use Rattle.spec_lists.proofs.NumberLists.{Member, is-in, not-in, membered, in-member}
 use Rattle.spec_table.proofs.Named.{fit-bench}
-use Rattle.spec_lists.proofs.Counting.{count-none, count-some, distinct-count, filter-counts}
-use Rattle.spec_sharing.proofs.Paths.{holder-bench, improvingFrom-only}
+use Rattle.spec_lists.proofs.Counting.{bit-same, bit-other, count-none, count-some, distinct-count, filter-counts, count-update}
+use Rattle.spec_sharing.proofs.Paths.{holder-bench, holder-none, improvingFrom-only}
 use Rattle.spec_sharing.proofs.Choice.{arrival-choice}
 use Rattle.spec_sharing.proofs.Sets.{lightestNamed-in}
 use Rattle.spec_sharing.proofs.Flip.{path-jobs, flip-moves, flip-keeps}
@@ -27,26 +27,26 @@ use Rattle.spec_calls.proofs.Outcomes.{namable-fit}
 use Rattle.table_size.specs.Sizes.{BenchIn, JobIn, SoundTable}
 use Rattle.table_size.specs.declared.Size.{Size}
 use Rattle.table_size.proofs.Sizes.{board-job, board-bench}
-use Rattle.table_board.specs.BoardView.{HoldsBoard, Holds, HolderOf, Fillable}
+use Rattle.table_board.specs.BoardView.{HoldsBoard, Holds, HolderOf, Fillable, Loaded}
 use Rattle.table_chains.specs.Chains.{ChainsRebuilt}
 use Rattle.table_board.proofs.RecordsAsBoard.{sound-holds-board, stands-job}
 use Rattle.table_board.proofs.LoadCounts.{holders-long}
+use Rattle.graph_lists.specs.Arrays.{at}
+use Rattle.graph_lists.proofs.Raising.{at-raised, at-lowered}
+use Rattle.sharing_arcs.proofs.AsArcs.{load-at}
 use Rattle.sharing_paths.specs.declared.Flip.{Flip}
 use Rattle.sharing_paths.specs.Flips.{flippedBy, lengthOf, lastOf, startOf, Flipped}
 use Rattle.sharing_changes.specs.ChangeResults.{IsArrival, IsClosing}
-
--- the lighter of two benches: the second if it has less ..
-pub lighter-second : (holders : List ℕ) (x y : ℕ) {m n : ℕ} → m ≡ load holders y → n ≡ load holders x → m < n → y ≡ lightestNamed holders (x ∷ y ∷ [])
-lighter-second holders x y e f l = rw (lt-ltb (load holders y) (load holders x) (omega arith)) refl
-
--- .. else the first
-pub lighter-first : (holders : List ℕ) (x y : ℕ) {m n : ℕ} → m ≡ load holders y → n ≡ load holders x → n ≤ m → x ≡ lightestNamed holders (x ∷ y ∷ [])
-lighter-first holders x y e f l = rw (le-ltb (load holders y) (load holders x) (omega arith)) refl
 
 -- a path flipped on the board b, which the table held: the choice is that on b
 flipped-on : {u v : List ℕ} {s : Size} {b : Board} {r : Flip} (choice : Board → Option BenchPath) (end : Option BenchPath → ℕ) → decode u ≡ b → Flipped u v s (choice (decode u)) (end (choice (decode u))) r → (decode v ≡ flippedBy b (choice b)) × (r .bench ≡ end (choice b)) × (r .jobs ≡ lengthOf (choice b))
 flipped-on {u} {v} {s} {b} {r} choice end e t =
     subst (λ (d : Board). (decode v ≡ flippedBy d (choice d)) × (r .bench ≡ end (choice d)) × (r .jobs ≡ lengthOf (choice d))) e (t .holds .board, t .bench, t .jobs)
+
+-- one job written anew: its new holder has one load more, its old one one less
+written-load : {t : List ℕ} {s : Size} {j : ℕ} → HoldsBoard t s → JobIn s j → (a i : ℕ) → load (update ((decode t) .holders) j a) i + bit (eqb (holderOf (decode t) j) i) ≡ load ((decode t) .holders) i + bit (eqb a i)
+written-load {t} {s} {j} k b a i =
+    count-update ((decode t) .holders) j a i (b .least) (omega (arith, b .most, holders-long k))
 
 -- an arrival
 
@@ -67,7 +67,7 @@ module _ {t : List ℕ} {s : Size} {j x y : ℕ} (z : SoundTable t s) (m : MayAr
   pub getting-bench : {g : ℕ} → g ≡ lightestNamed ((decode t) .holders) (x ∷ y ∷ []) → BenchIn s g
   getting-bench e = arriving-bench (getting-in ((decode t) .holders) x y e)
 
-  -- .. and a record can hold the job
+  -- .. a record can hold the job ..
   pub arriving-fills : {g : ℕ} → g ≡ lightestNamed ((decode t) .holders) (x ∷ y ∷ []) → Fillable s j (x ∷ y ∷ []) g
   arriving-fills {g} e =
       record {
@@ -76,6 +76,28 @@ module _ {t : List ℕ} {s : Size} {j x y : ℕ} (z : SoundTable t s) (m : MayAr
         fit = subst (λ (n : ℕ). T (namesFit n (x ∷ y ∷ []))) (z .size .board-benches) (namable-fit (decode t) (x ∷ y ∷ []) (m .fit));
         held = in-member g (x ∷ y ∷ []) (getting-in ((decode t) .holders) x y e);
       }
+
+  module _ {loads : List ℕ} (l : Loaded (decode t) loads) where
+    -- .. the lightest named is the one that the loads tell ..
+    pub lighter-named : {g : ℕ} → g ≡ cond (ltb (at loads y) (at loads x)) y x → g ≡ lightestNamed ((decode t) .holders) (x ∷ y ∷ [])
+    lighter-named e =
+        let k = sound-holds-board t s z in
+        rw (load-at k l (arriving-bench (inl refl)), load-at k l (arriving-bench (inr (inl refl)))) at e
+
+    -- .. and with the job the loads are one more at the bench that gets it
+    pub arriving-loads : {u : List ℕ} {g : ℕ} → BenchIn s g → Holds u s (put (decode t) j (x ∷ y ∷ []) g) → Loaded (decode u) (set loads g (at loads g + 1))
+    arriving-loads {u} {g} b a =
+        rw (a .board)
+        (record { long = length-set loads g _ ∙ l .long; bench = λ i low high. omega (arith, at-raised loads g i small, l .bench i low high, written-load (sound-holds-board t s z) arriving-job g i, unheld i low) })
+      where
+        small : g < length loads
+        small = omega (arith, l .long, b .most, z .size .limits .benches-most)
+
+        free : holderOf (decode t) j ≡ 0
+        free = holder-none (decode t) (z .storable .valid) j (is-empty (namesOf (decode t) j) (m .free))
+
+        unheld : (i : ℕ) → 1 ≤ i → bit (eqb (holderOf (decode t) j) i) ≡ 0
+        unheld i low = bit-other (holderOf (decode t) j) i (λ d. omega (arith, free))
 
 -- a list but for j, and how often j stands in it
 others-count : (j : ℕ) (l : List ℕ) → length (filter (λ i. not (eqb i j)) l) + count j l ≡ length l
@@ -166,10 +188,31 @@ arrival-rebuilt d e =
 pub closing-job : (t : List ℕ) (s : Size) (j : ℕ) → SoundTable t s → T (stands (decode t) j) → HoldsBoard t s × JobIn s j
 closing-job t s j z p = (sound-holds-board t s z, stands-job t s j (z .size) p)
 
--- .. and its holder is a bench of 1 to B
-pub closing-bench : {t : List ℕ} {s : Size} {j x : ℕ} → SoundTable t s → T (stands (decode t) j) → HolderOf t s j x → BenchIn s x
-closing-bench {t} {s} {j} z p e =
-    rw (e .value) (board-bench (holderOf (decode t) j) (z .size) (holder-bench (decode t) (z .storable .valid) j p))
+module _ {t : List ℕ} {s : Size} {j x : ℕ} (z : SoundTable t s) (p : T (stands (decode t) j)) (e : HolderOf t s j x) where
+  -- .. its holder is a bench of 1 to B ..
+  pub closing-bench : BenchIn s x
+  closing-bench =
+      rw (e .value) (board-bench (holderOf (decode t) j) (z .size) (holder-bench (decode t) (z .storable .valid) j p))
+
+  -- .. whose load falls by one without the job ..
+  less : (i : ℕ) → 1 ≤ i → load (update ((decode t) .holders) j 0) i + bit (eqb x i) ≡ load ((decode t) .holders) i
+  less i low =
+      omega (arith, written-load (sound-holds-board t s z) (stands-job t s j (z .size) p) 0 i, bit-other 0 i (λ d. omega arith), ap (λ (n : ℕ). bit (eqb n i)) (e .value))
+
+  module _ {loads : List ℕ} (l : Loaded (decode t) loads) where
+    -- .. from one or more, ..
+    pub closing-some : 1 ≤ at loads x
+    closing-some =
+        omega (arith, load-at (sound-holds-board t s z) l closing-bench, less x (closing-bench .least), bit-same x x refl)
+
+    -- .. and so do the loads there
+    pub closing-loads : {u : List ℕ} → Holds u s (put (decode t) j [] 0) → Loaded (decode u) (set loads x (at loads x - 1))
+    closing-loads {u} a =
+        rw (a .board)
+        (record { long = length-set loads x _ ∙ l .long; bench = λ i low high. omega (arith, at-lowered loads x i small closing-some, l .bench i low high, less i low) })
+      where
+        small : x < length loads
+        small = omega (arith, l .long, closing-bench .most, z .size .limits .benches-most)
 
 -- the board, the bench and the jobs are those of the path that is flipped
 closes-by : (u w : List ℕ) (s : Size) (c : Board) (x : ℕ) (o : Option BenchPath) (r : Flip) → decode u ≡ flippedBy c o → r .bench ≡ startOf x o → r .jobs ≡ lengthOf o → ChainsRebuilt u w s → IsClosing w (afterClosing c x o) r

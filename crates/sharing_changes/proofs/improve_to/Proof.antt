@@ -1,4 +1,4 @@
--- The arcs are the board's, the loads its benches', and the path is flipped along them: the board stays as it was until then.
+-- The arcs are the board's, and the path is flipped along them: the board stays as it was until then.
 use borrow.Author.Needs.{needs}
 use Rattle.graph_lists.proofs.Listing.{array-long}
 use Rattle.sharing_changes.proofs.improve_to.Statement.{statement}
@@ -15,18 +15,11 @@ fill-requires c κs =
     let made = c .before .before .before in
     (made .before .before .before .pre .0, (array-long 0 (made .before .jobs .ensures), array-long 0 (made .jobs2 .ensures)))
 
-benches-requires : tie.Need-benches-requires
-benches-requires c κs = search needs
-
-loads-requires : tie.Need-loads-requires
-loads-requires c κs = search needs
-
 flip-to-requires : tie.Need-flip-to-requires
 flip-to-requires c κs =
-    let counted = c .before .before .before .before in
-    let filled = counted .before .before .before .before in
-    let start = filled .before .before .before .before .before .before .before in
-    (start .pre .0, (filled .fill .ensures, (counted .loads .ensures, start .pre .1)))
+    let filled = c .before .before .before in
+    let pre = filled .before .before .before .before .before .before .before .pre in
+    (pre .0, (filled .fill .ensures, pre .1))
 
 same-length : tie.Need-same-length
 same-length c = search needs
@@ -41,8 +34,6 @@ improve-to-spec =
     jobs-requires
     jobs-requires-2
     fill-requires
-    benches-requires
-    loads-requires
     flip-to-requires
     same-length
     returns)
