@@ -18,6 +18,10 @@ use Rattle.spec_lists.proofs.Counting.{bit-same, bit-other, bit-le, count-none,
 use Rattle.spec_table.proofs.Clauses.{filled-within, filled-in, filled-each, Formed, formed-is, formed-back}
 use Rattle.spec_table.proofs.Sound.{entry-tests, not-held, Ends, standingFrom, standing-first, formed-own, own-few}
 use Rattle.spec_table.proofs.ChainEnds.{after, ends-distinct}
+use Rattle.table_words.specs.Bytes.{layoutIn}
+use Rattle.table_size.specs.Sizes.{SizeOf}
+use Rattle.table_size.specs.declared.Size.{Size}
+use Rattle.table_size.proofs.Sizes.{heads-long, entries-long}
 use Rattle.table_record_form.specs.Kinds.{counted}
 use Rattle.table_record_form.specs.declared.Seen.{Seen}
 use Rattle.table_record_form.specs.declared.Seen.the-variants.{Jobs, Broken}
@@ -29,6 +33,11 @@ use Rattle.table_chain_form.proofs.Walking.{all-broken}
 pub record Whole (l : Layout) : Type 0 where
   pub entries : length (l .entries) ≡ l .jobs
   pub heads : length (l .heads) ≡ l .benches
+
+-- a table's layout is such
+pub table-whole : (t : List ℕ) (s : Size) → SizeOf t s → Whole (layoutIn t)
+table-whole t s z =
+    record { entries = entries-long t s z ∙ sym (z .jobs); heads = heads-long t s z ∙ sym (z .benches) }
 
 -- without a clause of the sound table the definition says no
 refused : (l : Layout) → (Formed l → ⊥) → formed l ≡ false
@@ -80,6 +89,12 @@ broken-formed l e = refused l (λ f. fit-counted (l .benches) 0 (l .entries) (f 
 -- word 2 is not the number of standing jobs
 pub count-formed : (l : Layout) (n : ℕ) → counted (l .benches) 0 (l .entries) ≡ Jobs n → (l .standing ≡ n → ⊥) → formed l ≡ false
 count-formed l n e d = refused l (λ f. d (omega (arith, f .standing, (counted-seen (l .benches) 0 1 (l .entries) n e) .1)))
+
+-- no more than J jobs stand
+pub counted-few : (l : Layout) (n : ℕ) → Whole l → counted (l .benches) 0 (l .entries) ≡ Jobs n → n ≤ l .jobs
+counted-few l n w e =
+    let es = l .entries in
+    omega (arith, w .entries, (counted-seen (l .benches) 0 1 es n e) .1, standing-total 1 es, total-most (length es) (λ j. bit (filledAt es j)) (λ j. bit-le (filledAt es j)))
 
 -- one chain
 
@@ -137,6 +152,10 @@ module _ (es : List Entry) where
           let p = ih r in
           record { held = first (T-eqb holder x (true→T (eqb holder x) d)) (p .held); ends = p .ends; long = omega (arith, p .long) }
       go false d ih r = absurd (true→T false cc)
+
+  -- what it left is what is not on the chain
+  pub walked-long : (x n j m k : ℕ) → walked es x n j ≡ Jobs m → n ≤ k → length (follow es (suc k) j) + m ≡ n
+  walked-long x n j m k q h = (walked-walk x n j m k q h) .long
 
   -- it went over a chain of x's own jobs, and left the others ..
   walked-own : (x n j m k : ℕ) → walked es x n j ≡ Jobs m → n ≤ k → Own x (follow es (suc k) j) × (length (follow es (suc k) j) + m ≡ n)
@@ -307,9 +326,6 @@ walked-formed l n w z e c = tests-same (formed l) (allWalked es 1 (l .heads) (Jo
     number : length (standingIn es) ≡ n
     number = omega (arith, seen .1)
 
-    few-jobs : n ≤ l .jobs
-    few-jobs = omega (arith, w .entries, number, standing-total 1 es, total-most (length es) (λ j. bit (filledAt es j)) (λ j. bit-le (filledAt es j)))
-
     walks : Formed l → T (allWalked es 1 (l .heads) (Jobs n))
     walks f =
         let own = formed-own l f in
@@ -317,7 +333,7 @@ walked-formed l n w z e c = tests-same (formed l) (allWalked es 1 (l .heads) (Jo
 
     forms : T (allWalked es 1 (l .heads) (Jobs n)) → Formed l
     forms t =
-        let r = all-walked-own es 1 (l .jobs) (l .heads) n t few-jobs in
+        let r = all-walked-own es 1 (l .jobs) (l .heads) n t (counted-few l n w e) in
         record {
           entry = fit;
           place = own-placed l w fit (r .0) (r .1 ∙ sym number);

@@ -1,2 +1,3 @@
--- How the walks go.
+-- How the walks go (`ChainWalks`), and what they leave (`ChainLengths`).
 pub mod ChainWalks
+pub mod ChainLengths

@@ -1,10 +1,13 @@
 // The form check's clauses after the sizes, exactly: one pass over the records, one walk along the chains.
+ghost use Prim.Native.Nat.{_≤_};
 ghost use mathlib.Core.Path.{_≡_};
+ghost use lib.Dec.{T};
 ghost use Rattle.spec_lists.specs.Lists.{nth};
 ghost use Rattle.spec_table.specs.Table.{formed};
 ghost use Rattle.table_words.specs.Bytes.{layoutIn};
-ghost use Rattle.table_size.specs.Sizes.{SizeOf, BenchIn};
+ghost use Rattle.table_size.specs.Sizes.{SizeOf, BenchIn, ByBench};
 ghost use Rattle.table_chain_form.specs.ChainWalks.{walked, allWalked};
+ghost use Rattle.table_chain_form.specs.ChainLengths.{ChainLengths};
 use table_header::heads;
 use table_record_form::Seen;
 use table_size::Size;
@@ -34,11 +37,15 @@ fn walk(t: &[u8], s: Size, x: usize, left: usize) -> Seen
     Seen::Jobs(left)
 }
 
-// Tells whether all chains have together this number of jobs, each held by its chain's bench.
-fn walk_all(t: &[u8], s: Size, count: usize) -> bool
+// Tells whether all chains have together this number of jobs, each held by its chain's bench. Leaves in `loads`, at
+// each bench, the number of jobs on its chain: a walk counts them anyway.
+fn walk_all(t: &[u8], s: Size, count: usize, loads: &mut [u16; Size::MOST_BENCHES + 1]) -> bool
     requires { ⌜ SizeOf (now t) s ⌝ }
+    requires { ⌜ ByBench s (now loads) ⌝ }
+    requires { ⌜ count ≤ s .jobs ⌝ }
     ensures { λ r. ⌜ r ≡ allWalked (layoutIn (now (t .entry)) .entries) 1 (layoutIn (now (t .entry)) .heads)
         (Seen.Jobs count) ⌝ }
+    ensures { λ r. ⌜ (T r → ChainLengths (layoutIn (now (t .entry))) s (now (loads .exit))) ⌝ }
 {
     let benches = s.benches();
     let mut left = count;
@@ -46,17 +53,23 @@ fn walk_all(t: &[u8], s: Size, count: usize) -> bool
     while x <= benches {
         match walk(t, s, x, left) {
             Seen::Broken => return false,
-            Seen::Jobs(n) => left = n,
+            Seen::Jobs(n) => {
+                loads[x] = (left - n) as u16;
+                left = n;
+            }
         }
         x += 1;
     }
     left == 0
 }
 
-// Tests the clauses of the sound table after its sizes.
-pub fn is_formed(t: &[u8], s: Size) -> bool
+// Tests the clauses of the sound table after its sizes. Of a table that passes, leaves in `loads`, at each bench, the
+// number of jobs on its chain.
+pub fn is_formed(t: &[u8], s: Size, loads: &mut [u16; Size::MOST_BENCHES + 1]) -> bool
     requires { ⌜ SizeOf (now t) s ⌝ }
+    requires { ⌜ ByBench s (now loads) ⌝ }
     ensures { λ r. ⌜ r ≡ formed (layoutIn (now (t .entry))) ⌝ }
+    ensures { λ r. ⌜ (T r → ChainLengths (layoutIn (now (t .entry))) s (now (loads .exit))) ⌝ }
 {
     if table_header::spare_word(t, s) != 0 {
         return false;
@@ -67,7 +80,7 @@ pub fn is_formed(t: &[u8], s: Size) -> bool
             if table_header::standing_word(t, s) != count {
                 return false;
             }
-            walk_all(t, s, count)
+            walk_all(t, s, count, loads)
         }
     }
 }

@@ -18,7 +18,8 @@ pub fn check(t: &[u8]) -> Form
     match Size::of(t) {
         Sizing::Misfit => Form::Refused(Refusal::Sizes),
         Sizing::Fit(s) => {
-            if table_chain_form::is_formed(t, s) {
+            let mut loads = [0u16; Size::MOST_BENCHES + 1];
+            if table_chain_form::is_formed(t, s, &mut loads) {
                 Form::Sound(s)
             } else {
                 Form::Refused(Refusal::Unsound)

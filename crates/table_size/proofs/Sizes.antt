@@ -5,16 +5,17 @@ use mathlib.Core.Path.{_≡_, refl, sym, ap, _∙_, subst}
 use mathlib.Core.Bool.{Bool, true, false, cond, _&&_}
 use mathlib.Core.List.{List, [], _∷_}
 use lib.Dec.{T, ltb, ltb→lt, lt→ltb}
-use lib.ListN.{length, getD, length-map}
+use lib.ListN.{length, getD, replicate, length-map, length-replicate}
 use borrow.Author.Tests.{le-leb}
 use Rattle.spec_lists.specs.Lists.{within}
 use Rattle.spec_table.specs.Table.{words, lengthFor, mostBenches, mostJobs, sizesFit, fits, layout, boardOf, decode}
 use Rattle.spec_lists.proofs.Tests.{true→T, T→true, never→false, left, right, tests-same, within-low, within-high, within-both}
+use Rattle.spec_lists.proofs.Elements.{each-replicate, each-getD}
 use Rattle.spec_table.proofs.Words.{within-fit}
 use Rattle.spec_table.proofs.Places.{length-words, misfit, short-refused, fits-sized, fits-heads, fits-entries}
 use Rattle.spec_calls.specs.Answers.{refusalNumber, sizes}
 use Rattle.table_words.specs.Bytes.{layoutIn}
-use Rattle.table_size.specs.Sizes.{Limits, SizeOf, JobIn, BenchIn, fitIf, sizing, sizeIn, sizingNumbers, SizingOf, SoundTable}
+use Rattle.table_size.specs.Sizes.{Limits, SizeOf, JobIn, BenchIn, ByBench, fitIf, sizing, sizeIn, sizingNumbers, SizingOf, SoundTable}
 use Rattle.table_size.specs.declared.Size.{Size}
 use Rattle.table_size.specs.declared.Sizing.{Sizing}
 use Rattle.table_size.specs.declared.Sizing.the-variants.{Fit, Misfit}
@@ -173,6 +174,15 @@ board-job {t} {s} j z w = job-in s j (subst (λ (n : ℕ). T (within 1 n j)) (z 
 
 pub board-bench : {t : List ℕ} {s : Size} (x : ℕ) → SizeOf t s → T (within 1 ((decode t) .benches) x) → BenchIn s x
 board-bench {t} {s} x z w = bench-in s x (subst (λ (n : ℕ). T (within 1 n x)) (z .board-benches) w)
+
+-- zeros are numbers by bench
+pub zeros-by-bench : (s : Size) → ByBench s (replicate (mostBenches + 1) 0)
+zeros-by-bench s =
+    let n : ℕ = mostBenches + 1 in
+    record {
+      long = length-replicate {A = ℕ} n 0;
+      beyond = λ x h. each-getD (λ m. m ≡ 0) (replicate n 0) x 0 refl (each-replicate (λ m. m ≡ 0) n 0 refl);
+    }
 
 module _ {t : List ℕ} {s : Size} (z : SoundTable t s) where
   -- a sound table's numbers of jobs and benches are its board's
