@@ -1,9 +1,12 @@
 // The calls that write a table: blanking, arrival, closing, levelling.
 ghost use mathlib.Core.List.{[], _∷_};
 ghost use Rattle.spec_calls.specs.Calls.{blanking, outcome, arrival, closing, levelling};
+ghost use Rattle.spec_table.specs.Table.{decode};
 ghost use Rattle.table_size.specs.Sizes.{SoundTable};
+ghost use Rattle.table_board.specs.BoardView.{Loaded};
 ghost use Rattle.board_answers.specs.Answered.{Leaves};
 use board_answers::Answer;
+use graph_lists::scratch;
 use table_board::jobs;
 use table_form::Form;
 use table_refusals::Refusal;
@@ -21,8 +24,16 @@ pub fn blank(t: &mut [u8], benches: usize, jobs: usize) -> Answer
 }
 
 // Takes in a job on a sound table, or refuses with 3, 4 or 5, in this order.
-fn arrival_on(t: &mut [u8], s: Size, job: usize, first: usize, second: usize) -> Answer
+fn arrival_on(
+    t: &mut [u8],
+    s: Size,
+    loads: &mut [u16; Size::MOST_BENCHES + 1],
+    job: usize,
+    first: usize,
+    second: usize,
+) -> Answer
     requires { ⌜ SoundTable (now t) s ⌝ }
+    requires { ⌜ Loaded (decode (now t)) (now loads) ⌝ }
     ensures { λ r. ⌜ Leaves (outcome (arrival (record { job = job; given = first ∷ second ∷ [] })) (now (t .entry))) r
         (now (t .exit)) [] ⌝ }
 {
@@ -35,7 +46,7 @@ fn arrival_on(t: &mut [u8], s: Size, job: usize, first: usize, second: usize) ->
     if jobs::stands(t, s, job) {
         return Answer::Refused(Refusal::AlreadyStanding);
     }
-    let a = sharing_changes::arrive(t, s, job, first, second);
+    let a = sharing_changes::arrive(t, s, loads, job, first, second);
     Answer::Arrived(a.holder, a.rose, a.moved)
 }
 
@@ -44,15 +55,22 @@ pub fn arrival(t: &mut [u8], job: usize, first: usize, second: usize) -> Answer
     ensures { λ r. ⌜ Leaves (outcome (arrival (record { job = job; given = first ∷ second ∷ [] })) (now (t .entry))) r
         (now (t .exit)) [] ⌝ }
 {
-    match table_form::check(t) {
+    let mut loads = scratch::benches();
+    match table_form::check(t, &mut loads) {
         Form::Refused(r) => Answer::Refused(r),
-        Form::Sound(s) => arrival_on(t, s, job, first, second),
+        Form::Sound(s, _) => arrival_on(t, s, &mut loads, job, first, second),
     }
 }
 
 // Closes a job on a sound table, or refuses with 3 or 6, in this order.
-fn closing_on(t: &mut [u8], s: Size, job: usize) -> Answer
+fn closing_on(
+    t: &mut [u8],
+    s: Size,
+    loads: &mut [u16; Size::MOST_BENCHES + 1],
+    job: usize,
+) -> Answer
     requires { ⌜ SoundTable (now t) s ⌝ }
+    requires { ⌜ Loaded (decode (now t)) (now loads) ⌝ }
     ensures { λ r. ⌜ Leaves (outcome (closing (record { job = job })) (now (t .entry))) r (now (t .exit)) [] ⌝ }
 {
     if !s.has_job(job) {
@@ -61,7 +79,7 @@ fn closing_on(t: &mut [u8], s: Size, job: usize) -> Answer
     if !jobs::stands(t, s, job) {
         return Answer::Refused(Refusal::NotStanding);
     }
-    let c = sharing_changes::close(t, s, job);
+    let c = sharing_changes::close(t, s, loads, job);
     Answer::Closed(c.bench, c.jobs)
 }
 
@@ -69,9 +87,10 @@ fn closing_on(t: &mut [u8], s: Size, job: usize) -> Answer
 pub fn closing(t: &mut [u8], job: usize) -> Answer
     ensures { λ r. ⌜ Leaves (outcome (closing (record { job = job })) (now (t .entry))) r (now (t .exit)) [] ⌝ }
 {
-    match table_form::check(t) {
+    let mut loads = scratch::benches();
+    match table_form::check(t, &mut loads) {
         Form::Refused(r) => Answer::Refused(r),
-        Form::Sound(s) => closing_on(t, s, job),
+        Form::Sound(s, _) => closing_on(t, s, &mut loads, job),
     }
 }
 
@@ -79,10 +98,11 @@ pub fn closing(t: &mut [u8], job: usize) -> Answer
 pub fn levelling(t: &mut [u8], allowance: u32) -> Answer
     ensures { λ r. ⌜ Leaves (outcome (levelling allowance) (now (t .entry))) r (now (t .exit)) [] ⌝ }
 {
-    match table_form::check(t) {
+    let mut loads = scratch::benches();
+    match table_form::check(t, &mut loads) {
         Form::Refused(r) => Answer::Refused(r),
-        Form::Sound(s) => {
-            let l = sharing_levelling::relevel(t, s, allowance);
+        Form::Sound(s, _) => {
+            let l = sharing_levelling::relevel(t, s, &mut loads, allowance);
             if l.level {
                 Answer::Levelled(l.paths)
             } else {

@@ -1,9 +1,12 @@
 // The questions: they change no table byte.
 ghost use mathlib.Core.List.{[]};
 ghost use Rattle.spec_calls.specs.Calls.{outcome, ask, loadOf, heaviestLoad, tightSetOf, formCheck, levelCheck};
+ghost use Rattle.spec_table.specs.Table.{decode};
 ghost use Rattle.table_size.specs.Sizes.{SoundTable};
+ghost use Rattle.table_board.specs.BoardView.{Loaded};
 ghost use Rattle.board_answers.specs.Answered.{Leaves};
 use board_answers::Answer;
+use graph_lists::scratch;
 use table_form::Form;
 use table_refusals::Refusal;
 use table_size::Size;
@@ -12,9 +15,10 @@ use table_size::Size;
 pub fn form_check(t: &[u8]) -> Answer
     ensures { λ r. ⌜ Leaves (outcome (ask formCheck []) (now (t .entry))) r (now (t .entry)) [] ⌝ }
 {
-    match table_form::check(t) {
+    let mut loads = scratch::benches();
+    match table_form::check(t, &mut loads) {
         Form::Refused(r) => Answer::Refused(r),
-        Form::Sound(_) => Answer::Sound,
+        Form::Sound(_, _) => Answer::Sound,
     }
 }
 
@@ -22,10 +26,11 @@ pub fn form_check(t: &[u8]) -> Answer
 pub fn level_check(t: &[u8]) -> Answer
     ensures { λ r. ⌜ Leaves (outcome (ask levelCheck []) (now (t .entry))) r (now (t .entry)) [] ⌝ }
 {
-    match table_form::check(t) {
+    let mut loads = scratch::benches();
+    match table_form::check(t, &mut loads) {
         Form::Refused(r) => Answer::Refused(r),
-        Form::Sound(s) => {
-            if sharing_levelling::is_level(t, s) {
+        Form::Sound(s, _) => {
+            if sharing_levelling::is_level(t, s, &loads) {
                 Answer::Level
             } else {
                 Answer::NotLevel
@@ -38,11 +43,12 @@ pub fn level_check(t: &[u8]) -> Answer
 pub fn load(t: &[u8], bench: usize) -> Answer
     ensures { λ r. ⌜ Leaves (outcome (ask (loadOf bench) []) (now (t .entry))) r (now (t .entry)) [] ⌝ }
 {
-    match table_form::check(t) {
+    let mut loads = scratch::benches();
+    match table_form::check(t, &mut loads) {
         Form::Refused(r) => Answer::Refused(r),
-        Form::Sound(s) => {
+        Form::Sound(s, _) => {
             if s.has_bench(bench) {
-                Answer::Load(sharing_loads::load(t, s, bench))
+                Answer::Load(loads[bench] as usize)
             } else {
                 Answer::Refused(Refusal::BenchNumber)
             }
@@ -54,15 +60,23 @@ pub fn load(t: &[u8], bench: usize) -> Answer
 pub fn heaviest(t: &[u8]) -> Answer
     ensures { λ r. ⌜ Leaves (outcome (ask heaviestLoad []) (now (t .entry))) r (now (t .entry)) [] ⌝ }
 {
-    match table_form::check(t) {
+    let mut loads = scratch::benches();
+    match table_form::check(t, &mut loads) {
         Form::Refused(r) => Answer::Refused(r),
-        Form::Sound(s) => Answer::Heaviest(sharing_loads::heaviest(t, s)),
+        Form::Sound(s, _) => Answer::Heaviest(sharing_loads::heaviest(s, &loads)),
     }
 }
 
 // Lists the tight set on a sound table, or refuses with 7 or 8, in this order.
-fn tight_set_on(t: &[u8], s: Size, height: usize, list: &mut [u8]) -> Answer
+fn tight_set_on(
+    t: &[u8],
+    s: Size,
+    loads: &[u16; Size::MOST_BENCHES + 1],
+    height: usize,
+    list: &mut [u8],
+) -> Answer
     requires { ⌜ SoundTable (now t) s ⌝ }
+    requires { ⌜ Loaded (decode (now t)) (now loads) ⌝ }
     ensures { λ r. ⌜ Leaves (outcome (ask (tightSetOf height) (now (list .entry))) (now (t .entry))) r
         (now (t .entry)) (now (list .exit)) ⌝ }
 {
@@ -70,7 +84,7 @@ fn tight_set_on(t: &[u8], s: Size, height: usize, list: &mut [u8]) -> Answer
         return Answer::Refused(Refusal::Height);
     }
     let mut marks = sharing_tight_set::unmarked();
-    let e = sharing_tight_set::tight_set(t, s, height, &mut marks);
+    let e = sharing_tight_set::tight_set(t, s, loads, height, &mut marks);
     // No bench has this load: the height is above the heaviest.
     if e.benches == 0 {
         return Answer::Refused(Refusal::Height);
@@ -87,8 +101,9 @@ pub fn tight_set(t: &[u8], height: usize, list: &mut [u8]) -> Answer
     ensures { λ r. ⌜ Leaves (outcome (ask (tightSetOf height) (now (list .entry))) (now (t .entry))) r
         (now (t .entry)) (now (list .exit)) ⌝ }
 {
-    match table_form::check(t) {
+    let mut loads = scratch::benches();
+    match table_form::check(t, &mut loads) {
         Form::Refused(r) => Answer::Refused(r),
-        Form::Sound(s) => tight_set_on(t, s, height, list),
+        Form::Sound(s, _) => tight_set_on(t, s, &loads, height, list),
     }
 }

@@ -1,60 +1,74 @@
--- What the form check answers.
+-- What the form check answers, and that it is true of the table and of the loads.
 use Prim.Native.Nat.{ℕ}
-use mathlib.Core.Path.{_≡_, refl, sym, ap}
-use mathlib.Core.Bool.{Bool, true, false, _&&_}
+use native.Mathlib.Decide.{decLe}
+use native.Mathlib.Omega.{arith}
+use mathlib.Core.Path.{_≡_, refl, sym, ap, _∙_}
+use mathlib.Core.Bool.{Bool, true, false}
 use mathlib.Core.List.{List, []}
 use lib.Dec.{T}
-use Rattle.spec_lists.proofs.Tests.{true→T, T→true}
-use Rattle.spec_table.specs.Table.{formed, fits, sound}
+use Rattle.spec_lists.proofs.Tests.{true→T, T→true, both}
+use Rattle.spec_table.specs.Table.{formed, fits, sound, decode}
 use Rattle.spec_table.proofs.Sound.{sound-storable}
-use Rattle.spec_calls.specs.Calls.{outcome, ask, formCheck, questionConditions, asked, accepted}
+use Rattle.spec_calls.specs.Calls.{ask, formCheck, questionConditions, asked, accepted}
 use Rattle.spec_calls.proofs.Refusals.{form-stops}
 use Rattle.spec_calls.proofs.ChainOrder.{sound-outcome}
 use Rattle.table_words.specs.Bytes.{layoutIn}
-use Rattle.table_size.specs.Sizes.{fitIf, sizeIn}
+use Rattle.table_size.specs.Sizes.{fitIf, sizeIn, SizeOf, BenchIn, SoundTable}
 use Rattle.table_size.specs.declared.Size.{Size}
-use Rattle.table_size.specs.declared.Sizing.the-variants.{Fit, Misfit}
-use Rattle.table_size.proofs.Sizes.{size-of, fit-size}
+use Rattle.table_size.specs.declared.Sizing.the-variants.{Misfit}
+use Rattle.table_board.specs.BoardView.{Loaded}
+use Rattle.table_board.proofs.RecordsAsBoard.{sound-holds-board, load-beyond}
+use Rattle.table_chains.proofs.ChainView.{chain-length}
+use Rattle.table_chain_form.specs.ChainLengths.{ChainLengths}
+use Rattle.table_rising.specs.Passing.{Rising}
 use Rattle.table_refusals.specs.Refusals.{refusalOf}
-use Rattle.table_refusals.specs.declared.Refusal.the-variants.{Sizes}
-use Rattle.table_form.specs.FormCheck.{formAnswer, formIf, formIn, Checked, FormOf}
+use Rattle.table_refusals.specs.declared.Refusal.the-variants.{Sizes, Unsound}
+use Rattle.table_form.specs.FormCheck.{Checked, FormOf}
 use Rattle.table_form.specs.declared.Form.{Form}
 use Rattle.table_form.specs.declared.Form.the-variants.{Refused, Sound}
 
--- each answer says what holds of the table
-checked : (t : List ℕ) (f : Form) → f ≡ formIn t → Checked t f
-unfolding formIn sound
-checked t f e = rw e (go (fits t) (formed (layoutIn t)) refl refl)
-  where
-    b : ℕ
-    b = (layoutIn t) .benches
-
-    j : ℕ
-    j = (layoutIn t) .jobs
-
-    go : (y z : Bool) → fits t ≡ y → formed (layoutIn t) ≡ z → Checked t (formIf (y && z) (fitIf y b j))
-    go true true p q =
-        let s : T (sound t) = rw (p, q) tt in
-        record { size = size-of t (record { benches = b; jobs = j }) (true→T (fits t) p) refl refl; sound = s; storable = sound-storable t s }
-    go true false p q = rw (p, q)
-    go false z p q = rw p
-
--- so it is the definition's answer
-answer-is : (t : List ℕ) (f : Form) → Checked t f → formAnswer f ≡ (outcome (ask formCheck []) t) .answer
+-- what is said of the table is the definition's answer
+answered : (t loads : List ℕ) (f : Form) → Checked t loads f → FormOf t loads f
 unfolding questionConditions asked accepted
-answer-is t (Refused r) k = sym (form-stops (ask formCheck []) tt t (refusalOf r) k)
-answer-is t (Sound s) k = sym (ap (λ o. o .answer) (sound-outcome (ask formCheck []) tt t (k .sound)))
-
--- all of the contract, of the form check's value
-answered : (t : List ℕ) (f : Form) → f ≡ formIn t → FormOf t f
-answered t f e = let k = checked t f e in record { value = e; answer = answer-is t f k; says = k }
+answered t loads (Refused r) k = record { answer = sym (form-stops (ask formCheck []) tt t (refusalOf r) k); says = k }
+answered t loads (Sound s rising) k =
+    record { answer = sym (ap (λ o. o .answer) (sound-outcome (ask formCheck []) tt t (k .sound .sound))); says = k }
 
 -- refusal 1 where the sizes do not fit ..
-pub misfit-answered : (t : List ℕ) → sizeIn t ≡ Misfit → FormOf t (Refused Sizes)
-unfolding formIn
-misfit-answered t e = answered t (Refused Sizes) (sym (ap (formIf (sound t)) e))
+pub misfit-answered : (t loads : List ℕ) → sizeIn t ≡ Misfit → FormOf t loads (Refused Sizes)
+misfit-answered t loads e = answered t loads (Refused Sizes) (go (fits t) refl e)
+  where
+    go : (z : Bool) → fits t ≡ z → fitIf z ((layoutIn t) .benches) ((layoutIn t) .jobs) ≡ Misfit → Checked t loads (Refused Sizes)
+    go false p q = rw p
+    go true p q = absurd (true→T false cc)
 
--- .. and else the clauses after the sizes decide
-pub fit-answered : (t : List ℕ) (s : Size) (z : Bool) → sizeIn t ≡ Fit s → z ≡ formed (layoutIn t) → FormOf t (formIf z (Fit s))
-unfolding formIn sound
-fit-answered t s z e q = answered t (formIf z (Fit s)) (rw (e, T→true (fits t) ((fit-size t s e) .fit), sym q) refl)
+module _ {t : List ℕ} {s : Size} (z : SizeOf t s) where
+  -- .. 2 where they do, but the clauses after them do not hold ..
+  pub unformed-answered : (loads : List ℕ) → formed (layoutIn t) ≡ false → FormOf t loads (Refused Unsound)
+  unfolding sound
+  unformed-answered loads e = answered t loads (Refused Unsound) (rw (T→true (fits t) (z .fit), e))
+
+  -- .. and sound where they do: by the walks, which leave the lengths of the chains ..
+  pub formed-answered : {loads : List ℕ} → formed (layoutIn t) ≡ true → ChainLengths (layoutIn t) s loads → FormOf t loads (Sound s false)
+  unfolding sound
+  formed-answered {loads} e c = answered t loads (Sound s false) (record { sound = found; loaded = loaded; bytes = λ n. absurd n })
+    where
+      is-sound : T (sound t)
+      is-sound = both (fits t) (formed (layoutIn t)) (z .fit) (true→T (formed (layoutIn t)) e)
+
+      found : SoundTable t s
+      found = record { size = z; sound = is-sound; storable = sound-storable t is-sound }
+
+      loaded : Loaded (decode t) loads
+      loaded =
+          record {
+            long = c .byBench .long;
+            bench = λ x l u. elim (decLe x (s .benches)) [
+              | yes h ↦ let b : BenchIn s x = record { least = l; most = h } in c .chain x b ∙ chain-length t s x found b
+              | no h ↦ c .byBench .beyond x (omega arith) ∙ sym (load-beyond t s x (sound-holds-board t s found) (omega arith))
+            ];
+          }
+
+-- .. or by the one pass, which shows the bytes, too
+pub rising-answered : {t : List ℕ} {s : Size} {loads : List ℕ} → Rising t s loads → FormOf t loads (Sound s true)
+rising-answered {t} {s} {loads} r = answered t loads (Sound s true) (record { sound = r .sound; loaded = r .loaded; bytes = λ n. r .bytes })

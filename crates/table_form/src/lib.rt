@@ -1,4 +1,9 @@
-// The form check, of any bytes: refusal 1, refusal 2, or sound.
+// The form check, of any bytes: refusal 1, refusal 2, or sound. One pass over the table, where every chain rises; else
+// the records and the chains one after the other. It stands in front of every call, which gets the loads from it.
+ghost use mathlib.Core.Path.{_≡_};
+ghost use Prim.Native.Nat.{_+_};
+ghost use lib.ListN.{replicate};
+ghost use Rattle.spec_table.specs.Table.{mostBenches};
 ghost use Rattle.table_form.specs.FormCheck.{FormOf};
 use table_refusals::Refusal;
 use table_size::Size;
@@ -8,19 +13,23 @@ use table_size::Sizing;
 pub enum Form {
     // Refusal 1 or 2.
     Refused(Refusal),
-    Sound(Size),
+    // The table's size, and whether every chain rises: then the bytes are the encoding of the board.
+    Sound(Size, bool),
 }
 
-// Checks any bytes: refusal 1, refusal 2, or sound.
-pub fn check(t: &[u8]) -> Form
-    ensures { λ r. ⌜ FormOf (now (t .entry)) r ⌝ }
+// Checks any bytes. Where they are sound, `loads` gets the load of each bench.
+pub fn check(t: &[u8], loads: &mut [u16; Size::MOST_BENCHES + 1]) -> Form
+    requires { ⌜ now loads ≡ replicate (mostBenches + 1) 0 ⌝ }
+    ensures { λ r. ⌜ FormOf (now (t .entry)) (now (loads .exit)) r ⌝ }
 {
     match Size::of(t) {
         Sizing::Misfit => Form::Refused(Refusal::Sizes),
         Sizing::Fit(s) => {
-            let mut loads = [0u16; Size::MOST_BENCHES + 1];
-            if table_chain_form::is_formed(t, s, &mut loads) {
-                Form::Sound(s)
+            if table_rising::is_rising(t, s, loads) {
+                return Form::Sound(s, true);
+            }
+            if table_chain_form::is_formed(t, s, loads) {
+                Form::Sound(s, false)
             } else {
                 Form::Refused(Refusal::Unsound)
             }

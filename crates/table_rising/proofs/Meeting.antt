@@ -11,7 +11,7 @@ use lib.ListN.{length, getD, set, drop, replicate, length-map, length-set, lengt
 use lib.Seq.{getD-set-same, getD-set-other}
 use Rattle.spec_lists.specs.Lists.{In, nth, update}
 use Rattle.spec_lists.proofs.Tests.{true→T, within-low, within-high, Compared, same, other, compared}
-use Rattle.spec_lists.proofs.Elements.{each-nth, each-getD, each-replicate, length-update, nth-update-same, nth-update-other}
+use Rattle.spec_lists.proofs.Elements.{each-nth, each-replicate, length-update, nth-update-same, nth-update-other}
 use Rattle.spec_lists.proofs.NumberLists.{length-values, nth-range, values-same}
 use Rattle.spec_table.specs.Board.{standing}
 use Rattle.spec_table.specs.Table.{mostBenches, words, Entry, vacant, filled, holderIn, entryFits, Layout, layoutOf, boardOf, decode}
@@ -20,7 +20,7 @@ use Rattle.table_words.specs.Bytes.{layoutIn}
 use Rattle.table_size.specs.Sizes.{SizeOf, BenchIn, ByBench}
 use Rattle.table_size.specs.Written.{recordIn, HeadsOf, withHeads, withStanding, cleared}
 use Rattle.table_size.specs.declared.Size.{Size}
-use Rattle.table_size.proofs.Sizes.{entries-long, heads-long}
+use Rattle.table_size.proofs.Sizes.{entries-long, heads-long, zeros-by-bench}
 use Rattle.table_board.specs.BoardView.{HoldsBoard}
 use Rattle.table_records.specs.Records.{entryOf, RecordOf, NameAt}
 use Rattle.table_records.specs.declared.Record.{Record}
@@ -126,14 +126,6 @@ module _ (s : Size) {t : List ℕ} {j : ℕ} {r : Record} (f : RecordOf t j r) (
 
 -- the pass
 
--- loads of which none is counted
-pub zeros-by-bench : {s : Size} {loads : List ℕ} → loads ≡ replicate (mostBenches + 1) 0 → ByBench s loads
-zeros-by-bench e =
-    record {
-      long = rw e (length-replicate {A = ℕ} (mostBenches + 1) 0);
-      beyond = λ x b. rw e (each-getD (λ n. n ≡ 0) (replicate (mostBenches + 1) 0) x 0 refl (each-replicate (λ n. n ≡ 0) (mostBenches + 1) 0 refl));
-    }
-
 -- a table has a holder for each job number
 holders-long : (t : List ℕ) (s : Size) → SizeOf t s → length ((decode t) .holders) ≡ s .jobs
 unfolding decode boardOf
@@ -157,7 +149,7 @@ meeting-start {t} {s} {due} {loads} z h e =
       chains = ap (withHeads (layoutIn t)) (sym (due-heads s due ((layoutIn t) .heads) (heads-long t s z) (λ x b. sym (h .head x b))));
       records = refl;
       loaded = rw e (loads-start ((decode t) .holders));
-      beyond = zeros-by-bench {s = s} e .beyond;
+      beyond = rw e (zeros-by-bench s .beyond);
     }
 
 -- .. until a job is not met, no bench has more than the jobs before it, and none beyond B has one ..

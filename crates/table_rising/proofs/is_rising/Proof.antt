@@ -2,7 +2,8 @@
 use native.Mathlib.Omega.{arith}
 use mathlib.Core.Path.{sym, _∙_}
 use borrow.Author.Needs.{needs}
-use Rattle.table_rising.proofs.Meeting.{zeros-by-bench, passed-rising}
+use Rattle.table_size.proofs.Sizes.{zeros-by-bench}
+use Rattle.table_rising.proofs.Meeting.{passed-rising}
 use Rattle.table_rising.proofs.is_rising.Statement.{statement}
 use Rattle.table_rising.proofs.is_rising.Tie as tie
 
@@ -10,7 +11,7 @@ spare-word-requires : tie.Need-spare-word-requires
 spare-word-requires c κs = search needs
 
 returns : tie.Need-returns
-returns c = (λ t. absurd t, zeros-by-bench (c .before .before .before .pre .1))
+returns c = (λ t. absurd t, rw (c .before .before .before .pre .1) (zeros-by-bench (c .before .before .before .args .s)))
 
 copy-heads-requires : tie.Need-copy-heads-requires
 copy-heads-requires c κs = search needs
