@@ -9,7 +9,6 @@ use Rattle.spec_sharing.specs.Sharing.{Levelled, relevel, level}
 use Rattle.spec_table.specs.Board.{Board}
 use Rattle.spec_table.specs.Table.{mostJobs, decode, encode}
 use Rattle.table_size.specs.declared.Size.{Size}
-use Rattle.table_board.specs.BoardView.{Loaded}
 use Rattle.graph_lists.specs.Arrays.{HasArc}
 use Rattle.graph_start.specs.PathStart.{StartOf}
 use Rattle.sharing_arcs.specs.Arcs.{ArcsOf}
@@ -25,10 +24,10 @@ pub record IsLevelling (u : List ℕ) (l : Levelled) (r : Levelling) : Type 0 wh
 abbrev pub LevellingOf : List ℕ → List ℕ → ℕ → Levelling → Type 0
 LevellingOf t u allowance r = IsLevelling u (relevel allowance (decode t)) r
 
--- x is the first bench of the path that levelling flips next, 0 where the board is level; where there is one, the
--- arrays are the board's arcs and loads. They have their lengths
+-- by these loads x is the first bench of the path that levelling flips next, 0 where the board is level; where there
+-- is one, `from` and `to` are the board's arcs. They have their lengths
 pub record NextStart (b : Board) (s : Size) (from to loads : List ℕ) (x : ℕ) : Type 0 where
   pub none : x ≡ 0 → T (level b)
-  pub some : x ≢ 0 → ArcsOf b s from to × Loaded b loads × StartOf (HasArc (s .jobs) from to) loads x
+  pub some : x ≢ 0 → ArcsOf b s from to × StartOf (HasArc (s .jobs) from to) loads x
   pub from-long : length from ≡ mostJobs + 1
   pub to-long : length to ≡ mostJobs + 1

@@ -11,16 +11,16 @@ jobs-requires c κs = search needs
 jobs-requires-2 : tie.Need-jobs-requires-2
 jobs-requires-2 c κs = search needs
 
-benches-requires : tie.Need-benches-requires
-benches-requires c κs = search needs
-
 next-start-requires : tie.Need-next-start-requires
 next-start-requires c κs =
-    let made = c .before .before .before .before .before in
-    (made .before .before .pre, (array-long 0 (made .jobs .ensures), array-long 0 (c .before .before .before .before .jobs2 .ensures)))
+    let made = c .before .before in
+    let pre = made .before .before .before .pre in
+    (pre .0, (pre .1, (array-long 0 (made .before .jobs .ensures), array-long 0 (made .jobs2 .ensures))))
 
 returns : tie.Need-returns
-returns c = zero-level (c .before .before .before .before .before .before .before .before .pre) (c .next-start .ensures)
+returns c =
+    let pre = c .before .before .before .before .before .before .pre in
+    zero-level (pre .0) (pre .1) (c .next-start .ensures)
 
 pub is-level-spec : {M : Type 1} → statement M
 is-level-spec =
@@ -28,6 +28,5 @@ is-level-spec =
     (tie.spec
     jobs-requires
     jobs-requires-2
-    benches-requires
     next-start-requires
     returns)
