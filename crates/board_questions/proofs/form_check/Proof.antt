@@ -7,6 +7,9 @@ use borrow.Author.Needs.{needs}
 use Rattle.board_questions.proofs.form_check.Statement.{statement}
 use Rattle.board_questions.proofs.form_check.Tie as tie
 
+benches-requires : tie.Need-benches-requires
+benches-requires c κs = search needs
+
 check-requires : tie.Need-check-requires
 check-requires c κs = search needs
 
@@ -20,7 +23,7 @@ returns : tie.Need-returns
 returns c = form-refused _ (ask formCheck []) tt _ (rw (c .before .r .given .1) at (c .before .before .before .check .ensures .says))
 
 returns-2 : tie.Need-returns-2
-returns-2 c = form-sound (rw (c .enum-told .given .1) at (c .before .before .check .ensures .says))
+returns-2 c = form-sound ((rw (c .enum-told .given .1) at (c .before .before .check .ensures .says)) .sound)
 
 pub form-check-spec : {M : Type 1} → statement M
-form-check-spec = tie.close (tie.spec check-requires enum-known-r enum-told returns returns-2)
+form-check-spec = tie.close (tie.spec benches-requires check-requires enum-known-r enum-told returns returns-2)

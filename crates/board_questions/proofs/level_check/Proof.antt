@@ -3,13 +3,16 @@ use mathlib.Core.Path.{sym, _∙_}
 use mathlib.Core.Bool.{true, false}
 use mathlib.Core.List.{[]}
 use Rattle.spec_calls.specs.Calls.{ask, levelCheck}
-use Rattle.table_size.specs.Sizes.{SoundTable}
+use Rattle.table_form.specs.FormCheck.{FoundSound}
 use Rattle.table_board.proofs.RecordsAsBoard.{sound-holds-board}
 use Rattle.board_answers.proofs.Formal.{form-refused}
 use Rattle.board_questions.proofs.Asking.{level-told}
 use borrow.Author.Needs.{needs}
 use Rattle.board_questions.proofs.level_check.Statement.{statement}
 use Rattle.board_questions.proofs.level_check.Tie as tie
+
+benches-requires : tie.Need-benches-requires
+benches-requires c κs = search needs
 
 check-requires : tie.Need-check-requires
 check-requires c κs = search needs
@@ -20,26 +23,29 @@ enum-known-r c = search needs
 enum-known-s : tie.Need-enum-known-s
 enum-known-s c = search needs
 
--- the table is sound
-sound-table : (c : tie.After-known-told2) → SoundTable (c .before .before .before .before .before .args .t .now) (c .before .s .given .0 .0)
-sound-table c = rw (c .before .s .given .1) at (c .before .before .before .check .ensures .says)
+-- the table is sound, with these loads
+found : (c : tie.After-known-told2) → FoundSound (c .before .before .before .before .before .before .before .args .t .now) (c .before .before .before .check .last .1 .0) (c .before .s .given .0 .0) (c .before .s .given .0 .1 .0)
+found c = rw (c .before .s .given .1) at (c .before .before .before .check .ensures .says)
 
 is-level-requires : tie.Need-is-level-requires
-is-level-requires c κs = sound-holds-board _ _ (sound-table c)
+is-level-requires c κs =
+    let f = found (c .before) in
+    (sound-holds-board _ _ (f .sound), f .loaded)
 
 returns : tie.Need-returns
 returns c = form-refused _ (ask levelCheck []) tt _ (rw (c .before .r .given .1) at (c .before .before .before .check .ensures .says))
 
 returns-2 : tie.Need-returns-2
-returns-2 c = level-told (sound-table (c .before .before)) true (sym (c .if1 .taken) ∙ c .before .is-level .ensures)
+returns-2 c = level-told (found (c .before .before .before) .sound) true (sym (c .if1 .taken) ∙ c .before .is-level .ensures)
 
 returns-3 : tie.Need-returns-3
-returns-3 c = level-told (sound-table (c .before .before)) false (sym (c .if1 .left) ∙ c .before .is-level .ensures)
+returns-3 c = level-told (found (c .before .before .before) .sound) false (sym (c .if1 .left) ∙ c .before .is-level .ensures)
 
 pub level-check-spec : {M : Type 1} → statement M
 level-check-spec =
     tie.close
     (tie.spec
+    benches-requires
     check-requires
     enum-known-r
     enum-known-s

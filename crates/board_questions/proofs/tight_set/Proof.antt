@@ -1,9 +1,13 @@
 -- The tight set of a sound table.
 use Rattle.spec_calls.specs.Calls.{ask, tightSetOf}
+use Rattle.table_form.specs.FormCheck.{FoundSound}
 use Rattle.board_answers.proofs.Formal.{form-refused}
 use borrow.Author.Needs.{needs}
 use Rattle.board_questions.proofs.tight_set.Statement.{statement}
 use Rattle.board_questions.proofs.tight_set.Tie as tie
+
+benches-requires : tie.Need-benches-requires
+benches-requires c κs = search needs
 
 check-requires : tie.Need-check-requires
 check-requires c κs = search needs
@@ -15,7 +19,9 @@ enum-known-s : tie.Need-enum-known-s
 enum-known-s c = search needs
 
 tight-set-on-requires : tie.Need-tight-set-on-requires
-tight-set-on-requires c κs = rw (c .before .before .s .given .1) at (c .before .before .before .before .check .ensures .says)
+tight-set-on-requires c κs =
+    let f : FoundSound _ _ _ _ = rw (c .before .before .before .s .given .1) at (c .before .before .before .before .before .check .ensures .says) in
+    (f .sound, f .loaded)
 
 returns : tie.Need-returns
 returns c = form-refused _ (ask (tightSetOf _) _) tt _ (rw (c .before .r .given .1) at (c .before .before .before .check .ensures .says))
@@ -30,6 +36,7 @@ pub tight-set-spec : {M : Type 1} → statement M
 tight-set-spec =
     tie.close
     (tie.spec
+    benches-requires
     check-requires
     enum-known-r
     enum-known-s
