@@ -1,4 +1,3 @@
--- Lists by key, keys of benches, numbers raised and lowered.
+-- Lists by key, keys of benches.
 pub mod Listing
 pub mod Keying
-pub mod Raising

@@ -24,8 +24,7 @@ use Rattle.table_size.specs.Sizes.{BenchIn}
 use Rattle.table_size.specs.declared.Size.{Size}
 use Rattle.table_size.proofs.Sizes.{board-bench}
 use Rattle.table_board.specs.BoardView.{HoldsBoard, Loaded, Position, NameOf}
-use Rattle.table_board.proofs.RecordsAsBoard.{stands-job, holder-most, stands-held, names-length, load-beyond}
-use Rattle.table_board.proofs.LoadCounts.{holders-long}
+use Rattle.table_board.proofs.RecordsAsBoard.{holders-long, stands-job, holder-most, stands-held, names-length, load-beyond}
 use Rattle.graph_lists.specs.Arrays.{at, HasArc, Arcs, Reached, here, step, LoadsIn}
 use Rattle.graph_lists.specs.Keys.{KeysIn}
 use Rattle.graph_search.specs.BreadthFirst.{Distances}
@@ -160,7 +159,7 @@ loads-in {t} {s} {loads} k l = record { most = most; beyond = beyond; long = l .
     ]
 
     most : (x : ℕ) → 1 ≤ x → at loads x ≤ s .jobs
-    most x h = at-load (λ n. n ≤ s .jobs) x h (omega (arith, count-most x ((decode t) .holders), holders-long k)) (omega arith)
+    most x h = at-load (λ n. n ≤ s .jobs) x h (omega (arith, count-most x ((decode t) .holders), holders-long (k .size))) (omega arith)
 
     beyond : (x : ℕ) → s .benches < x → at loads x ≡ 0
     beyond x h = at-load (λ n. n ≡ 0) x (omega arith) (load-beyond t s x k h) refl

@@ -29,10 +29,9 @@ use Rattle.table_size.specs.declared.Size.{Size}
 use Rattle.table_size.proofs.Sizes.{board-job, board-bench}
 use Rattle.table_board.specs.BoardView.{HoldsBoard, Holds, HolderOf, Fillable, Loaded}
 use Rattle.table_chains.specs.Chains.{ChainsRebuilt}
-use Rattle.table_board.proofs.RecordsAsBoard.{sound-holds-board, stands-job}
-use Rattle.table_board.proofs.LoadCounts.{holders-long}
+use Rattle.table_board.proofs.RecordsAsBoard.{holders-long, sound-holds-board, stands-job}
 use Rattle.graph_lists.specs.Arrays.{at}
-use Rattle.graph_lists.proofs.Raising.{at-raised, at-lowered}
+use Rattle.spec_lists.proofs.Raising.{getD-raised, getD-lowered}
 use Rattle.sharing_arcs.proofs.AsArcs.{load-at}
 use Rattle.sharing_paths.specs.declared.Flip.{Flip}
 use Rattle.sharing_paths.specs.Flips.{flippedBy, lengthOf, lastOf, startOf, Flipped}
@@ -46,7 +45,7 @@ flipped-on {u} {v} {s} {b} {r} choice end e t =
 -- one job written anew: its new holder has one load more, its old one one less
 written-load : {t : List ℕ} {s : Size} {j : ℕ} → HoldsBoard t s → JobIn s j → (a i : ℕ) → load (update ((decode t) .holders) j a) i + bit (eqb (holderOf (decode t) j) i) ≡ load ((decode t) .holders) i + bit (eqb a i)
 written-load {t} {s} {j} k b a i =
-    count-update ((decode t) .holders) j a i (b .least) (omega (arith, b .most, holders-long k))
+    count-update ((decode t) .holders) j a i (b .least) (omega (arith, b .most, holders-long (k .size)))
 
 -- an arrival
 
@@ -88,7 +87,7 @@ module _ {t : List ℕ} {s : Size} {j x y : ℕ} (z : SoundTable t s) (m : MayAr
     pub arriving-loads : {u : List ℕ} {g : ℕ} → BenchIn s g → Holds u s (put (decode t) j (x ∷ y ∷ []) g) → Loaded (decode u) (set loads g (at loads g + 1))
     arriving-loads {u} {g} b a =
         rw (a .board)
-        (record { long = length-set loads g _ ∙ l .long; bench = λ i low high. omega (arith, at-raised loads g i small, l .bench i low high, written-load (sound-holds-board t s z) arriving-job g i, unheld i low) })
+        (record { long = length-set loads g _ ∙ l .long; bench = λ i low high. omega (arith, getD-raised loads g i small, l .bench i low high, written-load (sound-holds-board t s z) arriving-job g i, unheld i low) })
       where
         small : g < length loads
         small = omega (arith, l .long, b .most, z .size .limits .benches-most)
@@ -165,7 +164,7 @@ arrival-handed {t} {u} {v} {s} {j} {x} {y} {g} {h} {n} {r} z m e a f k d = rw (s
 
     got : holderOf c j ≡ g
     got =
-        nth-update-same ((decode t) .holders) j g 0 (job .least) (omega (arith, job .most, holders-long (sound-holds-board t s z)))
+        nth-update-same ((decode t) .holders) j g 0 (job .least) (omega (arith, job .most, holders-long (z .size)))
 
     holder : h ≡ holderOf (flippedBy c (arrivalChoice c g)) j
     holder = k .value ∙ ap (λ (b : Board). holderOf b j) (flipped .0)
@@ -209,7 +208,7 @@ module _ {t : List ℕ} {s : Size} {j x : ℕ} (z : SoundTable t s) (p : T (stan
     pub closing-loads : {u : List ℕ} → Holds u s (put (decode t) j [] 0) → Loaded (decode u) (set loads x (at loads x - 1))
     closing-loads {u} a =
         rw (a .board)
-        (record { long = length-set loads x _ ∙ l .long; bench = λ i low high. omega (arith, at-lowered loads x i small closing-some, l .bench i low high, less i low) })
+        (record { long = length-set loads x _ ∙ l .long; bench = λ i low high. omega (arith, getD-lowered loads x i small closing-some, l .bench i low high, less i low) })
       where
         small : x < length loads
         small = omega (arith, l .long, closing-bench .most, z .size .limits .benches-most)

@@ -37,7 +37,7 @@ use Rattle.spec_sharing.proofs.Found.{StartsOne, level-starts, levelling-found}
 use Rattle.spec_sharing.proofs.Levelling.{flips-more, flips-relevel}
 use Rattle.table_size.proofs.Sizes.{board-bench}
 use Rattle.table_board.proofs.RecordsAsBoard.{sound-holds-board}
-use Rattle.graph_lists.proofs.Raising.{at-raised, at-lowered}
+use Rattle.spec_lists.proofs.Raising.{getD-raised, getD-lowered}
 use Rattle.graph_search.proofs.Expanding.{bench-within}
 use Rattle.sharing_arcs.proofs.AsArcs.{loads-in, on-board, load-at, arcs-reach, steps-reach}
 
@@ -193,11 +193,11 @@ path-shifts {t} {s} {loads} {x} p k l i e =
     some = omega (arith, load-at k l i, improves-loads b p (path .2), ap (load (b .holders)) (path .1))
 
     low : (y : ℕ) → at (lowered loads x) y + bit (eqb x y) ≡ at loads y
-    low y = at-lowered loads x y (omega (arith, start, l .long)) some
+    low y = getD-lowered loads x y (omega (arith, start, l .long)) some
 
     bench : (y : ℕ) → 1 ≤ y → y ≤ mostBenches → at (set (lowered loads x) (last p) (at (lowered loads x) (last p) + 1)) y ≡ load ((flip b p) .holders) y
     bench y u v =
-        omega (arith, at-raised (lowered loads x) (last p) y (omega (arith, end .most, most, length-set loads x (at loads x - 1), l .long)), low y, l .bench y u v, flip-loads b (k .storable .valid) p (path .0) y, ap (λ (z : ℕ). bit (eqb z y)) (path .1))
+        omega (arith, getD-raised (lowered loads x) (last p) y (omega (arith, end .most, most, length-set loads x (at loads x - 1), l .long)), low y, l .bench y u v, flip-loads b (k .storable .valid) p (path .0) y, ap (λ (z : ℕ). bit (eqb z y)) (path .1))
 
 -- levelling of the table t₀ has come to the table t with these loads: so many paths were flipped, and x starts the next path, 0 where
 -- there is none

@@ -1,5 +1,6 @@
--- Tests and elements of lists; counts and totals.
+-- Tests and elements of lists; counts and totals; numbers raised and lowered.
 pub mod Tests
 pub mod Elements
 pub mod NumberLists
 pub mod Counting
+pub mod Raising

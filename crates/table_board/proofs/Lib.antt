@@ -1,3 +1,2 @@
--- Records as jobs, loads.
+-- Records as jobs.
 pub mod RecordsAsBoard
-pub mod LoadCounts

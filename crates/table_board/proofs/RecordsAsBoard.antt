@@ -6,7 +6,7 @@ use mathlib.Core.Logic.{_⊎_, inl, inr, _≢_}
 use mathlib.Core.Bool.{Bool, true, false, cond, not}
 use mathlib.Core.List.{List, [], _∷_, _++_}
 use lib.Dec.{T, eqb}
-use lib.ListN.{length, getD}
+use lib.ListN.{length, getD, length-map}
 use borrow.Author.Tests.{eq-eqb, ne-eqb}
 use Rattle.spec_lists.specs.Lists.{member, Each, In, empty, nth, update}
 use Rattle.spec_table.specs.Board.{Board, namesOf, holderOf, stands, put, load, heldBy, mayHold, namesFit}
@@ -25,7 +25,7 @@ use Rattle.table_words.specs.Bytes.{layoutIn}
 use Rattle.table_size.specs.Sizes.{Limits, JobIn, SoundTable, SizeOf}
 use Rattle.table_size.specs.Written.{recordIn, withHolder, withEntry, HasLayout}
 use Rattle.table_records.specs.Records.{entryOf, RecordOf}
-use Rattle.table_size.proofs.Sizes.{board-job, board-bench}
+use Rattle.table_size.proofs.Sizes.{board-job, board-bench, entries-long}
 use Rattle.table_records.specs.declared.Record.{Record}
 use Rattle.table_board.specs.BoardView.{Position, NameOf, HoldsBoard, Holds, Fillable, HolderOf}
 use Rattle.table_size.specs.declared.Size.{Size}
@@ -124,6 +124,11 @@ holder-most t s j k = rw (holder-record t j) (go (holds-record t s j k))
     go : (recordIn t j ≡ vacant) ⊎ Standing (s .benches) (recordIn t j) → holderIn (recordIn t j) ≤ s .benches
     go (inl q) = rw q (omega arith)
     go (inr r) = holder-within (s .benches) (recordIn t j) (r .benches-two) .1
+
+-- a table has a holder for each job number
+pub holders-long : {t : List ℕ} {s : Size} → SizeOf t s → length ((decode t) .holders) ≡ s .jobs
+unfolding decode boardOf
+holders-long {t} {s} z = length-map ((layoutIn t) .entries) holderIn ∙ entries-long t s z
 
 -- a bench beyond the last has no load
 pub load-beyond : (t : List ℕ) (s : Size) (x : ℕ) → HoldsBoard t s → s .benches < x → load ((decode t) .holders) x ≡ 0

@@ -16,8 +16,7 @@ use Rattle.spec_table.proofs.Sound.{Ends, standing-word, chain-ends, on-chain}
 use Rattle.spec_table.proofs.ChainEnds.{ends-on, ends-next, ends-distinct}
 use lib.ListN.{length}
 use Rattle.spec_sharing.proofs.Paths.{stands-within, holder-bench}
-use Rattle.table_board.proofs.RecordsAsBoard.{sound-holds-board, stands-job, stands-held}
-use Rattle.table_board.proofs.LoadCounts.{holders-long}
+use Rattle.table_board.proofs.RecordsAsBoard.{holders-long, sound-holds-board, stands-job, stands-held}
 use Rattle.table_size.proofs.Sizes.{heads-long, board-bench}
 use Rattle.table_words.specs.Bytes.{layoutIn}
 use Rattle.table_size.specs.Sizes.{JobIn, BenchIn, SoundTable}
@@ -157,7 +156,7 @@ pub chain-load : (t : List ℕ) (s : Size) (x j : ℕ) → SoundTable t s → Be
 chain-load t s x j z b c =
     let k = sound-holds-board t s z in
     total-tested (s .jobs) (chainFrom t j) (λ i. eqb (holderOf (decode t) i) x) (c .once) job on
-    ∙ sym (subst (λ (n : ℕ). load ((decode t) .holders) x ≡ total n (λ i. bit (eqb (holderOf (decode t) i) x))) (holders-long k) (count-total x ((decode t) .holders)))
+    ∙ sym (subst (λ (n : ℕ). load ((decode t) .holders) x ≡ total n (λ i. bit (eqb (holderOf (decode t) i) x))) (holders-long (k .size)) (count-total x ((decode t) .holders)))
   where
     job : (i : ℕ) → In i (chainFrom t j) → T (within 1 (s .jobs) i)
     job i o = subst (λ (n : ℕ). T (within 1 n i)) (z .size .board-jobs) (stands-within (decode t) i ((c .held i) .0 o .0))

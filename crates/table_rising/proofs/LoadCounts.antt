@@ -2,15 +2,15 @@
 use Prim.Native.Nat.{ℕ, _+_, _≤_, _<_}
 use native.Mathlib.Omega.{arith}
 use native.Mathlib.Numerals.{add-one}
-use mathlib.Core.Path.{_≡_, refl, sym, _∙_}
-use mathlib.Core.Bool.{Bool}
+use mathlib.Core.Path.{_≡_, _∙_}
 use mathlib.Core.List.{List, [], _∷_}
 use lib.Dec.{eqb}
 use lib.ListN.{length, getD, take, set, replicate, length-set, length-replicate, getD-replicate}
-use lib.Seq.{length-take-le, take-all, take-suc, getD-set-same, getD-set-other}
+use lib.Seq.{length-take-le, take-all, take-suc}
 use Rattle.spec_lists.specs.Lists.{bit, nth}
-use Rattle.spec_lists.proofs.Tests.{Compared, same, other, compared}
-use Rattle.spec_lists.proofs.Counting.{bit-same, bit-other, count-most, count-append}
+use Rattle.spec_lists.proofs.Tests.{other}
+use Rattle.spec_lists.proofs.Raising.{getD-raised}
+use Rattle.spec_lists.proofs.Counting.{bit-other, count-most, count-append}
 use Rattle.spec_table.specs.Board.{Board, load}
 use Rattle.spec_table.specs.Table.{mostBenches}
 use Rattle.table_board.specs.BoardView.{Loaded}
@@ -36,13 +36,11 @@ module _ {holders : List ℕ} {done : ℕ} {loads : List ℕ} (c : LoadsTo holde
   -- .. the next job is one more for its holder ..
   pub loads-turn : (x : ℕ) → done < length holders → x ≡ nth holders (done + 1) 0 → 1 ≤ x → x ≤ mostBenches → LoadsTo holders (done + 1) (set loads x (getD loads x 0 + 1))
   loads-turn x d e l u =
-      record { most = omega arith; long = length-set loads x _ ∙ c .long; held = λ y i k. go y i k (compared x y) }
-    where
-      go : (y : ℕ) → 1 ≤ y → y ≤ mostBenches → {b : Bool} → Compared x y b → getD (set loads x (getD loads x 0 + 1)) y 0 ≡ load (take (done + 1) holders) y
-      go y i k (same q) =
-          rw (← q) (omega (arith, getD-set-same loads x (getD loads x 0 + 1) 0 (omega (arith, c .long)), c .held x l u, more x d e x, bit-same x x refl))
-      go y i k (other q) =
-          omega (arith, getD-set-other loads x y (getD loads x 0 + 1) 0 (λ j. q (sym j)), c .held y i k, more x d e y, bit-other x y q)
+      record {
+        most = omega arith;
+        long = length-set loads x _ ∙ c .long;
+        held = λ y i k. omega (arith, getD-raised loads x y (omega (arith, c .long)), c .held y i k, more x d e y);
+      }
 
   -- .. or for no bench, if none holds it ..
   pub loads-pass : done < length holders → 0 ≡ nth holders (done + 1) 0 → LoadsTo holders (done + 1) loads

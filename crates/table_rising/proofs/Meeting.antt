@@ -7,14 +7,14 @@ use mathlib.Core.Path.{_≡_, refl, sym, ap, subst, _∙_}
 use mathlib.Core.Bool.{Bool, true, false}
 use mathlib.Core.List.{List}
 use lib.Dec.{T}
-use lib.ListN.{length, getD, set, drop, replicate, length-map, length-set, length-replicate}
+use lib.ListN.{length, getD, set, drop, replicate, length-set, length-replicate}
 use lib.Seq.{getD-set-same, getD-set-other}
 use Rattle.spec_lists.specs.Lists.{In, nth, update}
 use Rattle.spec_lists.proofs.Tests.{true→T, within-low, within-high, Compared, same, other, compared}
 use Rattle.spec_lists.proofs.Elements.{each-nth, each-replicate, length-update, nth-update-same, nth-update-other}
 use Rattle.spec_lists.proofs.NumberLists.{length-values, nth-range, values-same}
 use Rattle.spec_table.specs.Board.{standing}
-use Rattle.spec_table.specs.Table.{mostBenches, words, Entry, vacant, filled, holderIn, entryFits, Layout, layoutOf, boardOf, decode}
+use Rattle.spec_table.specs.Table.{mostBenches, words, Entry, vacant, filled, holderIn, entryFits, Layout, layoutOf, decode}
 use Rattle.spec_table.proofs.Sound.{fit-storable, standingFrom, standing-count, layout-pairs, two-benches, entry-tests, holder-within, holder-record, not-held}
 use Rattle.table_words.specs.Bytes.{layoutIn}
 use Rattle.table_size.specs.Sizes.{SizeOf, BenchIn, ByBench}
@@ -22,6 +22,7 @@ use Rattle.table_size.specs.Written.{recordIn, HeadsOf, withHeads, withStanding
 use Rattle.table_size.specs.declared.Size.{Size}
 use Rattle.table_size.proofs.Sizes.{entries-long, heads-long, zeros-by-bench}
 use Rattle.table_board.specs.BoardView.{HoldsBoard}
+use Rattle.table_board.proofs.RecordsAsBoard.{holders-long}
 use Rattle.table_records.specs.Records.{entryOf, RecordOf, NameAt}
 use Rattle.table_records.specs.declared.Record.{Record}
 use Rattle.table_record_form.specs.Kinds.{kindIf, kindOf, byKind, counted}
@@ -126,11 +127,6 @@ module _ (s : Size) {t : List ℕ} {j : ℕ} {r : Record} (f : RecordOf t j r) (
 
 -- the pass
 
--- a table has a holder for each job number
-holders-long : (t : List ℕ) (s : Size) → SizeOf t s → length ((decode t) .holders) ≡ s .jobs
-unfolding decode boardOf
-holders-long t s z = length-map ((layoutIn t) .entries) holderIn ∙ entries-long t s z
-
 -- the first `done` jobs were met, `count` of which stand: pushed again, from the jobs that are due now, they give the table's own chains
 pub record Meeting (t : List ℕ) (s : Size) (due loads : List ℕ) (count done : ℕ) : Type 0 where
   pub few : count ≤ done
@@ -170,7 +166,7 @@ module _ {t : List ℕ} {s : Size} {due loads : List ℕ} {count done : ℕ} (z 
   step = sym (count-step (s .benches) count done ((layoutIn t) .entries) e refl (omega (arith, entries-long t s z))) ∙ m .records
 
   fewer : done < length ((decode t) .holders)
-  fewer = omega (arith, holders-long t s z)
+  fewer = omega (arith, holders-long z)
 
   -- .. a record that is no job's leaves all as it was ..
   pub meeting-pass : {due₂ loads₂ : List ℕ} → (kindOf (s .benches) e ≡ Vacant) × (due₂ ≡ due) × (loads₂ ≡ loads) → Meeting t s due₂ loads₂ count (done + 1)
@@ -232,11 +228,11 @@ meeting-end {t} {s} {due} {loads} {count} {done} z m l =
     record {
       chains = subst (λ (n : ℕ). pushedFrom n (withHeads (layoutIn t) (dueHeads s due)) ≡ layoutIn t) all (m .chains);
       records = sym (m .records) ∙ sym (count-end (s .benches) count done ((layoutIn t) .entries) (omega (arith, entries-long t s z)));
-      loaded = loads-end (m .loaded) (omega (arith, holders-long t s z));
+      loaded = loads-end (m .loaded) (omega (arith, holders-long z));
     }
   where
     all : done ≡ s .jobs
-    all = omega (arith, m .loaded .most, holders-long t s z)
+    all = omega (arith, m .loaded .most, holders-long z)
 
 -- the end
 

@@ -1,9 +1,7 @@
 // Prints, for each table file that its arguments name, what the form check answers (sound, 1 or 2), and the heaviest
 // load or the same refusal. The files and the expected answers were made by another implementation of document 01. A
 // file's name tells what damage was tried; where that changed nothing, the table is sound.
-ghost use Rattle.table_size.specs.Sizes.{SoundTable};
 use libc::STDOUT_FILENO;
-use table_board::loads;
 use table_form::Form;
 use table_refusals::Refusal;
 use table_size::Size;
@@ -21,13 +19,9 @@ fn heaviest(loads: &[u16; Size::MOST_BENCHES + 1]) -> u16 {
     most
 }
 
-fn print_sound(t: &[u8], s: Size)
-    requires { ⌜ SoundTable (now t) s ⌝ }
-{
-    let mut loads = [0u16; Size::MOST_BENCHES + 1];
-    loads::loads(t, s, &mut loads);
+fn print_sound(loads: &[u16; Size::MOST_BENCHES + 1]) {
     io::write_all(STDOUT_FILENO, b" sound H");
-    io::print_decimal(STDOUT_FILENO, heaviest(&loads) as u64);
+    io::print_decimal(STDOUT_FILENO, heaviest(loads) as u64);
     io::write_all(STDOUT_FILENO, b"\n");
 }
 
@@ -42,9 +36,10 @@ fn print_refused(r: Refusal) {
 }
 
 fn print_table(t: &[u8]) {
-    match table_form::check(t) {
+    let mut loads = [0u16; Size::MOST_BENCHES + 1];
+    match table_form::check(t, &mut loads) {
         Form::Refused(r) => print_refused(r),
-        Form::Sound(s) => print_sound(t, s),
+        Form::Sound(_, _) => print_sound(&loads),
     }
 }
 
