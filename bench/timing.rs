@@ -11,38 +11,51 @@ const WHOLE: Duration = Duration::from_millis(1500);
 /// An implementation, a table, and calls, all of the same kind and accepted, each made on the table as it is here.
 pub struct Task<'a>(pub Perform, pub &'a [u8], pub &'a [Call]);
 
-/// Performs a task's calls as many times as it is told.
-type Run<'a> = Box<dyn FnMut(usize) + 'a>;
+/// A table, and what performs a task's calls as many times as it is told, on bytes that hold the table, and a list.
+struct Run<'a>(&'a [u8], Box<dyn Fn(usize, &mut [u8], &mut [u8]) + 'a>);
+
+/// The bytes that all runs are lent, so that none is better off by where its table and its list lie.
+struct Lent {
+    table: Vec<u8>,
+    list: [u8; 1000],
+}
+
+impl Run<'_> {
+    /// Times a batch; writing the table before it is not counted.
+    fn batch(&self, size: usize, lent: &mut Lent) -> Duration {
+        let t = &mut lent.table[..self.0.len()];
+        t.copy_from_slice(self.0);
+        let start = Instant::now();
+        self.1(size, t, &mut lent.list);
+        start.elapsed()
+    }
+
+    /// Finds, by doubling, the first size whose batch is long enough.
+    fn long_enough(&self, lent: &mut Lent) -> usize {
+        let mut size = 1;
+        while self.batch(size, lent) < BATCH {
+            size *= 2;
+        }
+        size
+    }
+}
 
 /// Times each run, in µs: batches in turn, and of each the least, so that what else the machine does counts little.
-fn least(mut runs: Vec<Run>) -> Vec<f64> {
+fn least(runs: &[Run]) -> Vec<f64> {
     let begin = Instant::now();
-    let sizes: Vec<_> = runs.iter_mut().map(long_enough).collect();
+    let longest = runs.iter().map(|run| run.0.len()).max().unwrap();
+    let mut lent = Lent { table: vec![0; longest], list: [0; 1000] };
+    let sizes: Vec<_> = runs.iter().map(|run| run.long_enough(&mut lent)).collect();
     let mut times = vec![f64::MAX; runs.len()];
     for round in 0..ROUNDS {
-        for ((run, &size), time) in runs.iter_mut().zip(&sizes).zip(&mut times) {
-            let start = Instant::now();
-            run(size);
-            *time = time.min(start.elapsed().as_secs_f64() * 1e6 / size as f64);
+        for ((run, &size), time) in runs.iter().zip(&sizes).zip(&mut times) {
+            *time = time.min(run.batch(size, &mut lent).as_secs_f64() * 1e6 / size as f64);
         }
         if round >= 1 && begin.elapsed() > WHOLE {
             break;
         }
     }
     times
-}
-
-/// Finds, by doubling, the first size whose batch is long enough.
-fn long_enough(run: &mut Run) -> usize {
-    let mut size = 1;
-    loop {
-        let start = Instant::now();
-        run(size);
-        if start.elapsed() >= BATCH {
-            return size;
-        }
-        size *= 2;
-    }
 }
 
 impl<'a> Task<'a> {
@@ -54,29 +67,29 @@ impl<'a> Task<'a> {
     /// Makes whole rounds of the calls, so that every implementation performs each of them equally often.
     fn run(&self) -> Run<'a> {
         let (&Task(perform, table, calls), changes) = (self, self.changes());
-        let (mut t, mut list) = (table.to_vec(), [0; 1000]);
-        Box::new(move |n| {
+        let performed = move |n, t: &mut [u8], list: &mut [u8]| {
             for _ in 0..n {
                 for &call in calls {
                     if changes {
                         t.copy_from_slice(black_box(table));
                     }
-                    let _ = black_box(perform(black_box(call), black_box(&mut t), &mut list));
+                    let _ = black_box(perform(black_box(call), black_box(&mut *t), list));
                 }
             }
-        })
+        };
+        Run(table, Box::new(performed))
     }
 }
 
 /// Makes fresh copies alone.
 fn copying(table: &[u8]) -> Run<'_> {
-    let mut t = table.to_vec();
-    Box::new(move |n| {
+    let performed = move |n, t: &mut [u8], _: &mut [u8]| {
         for _ in 0..n {
             t.copy_from_slice(black_box(table));
-            black_box(&mut t);
+            black_box(&mut *t);
         }
-    })
+    };
+    Run(table, Box::new(performed))
 }
 
 /// Times each task: µs a call, the mean over its calls. What copying a table of that length takes, timed in turn with
@@ -89,7 +102,8 @@ pub fn times<const N: usize>(tasks: [Task; N]) -> [f64; N] {
     }
     let mut copied = tasks.each_ref().map(|task| task.1).to_vec();
     copied.dedup_by_key(|table| table.len());
-    let times = least(tasks.iter().map(Task::run).chain(copied.iter().map(|table| copying(table))).collect());
+    let runs: Vec<_> = tasks.iter().map(Task::run).chain(copied.iter().map(|table| copying(table))).collect();
+    let times = least(&runs);
     std::array::from_fn(|i| {
         let Task(_, table, calls) = tasks[i];
         let copy = copied.iter().position(|other| other.len() == table.len()).unwrap();
