@@ -1,15 +1,17 @@
 //! The proved calls beside two other implementations: a plain one, which works as a straightforward program does, and an independent one,
-//! written from document 01 alone. First that all answer alike, then how long they take. See bench/run.
+//! written from document 01 alone. First that all answer alike, then how long they take, in several processes. See bench/run.
 mod boards;
 #[macro_use]
 mod calls;
 mod comparison;
 mod each;
+mod figures;
 mod growth;
 mod independent;
 mod plain;
 mod proved;
 mod scratch;
+mod targets;
 mod timing;
 mod trials;
 
@@ -18,27 +20,28 @@ use calls::Perform;
 const PROVED: Perform = |c, t, list| answer!(proved, c, t, list);
 const PLAIN: Perform = |c, t, list| answer!(plain, c, t, list);
 const INDEPENDENT: Perform = |c, t, list| answer!(independent, c, t, list);
-const SIZES: [(usize, usize); 3] = [(10, 60), (100, 1000), (500, 4000)];
 
-/// Prints what a table shows, and its head.
-fn head(shows: &str, columns: &str) {
-    println!("\n{shows}\n\n| {columns} |");
-    println!("|{}", "---|".repeat(columns.split(" | ").count()));
+/// Prints the figures of this process, which has a number, as lines.
+fn measure(process: usize) {
+    timing::shift(process);
+    each::measure();
+    scratch::measure();
+    growth::measure();
 }
 
-/// Writes a time in three digits or more.
-fn micros(time: f64) -> String {
-    let places = match time {
-        _ if time < 1.0 => 3,
-        _ if time < 100.0 => 2,
-        _ => 0,
-    };
-    format!("{time:.places$}")
+/// Prints the tables of the processes whose lines are in these files.
+fn report(files: &[String]) {
+    each::print(files);
+    scratch::print(files);
+    growth::print(files);
 }
 
 fn main() {
-    comparison::print();
-    each::print();
-    scratch::print();
-    growth::print();
+    let arguments: Vec<_> = std::env::args().skip(1).collect();
+    match arguments.first().map(String::as_str) {
+        Some("compare") => comparison::print(),
+        Some("measure") => measure(arguments[1].parse().unwrap()),
+        Some("report") => report(&arguments[1..]),
+        _ => panic!("compare, or measure and the process's number, or report and files"),
+    }
 }

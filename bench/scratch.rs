@@ -1,9 +1,12 @@
 //! One change on a level board, beside levelling the changed board's jobs from scratch.
 use crate::boards::{self, Random};
-use crate::calls::{kind, Call, NAMES};
+use crate::calls::Call;
+use crate::figures::{head, micros, print_line, rows};
 use crate::timing::{times, Task};
-use crate::trials::{self, KINDS};
-use crate::{head, micros, INDEPENDENT, PROVED, SIZES};
+use crate::trials::{self, KINDS, SIZES};
+use crate::{INDEPENDENT, PROVED};
+
+const TABLE: &str = "from scratch";
 
 /// Changes of each kind that are timed, each with the boards that it leads to.
 const CHANGES: usize = 4;
@@ -37,32 +40,42 @@ fn measured(t: &[u8], change: Call) -> [f64; 4] {
     [once, proved, independent, paths as f64]
 }
 
-fn print_row(board: &str, t: &[u8], changes: &[Call]) {
+/// Measures changes of one kind, the mean of each figure.
+fn measure_row(board: &str, t: &[u8], changes: &[Call]) {
     let mut means = [0.0; 4];
     for &change in changes {
         for (mean, number) in means.iter_mut().zip(measured(t, change)) {
             *mean += number / changes.len() as f64;
         }
     }
-    let [once, proved, independent, paths] = means;
-    let (benches, jobs) = boards::sizes(t);
-    print!("| {} | {board} | {benches} | {jobs} | {} | {paths:.0} ", NAMES[kind(changes[0])], micros(once));
-    println!("| {} | {:.1} | {} | {:.1} |", micros(proved), proved / once, micros(independent), independent / once);
+    let [times @ .., paths] = means;
+    let mut cells = trials::cells(changes[0], board, t);
+    cells.push(format!("{paths:.0}"));
+    print_line(TABLE, &cells, &times);
 }
 
-pub fn print() {
-    head(
-        "From scratch, in µs: a proved change of a level board, beside levelling the jobs that then stand, each given to its\n\
-         first-named bench, by proved and by independent code; writing that board is not counted. Ratios to the change. Both ways\n\
-         end with the same loads.",
-        "change | board | B | J | change | paths | from scratch, proved | ratio | from scratch, independent | ratio",
-    );
+/// Measures arrivals and closings on level boards of each size.
+pub fn measure() {
     let random = &mut Random(17);
     for (benches, jobs) in SIZES {
         for (board, names) in KINDS {
             let t = trials::level(names, benches, jobs, random);
-            print_row(board, &t, &trials::arrivals(CHANGES, &t, names, random));
-            print_row(board, &t, &trials::closings(CHANGES, &t, random));
+            measure_row(board, &t, &trials::arrivals(CHANGES, &t, names, random));
+            measure_row(board, &t, &trials::closings(CHANGES, &t, random));
         }
+    }
+}
+
+pub fn print(files: &[String]) {
+    head(
+        "From scratch, in µs: a proved change of a level board, beside levelling the jobs that then stand, each given to its\n\
+         first-named bench, by proved and by independent code; writing that board is not counted. Ratios to the change. Both ways\n\
+         end with the same loads.",
+        "change | board | B | J | paths | change | from scratch, proved | ratio | from scratch, independent | ratio",
+    );
+    for row in rows(TABLE, files) {
+        let [once, proved, independent] = [0, 1, 2].map(|i| micros(row.figure(i).median));
+        let [by_proved, by_independent] = [1, 2].map(|i| row.ratio(i, 0).cell(|ratio| format!("{ratio:.1}")));
+        row.print(&[once, proved, by_proved, independent, by_independent]);
     }
 }

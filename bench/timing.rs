@@ -5,8 +5,8 @@ use std::time::{Duration, Instant};
 
 /// A batch takes at least so long, there are so many of each, and together they take at most about so long.
 const BATCH: Duration = Duration::from_micros(500);
-const ROUNDS: usize = 150;
-const WHOLE: Duration = Duration::from_millis(1500);
+const ROUNDS: usize = 100;
+const WHOLE: Duration = Duration::from_millis(1000);
 
 /// An implementation, a table, and calls, all of the same kind and accepted, each made on the table as it is here.
 pub struct Task<'a>(pub Perform, pub &'a [u8], pub &'a [Call]);
@@ -90,6 +90,12 @@ fn copying(table: &[u8]) -> Run<'_> {
         }
     };
     Run(table, Box::new(performed))
+}
+
+/// Keeps some bytes, in each process another number of them, so that the tables that follow lie elsewhere in each, in a page and in a
+/// line of 64 bytes.
+pub fn shift(process: usize) {
+    black_box(vec![0_u8; 1040 * process]).leak();
 }
 
 /// Times each task: µs a call, the mean over its calls. What copying a table of that length takes, timed in turn with

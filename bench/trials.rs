@@ -1,7 +1,13 @@
 //! The boards that are timed, and the calls on each.
 use crate::boards::{self, Job, Random};
-use crate::calls::Call;
+use crate::calls::{kind, Call, NAMES};
 use crate::{independent, INDEPENDENT};
+
+/// The sizes that are timed, B and J.
+pub const SIZES: [(usize, usize); 3] = [(10, 60), (100, 1000), (500, 4000)];
+
+/// The one board whose chains do not rise.
+pub const NO_ORDER: &str = "chains in no order";
 
 /// The benches that a job names, by its number and B.
 pub type Names = fn(usize, usize, &mut Random) -> [usize; 2];
@@ -93,29 +99,34 @@ fn questions(t: &[u8]) -> Vec<Vec<Call>> {
     questions.map(|question| vec![question]).into()
 }
 
+/// Lists arrivals, closings, and levelling to its end.
+fn changes(t: &[u8], names: Names, random: &mut Random) -> Vec<Vec<Call>> {
+    vec![arrivals(16, t, names, random), closings(16, t, random), vec![Call::Levelling(u32::MAX)]]
+}
+
 /// A board to time calls on: its name, its table, and lists of calls, each of one kind.
-pub type Trial = (String, Vec<u8>, Vec<Vec<Call>>);
+type Trial = (String, Vec<u8>, Vec<Vec<Call>>);
 
 /// Makes nearly full boards with the same jobs, level and not.
 fn nearly_full((kind, names): (&str, Names), benches: usize, jobs: usize, random: &mut Random) -> [Trial; 2] {
     let level = level(names, benches, jobs, random);
-    let changes = [arrivals(16, &level, names, random), closings(16, &level, random), vec![Call::Levelling(u32::MAX)]];
+    let changes = changes(&level, names, random);
     let unlevel = first_named(&level);
-    let all = [questions(&level), changes.to_vec()].concat();
-    let some = [vec![vec![Call::LevelCheck], vec![tightest(&unlevel)]], changes.to_vec()].concat();
+    let all = [questions(&level), changes.clone()].concat();
+    let some = [vec![vec![Call::LevelCheck], vec![tightest(&unlevel)]], changes].concat();
     [(format!("{kind}, level"), level, all), (format!("{kind}, not level"), unlevel, some)]
 }
 
-/// Makes boards for a single call or two: chains in no order, a path through all benches, one bench with all jobs.
+/// Makes a board whose chains are in no order, for all calls, and boards for a few: a path through all benches, one bench with all jobs.
 fn special(benches: usize, jobs: usize, random: &mut Random) -> [Trial; 4] {
     let path = boards::long_path(benches, jobs);
     let along = vec![vec![Call::LevelCheck], vec![tightest(&path)], vec![arrival_moving(benches - 1, benches, jobs)]];
     let back = boards::long_path_back(benches, jobs);
     let heap = boards::heap(benches, jobs, jobs);
     let disordered = disordered(&level(PAIRS, benches, jobs, random), random);
-    let as_stored = vec![vec![Call::FormCheck], vec![tightest(&disordered)]];
+    let all = [questions(&disordered), changes(&disordered, PAIRS, random)].concat();
     [
-        ("random pairs, chains in no order".into(), disordered, as_stored),
+        (NO_ORDER.into(), disordered, all),
         ("long path".into(), path, along),
         ("long path back".into(), back, vec![vec![closing_moving(benches - 1)]]),
         ("all jobs on bench 1".into(), heap, vec![vec![Call::Levelling(u32::MAX)]]),
@@ -123,7 +134,7 @@ fn special(benches: usize, jobs: usize, random: &mut Random) -> [Trial; 4] {
 }
 
 /// Makes all boards of a size.
-pub fn trials(benches: usize, jobs: usize) -> Vec<Trial> {
+fn trials(benches: usize, jobs: usize) -> Vec<Trial> {
     let random = &mut Random(11);
     let blanking = vec![vec![Call::Blank(benches as u32, jobs as u32)]];
     let mut trials = vec![("any".into(), boards::blank(benches, jobs), blanking)];
@@ -132,4 +143,29 @@ pub fn trials(benches: usize, jobs: usize) -> Vec<Trial> {
     }
     trials.extend(special(benches, jobs, random));
     trials
+}
+
+/// Hands over each list of calls at each size, with its board's name and table.
+pub fn each(measure: fn(&str, &[u8], &[Call])) {
+    for (benches, jobs) in SIZES {
+        for (board, t, lists) in trials(benches, jobs) {
+            for calls in lists {
+                measure(&board, &t, &calls);
+            }
+        }
+    }
+}
+
+fn name(call: Call) -> &'static str {
+    match call {
+        Call::TightSet(1, _) => "tight set, height 1",
+        Call::TightSet(..) => "tight set, heaviest",
+        _ => NAMES[kind(call)],
+    }
+}
+
+/// Gives the cells that tell what was timed: the call, the board, B and J.
+pub fn cells(call: Call, board: &str, t: &[u8]) -> Vec<String> {
+    let (benches, jobs) = boards::sizes(t);
+    vec![name(call).into(), board.into(), benches.to_string(), jobs.to_string()]
 }

@@ -1,0 +1,105 @@
+//! What was to be reached, and whether it was.
+use crate::each::is_of;
+use crate::figures::{head, Row, Spread};
+use crate::trials::{NO_ORDER, SIZES};
+
+/// Boards that a target is for: how they are called, and which they are.
+struct Boards(&'static str, fn(&str) -> bool);
+
+const EVERY: Boards = Boards("every", |_| true);
+const RISING: Boards = Boards("chains rise", |board| board != NO_ORDER);
+const DISORDERED: Boards = Boards(NO_ORDER, |board| board == NO_ORDER);
+
+/// The sizes that a target is for: those of SIZES from here on.
+type From = usize;
+
+const ALL: From = 0;
+const LARGEST: From = 2;
+
+/// The figure that the proved call's time is held against (see each.rs).
+type Against = usize;
+
+const PLAIN: Against = 1;
+const INDEPENDENT: Against = 2;
+const CHECKS: Against = 3;
+const NAMES: [&str; 4] = ["", "of the plain one's time", "of the independent one's time", "form checks"];
+
+/// The calls whose name begins so, on which boards, at which sizes, against what, the most their ratio may be on any of these boards.
+struct Target(&'static str, Boards, From, Against, f64);
+
+const TARGETS: [Target; 26] = [
+    Target("form check", RISING, ALL, INDEPENDENT, 1.0),
+    Target("load", RISING, ALL, INDEPENDENT, 1.0),
+    Target("heaviest", RISING, ALL, INDEPENDENT, 1.0),
+    Target("form check", DISORDERED, ALL, INDEPENDENT, 1.1),
+    Target("load", DISORDERED, ALL, INDEPENDENT, 1.0),
+    Target("heaviest", DISORDERED, ALL, INDEPENDENT, 1.0),
+    Target("blanking", EVERY, LARGEST, INDEPENDENT, 1.0),
+    Target("level check", EVERY, LARGEST, INDEPENDENT, 1.0),
+    Target("tight set", EVERY, LARGEST, INDEPENDENT, 1.0),
+    Target("arrival", EVERY, LARGEST, INDEPENDENT, 1.0),
+    Target("closing", EVERY, LARGEST, INDEPENDENT, 1.0),
+    Target("levelling", EVERY, LARGEST, INDEPENDENT, 1.5),
+    Target("blanking", EVERY, LARGEST, PLAIN, 1.0),
+    Target("form check", EVERY, LARGEST, PLAIN, 1.3),
+    Target("level check", EVERY, LARGEST, PLAIN, 1.0),
+    Target("load", EVERY, LARGEST, PLAIN, 1.0),
+    Target("heaviest", EVERY, LARGEST, PLAIN, 1.0),
+    Target("tight set", EVERY, LARGEST, PLAIN, 1.0),
+    Target("arrival", EVERY, LARGEST, PLAIN, 1.0),
+    Target("closing", EVERY, LARGEST, PLAIN, 1.0),
+    Target("levelling", EVERY, LARGEST, PLAIN, 1.0),
+    Target("level check", EVERY, LARGEST, CHECKS, 3.0),
+    Target("tight set", EVERY, LARGEST, CHECKS, 3.0),
+    Target("arrival", EVERY, LARGEST, CHECKS, 4.0),
+    Target("closing", EVERY, LARGEST, CHECKS, 4.0),
+    Target("levelling", EVERY, LARGEST, CHECKS, 4.0),
+];
+
+/// What is hoped for beyond the targets.
+const GOALS: [Target; 3] = [
+    Target("form check", RISING, LARGEST, INDEPENDENT, 0.85),
+    Target("load", RISING, LARGEST, INDEPENDENT, 0.85),
+    Target("heaviest", RISING, LARGEST, INDEPENDENT, 0.85),
+];
+
+impl Target {
+    /// Tells whether it is for a row's call and board.
+    fn is_for(&self, row: &Row) -> bool {
+        row.cells[0].starts_with(self.0) && self.1 .1(&row.cells[1])
+    }
+
+    /// Finds the ratio whose median is greatest at a size, and the board.
+    fn worst<'a>(&self, size: (usize, usize), rows: &'a [Row]) -> (Spread, &'a str) {
+        let its = rows.iter().filter(|row| is_of(row, size) && self.is_for(row));
+        let ratios = its.map(|row| (row.ratio(0, self.3), row.cells[1].as_str()));
+        ratios.max_by(|a, b| a.0.median.total_cmp(&b.0.median)).unwrap()
+    }
+
+    /// Writes, for each of its sizes, whether its median there is too great, and its row of the table.
+    fn judged<'a>(&'a self, goal: &'a str, rows: &'a [Row]) -> impl Iterator<Item = (bool, String)> + 'a {
+        let Target(call, boards, from, against, most) = self;
+        SIZES[*from..].iter().map(move |&(benches, jobs)| {
+            let (worst, board) = self.worst((benches, jobs), rows);
+            let missed = worst.median > *most;
+            let reached = worst.cell(|ratio| format!("{ratio:.3}"));
+            let verdict = if missed { "missed" } else { "met" };
+            let at_most = format!("{goal}{most:?} {}", NAMES[*against]);
+            (missed, format!("| {call} | {} | {benches} | {jobs} | {at_most} | {reached} | {board} | {verdict} |", boards.0))
+        })
+    }
+}
+
+/// Prints each target and each goal at each of its sizes, the missed ones first.
+pub fn print(rows: &[Row]) {
+    head(
+        "What was to be reached, and the board where the median was greatest; missed ones first.",
+        "call | boards | B | J | at most | reached | on | verdict",
+    );
+    let targets = TARGETS.iter().flat_map(|target| target.judged("", rows));
+    let goals = GOALS.iter().flat_map(|goal| goal.judged("goal: ", rows));
+    let (missed, met): (Vec<_>, Vec<_>) = targets.chain(goals).partition(|(missed, _)| *missed);
+    for (_, row) in [missed, met].concat() {
+        println!("{row}");
+    }
+}
