@@ -1,9 +1,12 @@
--- The form check's answer is a refusal, or that the table is sound, which is all that an arrival on it asks for.
+-- The form check's answer is a refusal, or that the table is sound and the loads are its: all that an arrival asks for.
 use Rattle.spec_calls.specs.Calls.{arrival}
 use Rattle.board_answers.proofs.Formal.{form-refused}
 use borrow.Author.Needs.{needs}
 use Rattle.board_changes.proofs.arrival.Statement.{statement}
 use Rattle.board_changes.proofs.arrival.Tie as tie
+
+benches-requires : tie.Need-benches-requires
+benches-requires c κs = search needs
 
 check-requires : tie.Need-check-requires
 check-requires c κs = search needs
@@ -16,7 +19,8 @@ enum-known-s c = search needs
 
 arrival-on-requires : tie.Need-arrival-on-requires
 arrival-on-requires c κs =
-    rw (c .before .before .s .given .1) at (c .before .before .before .before .check .ensures .says)
+    let found = rw (c .before .before .before .s .given .1) at (c .before .before .before .before .before .check .ensures .says) in
+    (found .sound, found .loaded)
 
 same-length : tie.Need-same-length
 same-length c = search needs
@@ -34,6 +38,7 @@ pub arrival-spec : {M : Type 1} → statement M
 arrival-spec =
     tie.close
     (tie.spec
+    benches-requires
     check-requires
     enum-known-r
     enum-known-s

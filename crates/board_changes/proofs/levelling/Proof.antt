@@ -1,12 +1,15 @@
--- The form check's answer is a refusal, or that the table is sound and can be levelled.
+-- The form check's answer is a refusal, or that the table is sound and the loads are its: then it can be levelled.
 use mathlib.Core.Bool.{true, false}
 use Rattle.spec_calls.specs.Calls.{levelling}
-use Rattle.table_size.specs.Sizes.{SoundTable}
+use Rattle.table_form.specs.FormCheck.{FoundSound}
 use Rattle.board_answers.proofs.Formal.{form-refused}
 use Rattle.board_changes.proofs.ChangeOutcomes.{levelling-left}
 use borrow.Author.Needs.{needs}
 use Rattle.board_changes.proofs.levelling.Statement.{statement}
 use Rattle.board_changes.proofs.levelling.Tie as tie
+
+benches-requires : tie.Need-benches-requires
+benches-requires c κs = search needs
 
 check-requires : tie.Need-check-requires
 check-requires c κs = search needs
@@ -17,12 +20,14 @@ enum-known-r c = search needs
 enum-known-s : tie.Need-enum-known-s
 enum-known-s c = search needs
 
--- the checked table is sound
-checked : (c : tie.After-s) → SoundTable (c .before .before .before .before .before .args .t .now) (c .s .given .0 .0)
+-- the checked table is sound, and the loads are its
+checked : (c : tie.After-s) → FoundSound (c .before .before .before .before .before .before .before .args .t .now) (c .before .before .check .last .1 .0) (c .s .given .0 .0) (c .s .given .0 .1 .0)
 checked c = rw (c .s .given .1) at (c .before .before .check .ensures .says)
 
 relevel-requires : tie.Need-relevel-requires
-relevel-requires c κs = checked (c .before .before)
+relevel-requires c κs =
+    let found = checked (c .before .before .before) in
+    (found .sound, found .loaded)
 
 same-length : tie.Need-same-length
 same-length c = search needs
@@ -36,8 +41,8 @@ same-length-2 c = search needs
 returns-2 : tie.Need-returns-2
 returns-2 c =
     let done = c .before .before .before in
-    let sound = done .before .before .before in
-    levelling-left (checked sound) (sound .before .before .before .before .before .args .allowance) true (done .relevel .ensures) (c .if1 .taken)
+    let found = done .before .before .before .before in
+    levelling-left ((checked found) .sound) (found .before .before .before .before .before .before .before .args .allowance) true (done .relevel .ensures) (c .if1 .taken)
 
 same-length-3 : tie.Need-same-length-3
 same-length-3 c = search needs
@@ -45,13 +50,14 @@ same-length-3 c = search needs
 returns-3 : tie.Need-returns-3
 returns-3 c =
     let done = c .before .before .before in
-    let sound = done .before .before .before in
-    levelling-left (checked sound) (sound .before .before .before .before .before .args .allowance) false (done .relevel .ensures) (c .if1 .left)
+    let found = done .before .before .before .before in
+    levelling-left ((checked found) .sound) (found .before .before .before .before .before .before .before .args .allowance) false (done .relevel .ensures) (c .if1 .left)
 
 pub levelling-spec : {M : Type 1} → statement M
 levelling-spec =
     tie.close
     (tie.spec
+    benches-requires
     check-requires
     enum-known-r
     enum-known-s
