@@ -3,7 +3,7 @@ use Prim.Native.Nat.{ℕ, zero, suc, _≤_}
 use native.Mathlib.Omega.{arith}
 use native.Mathlib.Decide.{ℕ-discrete}
 use mathlib.Core.Path.{_≡_, refl, sym, ap, _∙_, subst}
-use mathlib.Core.Logic.{_⊎_, inl, inr, _↔_, _≢_}
+use mathlib.Core.Logic.{inl, _↔_}
 use mathlib.Core.List.{List, [], _∷_}
 use lib.Dec.{T, eqb}
 use Rattle.spec_lists.specs.Lists.{within, distinct, In, nth, bit, total}
@@ -24,7 +24,7 @@ use Rattle.table_records.specs.Records.{RecordOf}
 use Rattle.table_size.specs.Written.{HeadOf}
 use Rattle.table_records.specs.declared.Record.{Record}
 use Rattle.table_board.specs.BoardView.{HoldsBoard}
-use Rattle.table_chains.specs.Chains.{chainFrom, storedHead, storedNext, ChainOf, NextOf, Rest}
+use Rattle.table_chains.specs.Chains.{chainFrom, storedHead, storedNext, ChainOf, NextOf}
 use Rattle.table_size.specs.declared.Size.{Size}
 
 -- "Next 0 ends a chain"
@@ -123,29 +123,6 @@ pub next-read : (t : List ℕ) (s : Size) (j : ℕ) (r : Record) → SoundTable 
 next-read t s j r z p f =
     let e : r .next ≡ storedNext t j = ap (λ (e : Entry). e .next) (f .entry) in
     record { stored = e; small = f .small .next; chain = rw e (next-chain t s j z p) }
-
--- a walk along a chain
-
--- at first the whole chain is left ..
-pub rest-first : {t : List ℕ} {s : Size} {x j : ℕ} → ChainOf t s x j → Rest t x j
-rest-first c = record { held = λ i. (c .held i) .0 }
-
-module _ {t : List ℕ} {x j : ℕ} (r : Rest t x j) where
-  -- .. until it ends, its first job is one that x holds ..
-  pub rest-here : j ≢ 0 → T (stands (decode t) j) × (holderOf (decode t) j ≡ x)
-  rest-here d = r .held j (chain-begins t j (omega arith))
-
-  -- .. and what comes after that job is left then ..
-  pub rest-next : {n : ℕ} → NextOf t j n → Rest t x n
-  rest-next o = record { held = λ i m. r .held i (subst (λ (l : List ℕ). In i l) (sym (o .chain)) (inr m)) }
-
--- .. so each job of a chain is its first or on what is left ..
-pub next-split : {t : List ℕ} {j n : ℕ} → NextOf t j n → (i : ℕ) → In i (chainFrom t j) → (i ≡ j) ⊎ In i (chainFrom t n)
-next-split o i m = subst (λ (l : List ℕ). In i l) (o .chain) m
-
--- .. which is less
-pub rest-less : {t : List ℕ} {j n : ℕ} → NextOf t j n → length (chainFrom t j) ≡ suc (length (chainFrom t n))
-rest-less o = ap length (o .chain)
 
 -- a job that a bench holds stands
 pub held-stands : (t : List ℕ) (s : Size) (j x : ℕ) → HoldsBoard t s → 1 ≤ x → holderOf (decode t) j ≡ x → T (stands (decode t) j)

@@ -41,10 +41,6 @@ pub record NextOf (t : List ℕ) (j n : ℕ) : Type 0 where
   pub small : n < 65536
   pub chain : chainFrom t j ≡ j ∷ chainFrom t n
 
--- what is left of bench x's chain is the chain from job j on: x holds its jobs
-pub record Rest (t : List ℕ) (x j : ℕ) : Type 0 where
-  pub held : (i : ℕ) → In i (chainFrom t j) → T (stands (decode t) i) × (holderOf (decode t) i ≡ x)
-
 -- the chains were made anew: the bytes are the board's, every chain rising
 pub record ChainsRebuilt (t u : List ℕ) (s : Size) : Type 0 where
   pub bytes : u ≡ encode (decode t)

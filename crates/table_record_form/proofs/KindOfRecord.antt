@@ -6,11 +6,11 @@ use mathlib.Core.Logic.{_≢_}
 use mathlib.Core.Bool.{Bool, true, false}
 use lib.Dec.{T}
 use Rattle.spec_lists.specs.Lists.{within, Each}
-use Rattle.spec_table.specs.Table.{filled, entryFits, entryWords}
-use Rattle.spec_lists.proofs.Tests.{T→true, never→false, within-low, within-high, within-both}
+use Rattle.spec_table.specs.Table.{Entry, filled, holderIn, entryFits, entryWords}
+use Rattle.spec_lists.proofs.Tests.{true→T, T→true, never→false, within-low, within-high, within-both}
 use Rattle.spec_table.proofs.Named.{pair-fits}
 use Rattle.spec_table.proofs.Clauses.{vacant-words, zero-words}
-use Rattle.spec_table.proofs.Sound.{entry-tests}
+use Rattle.spec_table.proofs.Sound.{entry-tests, not-held}
 use Rattle.table_records.specs.Records.{entryOf}
 use Rattle.table_records.specs.declared.Record.{Record}
 use Rattle.table_record_form.specs.Kinds.{kindIf, kindOf}
@@ -77,3 +77,29 @@ unfit-kind benches r d f =
     let fit = entryFits benches (entryOf r) in
     let no = never→false fit (λ t. f (entry-fits benches r t)) in
     ap (kindIf true) (sym no) ∙ standing-kind benches r d
+
+-- what a kind says of a record
+
+-- "four zero words" tell no holder ..
+pub vacant-unheld : (benches : ℕ) (e : Entry) → kindOf benches e ≡ Vacant → holderIn e ≡ 0
+unfolding kindOf
+vacant-unheld benches e q = go (filled e) refl (entryFits benches e) q
+  where
+    go : (y : Bool) → filled e ≡ y → (z : Bool) → kindIf y z ≡ Vacant → holderIn e ≡ 0
+    go false p z k = not-held e p
+    go true p true k = absurd (true→T false cc)
+    go true p false k = absurd (true→T false cc)
+
+-- .. and a record that fits passes the tests of a standing job's ..
+pub fitting-tests : (benches : ℕ) (e : Entry) → kindOf benches e ≡ Fitting → T (entryFits benches e)
+unfolding kindOf
+fitting-tests benches e q = go (filled e) (entryFits benches e) refl q
+  where
+    go : (y z : Bool) → entryFits benches e ≡ z → kindIf y z ≡ Fitting → T (entryFits benches e)
+    go false z p k = absurd (true→T false cc)
+    go true false p k = absurd (true→T false cc)
+    go true true p k = true→T (entryFits benches e) p
+
+-- .. as it was read
+pub fitting-fits : (benches : ℕ) (r : Record) → kindOf benches (entryOf r) ≡ Fitting → Fits benches r
+fitting-fits benches r k = entry-fits benches r (fitting-tests benches (entryOf r) k)

@@ -4,18 +4,18 @@ use native.Mathlib.Omega.{arith}
 use native.Mathlib.Numerals.{add-one}
 use native.Mathlib.Decide.{ℕ-discrete}
 use mathlib.Core.Path.{_≡_, refl, sym, ap, subst, _∙_}
-use mathlib.Core.Bool.{Bool, true, false}
+use mathlib.Core.Bool.{Bool}
 use mathlib.Core.List.{List}
 use lib.Dec.{T}
 use lib.ListN.{length, getD, set, drop, replicate, length-set, length-replicate}
 use lib.Seq.{getD-set-same, getD-set-other}
 use Rattle.spec_lists.specs.Lists.{In, nth, update}
-use Rattle.spec_lists.proofs.Tests.{true→T, within-low, within-high, Compared, same, other, compared}
+use Rattle.spec_lists.proofs.Tests.{Compared, same, other, compared}
 use Rattle.spec_lists.proofs.Elements.{each-nth, each-replicate, length-update, nth-update-same, nth-update-other}
 use Rattle.spec_lists.proofs.NumberLists.{length-values, nth-range, values-same}
 use Rattle.spec_table.specs.Board.{standing}
 use Rattle.spec_table.specs.Table.{mostBenches, words, Entry, vacant, filled, holderIn, entryFits, Layout, layoutOf, decode}
-use Rattle.spec_table.proofs.Sound.{fit-storable, standingFrom, standing-count, layout-pairs, two-benches, entry-tests, holder-within, holder-record, not-held}
+use Rattle.spec_table.proofs.Sound.{fit-storable, standingFrom, standing-count, layout-pairs, two-benches, holder-within, holder-record}
 use Rattle.table_words.specs.Bytes.{layoutIn}
 use Rattle.table_size.specs.Sizes.{SizeOf, BenchIn, ByBench}
 use Rattle.table_size.specs.Written.{recordIn, HeadsOf, withHeads, withStanding, cleared}
@@ -25,8 +25,9 @@ use Rattle.table_board.specs.BoardView.{HoldsBoard}
 use Rattle.table_board.proofs.RecordsAsBoard.{holders-long}
 use Rattle.table_records.specs.Records.{entryOf, RecordOf, NameAt}
 use Rattle.table_records.specs.declared.Record.{Record}
-use Rattle.table_record_form.specs.Kinds.{kindIf, kindOf, byKind, counted}
+use Rattle.table_record_form.specs.Kinds.{kindOf, byKind, counted}
 use Rattle.table_record_form.specs.declared.Kind.the-variants.{Vacant, Fitting}
+use Rattle.table_record_form.proofs.KindOfRecord.{vacant-unheld, fitting-tests}
 use Rattle.table_record_form.proofs.Counted.{AllFit, count-step, count-end, counted-seen}
 use Rattle.table_chains.specs.Chains.{pushed, pushedFrom}
 use Rattle.table_chains.proofs.Rebuilding.{rebuild-layout, rebuild-bytes}
@@ -64,46 +65,20 @@ due-none s due z = due-heads s due (replicate (s .benches) 0) (length-replicate 
 
 -- records
 
--- a vacant record is no job's ..
-kind-vacant : (benches : ℕ) (e : Entry) → kindOf benches e ≡ Vacant → holderIn e ≡ 0
-unfolding kindOf
-kind-vacant benches e q = go (filled e) refl (entryFits benches e) q
-  where
-    go : (y : Bool) → filled e ≡ y → (z : Bool) → kindIf y z ≡ Vacant → holderIn e ≡ 0
-    go false p z k = not-held e p
-    go true p true k = absurd (true→T false cc)
-    go true p false k = absurd (true→T false cc)
-
--- .. a fitting one passes the tests of a standing job's record ..
-kind-fits : (benches : ℕ) (e : Entry) → kindOf benches e ≡ Fitting → T (entryFits benches e)
-unfolding kindOf
-kind-fits benches e q = go (filled e) (entryFits benches e) refl q
-  where
-    go : (y z : Bool) → entryFits benches e ≡ z → kindIf y z ≡ Fitting → T (entryFits benches e)
-    go false z p k = absurd (true→T false cc)
-    go true false p k = absurd (true→T false cc)
-    go true true p k = true→T (entryFits benches e) p
-
--- .. so its holder is a bench
+-- a fitting record's holder is a bench
 kind-bench : (t : List ℕ) (s : Size) (j : ℕ) → kindOf (s .benches) (recordIn t j) ≡ Fitting → BenchIn s (holderIn (recordIn t j))
 kind-bench t s j q =
     let e = recordIn t j in
     let pair = each-nth (λ (e : Entry). length (e .names) ≡ 2) ((layoutIn t) .entries) j vacant refl (layout-pairs (words t)) in
-    let h = holder-within (s .benches) e (two-benches (s .benches) e pair (kind-fits (s .benches) e q)) in
+    let h = holder-within (s .benches) e (two-benches (s .benches) e pair (fitting-tests (s .benches) e q)) in
     record { least = h .0; most = h .1 }
 
--- a record that was read
+-- one that was read
 
 module _ (s : Size) {t : List ℕ} {j : ℕ} {r : Record} (f : RecordOf t j r) (k : kindOf (s .benches) (entryOf r) ≡ Fitting) where
   -- it is job j's
   read-fits : kindOf (s .benches) (recordIn t j) ≡ Fitting
   read-fits = ap (kindOf (s .benches)) (sym (f .entry)) ∙ k
-
-  -- its holder word is one of its two places
-  pub read-place : (1 ≤ r .holder) × (r .holder ≤ 2)
-  read-place =
-      let w = (entry-tests (s .benches) (entryOf r)) .0 (kind-fits (s .benches) (entryOf r) k) .1 in
-      (within-low 1 2 (r .holder) w, within-high 1 2 (r .holder) w)
 
   module _ {x : ℕ} (a : NameAt t j (r .holder) x) where
     -- the name at that place is the holder ..
@@ -175,9 +150,9 @@ module _ {t : List ℕ} {s : Size} {due loads : List ℕ} {count done : ℕ} (z 
       (record {
         few = omega (arith, m .few);
         long = m .long;
-        chains = rw add-one (ap (pushedFrom done) (undo-vacant (layoutIn t) (suc done) (dueHeads s due) (rw add-one at (kind-vacant (s .benches) e k))) ∙ m .chains);
+        chains = rw add-one (ap (pushedFrom done) (undo-vacant (layoutIn t) (suc done) (dueHeads s due) (rw add-one at (vacant-unheld (s .benches) e k))) ∙ m .chains);
         records = rw k at step;
-        loaded = loads-pass (m .loaded) fewer (sym (holder-record t (done + 1) ∙ kind-vacant (s .benches) e k));
+        loaded = loads-pass (m .loaded) fewer (sym (holder-record t (done + 1) ∙ vacant-unheld (s .benches) e k));
         beyond = m .beyond;
       })
 

@@ -8,7 +8,8 @@ use Rattle.table_size.specs.Sizes.{BenchIn}
 use Rattle.table_records.specs.Records.{entryOf}
 use Rattle.table_record_form.specs.Kinds.{kindOf}
 use Rattle.table_record_form.specs.declared.Kind.the-variants.{Fitting}
-use Rattle.table_rising.proofs.Meeting.{read-place, read-bench, read-met}
+use Rattle.table_record_form.proofs.KindOfRecord.{fitting-fits}
+use Rattle.table_rising.proofs.Meeting.{read-bench, read-met}
 use Rattle.table_rising.proofs.meet.Statement.{statement}
 use Rattle.table_rising.proofs.meet.Tie as tie
 
@@ -42,8 +43,8 @@ small c = omega (arith, bench c .most, c .before .before .before .before .before
 name-at-requires : tie.Need-name-at-requires
 name-at-requires c κs =
     let start = c .before .before .before .before .before in
-    let place = read-place (start .args .s) (c .before .before .before .read-record .ensures) (fits c) in
-    (start .pre .0, (start .pre .1 .0, (place .0, place .1)))
+    let f = fitting-fits (start .args .s .benches) (c .before .before .before .read-record .result) (fits c) in
+    (start .pre .0, (start .pre .1 .0, (f .holder-least, f .holder-most)))
 
 mul-if1 : tie.Need-mul-if1
 mul-if1 c = search needs
