@@ -20,7 +20,7 @@ use Rattle.table_board.specs.BoardView.{Loaded}
 use Rattle.table_board.proofs.RecordsAsBoard.{sound-holds-board, load-beyond}
 use Rattle.table_chains.proofs.ChainView.{chain-length}
 use Rattle.table_chain_form.specs.ChainLengths.{ChainLengths}
-use Rattle.table_rising.specs.Passing.{Rising}
+use Rattle.table_rising.specs.Passing.{Rising, Encoded}
 use Rattle.table_refusals.specs.Refusals.{refusalOf}
 use Rattle.table_refusals.specs.declared.Refusal.the-variants.{Sizes, Unsound}
 use Rattle.table_form.specs.FormCheck.{Checked, FormOf}
@@ -48,10 +48,10 @@ module _ {t : List ℕ} {s : Size} (z : SizeOf t s) where
   unfolding sound
   unformed-answered loads e = answered t loads (Refused Unsound) (rw (T→true (fits t) (z .fit), e))
 
-  -- .. and sound where they do: by the walks, which leave the lengths of the chains ..
-  pub formed-answered : {loads : List ℕ} → formed (layoutIn t) ≡ true → ChainLengths (layoutIn t) s loads → FormOf t loads (Sound s false)
+  -- .. and sound where they do: by the walks, which leave the lengths of the chains, where the pass did not get through ..
+  pub formed-answered : {loads : List ℕ} → formed (layoutIn t) ≡ true → ChainLengths (layoutIn t) s loads → (Encoded t s → ⊥) → FormOf t loads (Sound s false)
   unfolding sound
-  formed-answered {loads} e c = answered t loads (Sound s false) (record { sound = found; loaded = loaded; bytes = λ n. absurd n })
+  formed-answered {loads} e c not = answered t loads (Sound s false) (record { sound = found; loaded = loaded; bytes = (λ n. absurd n, λ b. not (record { holdsBoard = sound-holds-board t s found; bytes = b })) })
     where
       is-sound : T (sound t)
       is-sound = both (fits t) (formed (layoutIn t)) (z .fit) (true→T (formed (layoutIn t)) e)
@@ -71,4 +71,4 @@ module _ {t : List ℕ} {s : Size} (z : SizeOf t s) where
 
 -- .. or by the one pass, which shows the bytes, too
 pub rising-answered : {t : List ℕ} {s : Size} {loads : List ℕ} → Rising t s loads → FormOf t loads (Sound s true)
-rising-answered {t} {s} {loads} r = answered t loads (Sound s true) (record { sound = r .sound; loaded = r .loaded; bytes = λ n. r .bytes })
+rising-answered {t} {s} {loads} r = answered t loads (Sound s true) (record { sound = r .sound; loaded = r .loaded; bytes = (λ n. r .bytes, λ b. tt) })

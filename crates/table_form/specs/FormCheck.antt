@@ -1,5 +1,6 @@
 -- What the form check answers, for the crates above.
 use mathlib.Core.Path.{_≡_}
+use mathlib.Core.Logic.{_↔_}
 use mathlib.Core.Bool.{Bool}
 use mathlib.Core.List.{List, []}
 use mathlib.Core.Option.{some}
@@ -20,12 +21,12 @@ abbrev pub formAnswer : Form → Answer
 formAnswer (Refused r) = refused (refusalOf r)
 formAnswer (Sound s rising) = said isSound
 
--- a sound table of size s with these loads; where it is told to rise, its bytes are the encoding of its board, every
--- chain rising
+-- a sound table of size s with these loads; it is told to rise exactly if its bytes are the encoding of its board,
+-- every chain rising
 pub record FoundSound (t loads : List ℕ) (s : Size) (rising : Bool) : Type 0 where
   pub sound : SoundTable t s
   pub loaded : Loaded (decode t) loads
-  pub bytes : T rising → t ≡ encode (decode t)
+  pub bytes : T rising ↔ (t ≡ encode (decode t))
 
 -- what each answer says of the table: the first of 1 and 2 that holds, as every call on a table tests first, or that
 -- it is sound

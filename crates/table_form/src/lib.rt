@@ -13,7 +13,7 @@ use table_size::Sizing;
 pub enum Form {
     // Refusal 1 or 2.
     Refused(Refusal),
-    // The table's size, and whether every chain rises: then the bytes are the encoding of the board.
+    // The table's size, and whether the bytes are the encoding of the board, every chain rising.
     Sound(Size, bool),
 }
 

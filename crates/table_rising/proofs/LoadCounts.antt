@@ -8,7 +8,6 @@ use lib.Dec.{eqb}
 use lib.ListN.{length, getD, take, set, replicate, length-set, length-replicate, getD-replicate}
 use lib.Seq.{length-take-le, take-all, take-suc}
 use Rattle.spec_lists.specs.Lists.{bit, nth}
-use Rattle.spec_lists.proofs.Tests.{other}
 use Rattle.spec_lists.proofs.Raising.{getD-raised}
 use Rattle.spec_lists.proofs.Counting.{bit-other, count-most, count-append}
 use Rattle.spec_table.specs.Board.{Board, load}

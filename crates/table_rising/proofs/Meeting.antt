@@ -4,6 +4,7 @@ use native.Mathlib.Omega.{arith}
 use native.Mathlib.Numerals.{add-one}
 use native.Mathlib.Decide.{ℕ-discrete}
 use mathlib.Core.Path.{_≡_, refl, sym, ap, subst, _∙_}
+use mathlib.Core.Logic.{inr, _≢_}
 use mathlib.Core.Bool.{Bool}
 use mathlib.Core.List.{List}
 use lib.Dec.{T}
@@ -31,7 +32,7 @@ use Rattle.table_record_form.proofs.KindOfRecord.{vacant-unheld, fitting-tests}
 use Rattle.table_record_form.proofs.Counted.{AllFit, count-step, count-end, counted-seen}
 use Rattle.table_chains.specs.Chains.{pushed, pushedFrom}
 use Rattle.table_chains.proofs.Rebuilding.{rebuild-layout, rebuild-bytes}
-use Rattle.table_rising.specs.Passing.{dueHeads, Before, Met, Passed, NoneDue, Rising}
+use Rattle.table_rising.specs.Passing.{dueHeads, Before, Met, NotMet, Passed, NoneDue, Rising}
 use Rattle.table_rising.proofs.Undoing.{undo-vacant, undo-standing}
 use Rattle.table_rising.proofs.LoadCounts.{LoadsTo, loads-start, loads-turn, loads-pass, loads-few, loads-end}
 
@@ -66,7 +67,7 @@ due-none s due z = due-heads s due (replicate (s .benches) 0) (length-replicate 
 -- records
 
 -- a fitting record's holder is a bench
-kind-bench : (t : List ℕ) (s : Size) (j : ℕ) → kindOf (s .benches) (recordIn t j) ≡ Fitting → BenchIn s (holderIn (recordIn t j))
+pub kind-bench : (t : List ℕ) (s : Size) (j : ℕ) → kindOf (s .benches) (recordIn t j) ≡ Fitting → BenchIn s (holderIn (recordIn t j))
 kind-bench t s j q =
     let e = recordIn t j in
     let pair = each-nth (λ (e : Entry). length (e .names) ≡ 2) ((layoutIn t) .entries) j vacant refl (layout-pairs (words t)) in
@@ -89,7 +90,11 @@ module _ (s : Size) {t : List ℕ} {j : ℕ} {r : Record} (f : RecordOf t j r) (
     pub read-bench : BenchIn s x
     read-bench = subst (BenchIn s) (sym holder-there) (kind-bench t s j read-fits)
 
-    -- .. and if the job is due there, it is met
+    -- .. if another job is due there, this one can't be met ..
+    pub read-not-met : (due : List ℕ) → getD due x 0 ≢ j → NotMet s (recordIn t j) j due
+    read-not-met due d = inr (read-fits, λ u. d (ap (λ (y : ℕ). getD due y 0) holder-there ∙ u))
+
+    -- .. and if it is due there, it is met
     pub read-met : {due loads : List ℕ} → getD due x 0 ≡ j → Met s (recordIn t j) j due loads (set due x (r .next)) (set loads x (getD loads x 0 + 1))
     read-met {due} {loads} u =
         let n : r .next ≡ (recordIn t j) .next = ap (λ (e : Entry). e .next) (f .entry) in
@@ -224,25 +229,28 @@ ended-turn {due} {x} m e =
       none = λ y l u. elim (ℕ-discrete y x) [ yes q ↦ rw q e | no d ↦ m .none y l (omega arith) ];
     }
 
--- all jobs were met and none is due: the layout is that of the board ..
-module _ {t : List ℕ} {s : Size} {due loads : List ℕ} {n : ℕ} (z : SizeOf t s) (p : Passed t s due loads n) (none : NoneDue s due) (standing-word : (layoutIn t) .standing ≡ n) (spare : (layoutIn t) .spare ≡ 0) where
-  -- the filled records fit, and are n
+-- all jobs were met ..
+module _ {t : List ℕ} {s : Size} {due loads : List ℕ} {n : ℕ} (p : Passed t s due loads n) where
+  -- .. so the filled records fit, and are n ..
   seen : AllFit (s .benches) ((layoutIn t) .entries) × (n ≡ 0 + length (standingFrom 1 ((layoutIn t) .entries)))
   seen = counted-seen (s .benches) 0 1 ((layoutIn t) .entries) n (p .records)
 
+  -- .. and so are the standing jobs
+  pub passed-count : n ≡ standing (decode t)
+  passed-count = omega (arith, seen .1, standing-count t)
+
+-- all jobs were met and none is due: the layout is that of the board ..
+module _ {t : List ℕ} {s : Size} {due loads : List ℕ} {n : ℕ} (z : SizeOf t s) (p : Passed t s due loads n) (none : NoneDue s due) (standing-word : (layoutIn t) .standing ≡ n) (spare : (layoutIn t) .spare ≡ 0) where
   holds : HoldsBoard t s
-  holds = record { size = z; storable = fit-storable t (z .fit) (subst (λ (b : ℕ). (e : Entry) → In e ((layoutIn t) .entries) → T (filled e) → T (entryFits b e)) (sym (z .benches)) (seen .0)) }
+  holds = record { size = z; storable = fit-storable t (z .fit) (subst (λ (b : ℕ). (e : Entry) → In e ((layoutIn t) .entries) → T (filled e) → T (entryFits b e)) (sym (z .benches)) (seen p .0)) }
 
   -- no chain has a job before the first is pushed
   emptied : withHeads (layoutIn t) (dueHeads s due) ≡ cleared (layoutIn t)
   emptied = ap (withHeads (layoutIn t)) (sym (due-none s due none) ∙ ap (λ (b : ℕ). replicate b 0) (sym (z .benches)))
 
-  count : n ≡ standing (decode t)
-  count = omega (arith, seen .1, standing-count t)
-
   laid : layoutIn t ≡ layoutOf (decode t)
   laid =
-      (λ i. record { benches = l .benches; jobs = l .jobs; standing = (standing-word ∙ count) i; spare = spare i; heads = l .heads; entries = l .entries })
+      (λ i. record { benches = l .benches; jobs = l .jobs; standing = (standing-word ∙ passed-count p) i; spare = spare i; heads = l .heads; entries = l .entries })
       ∙ ap (λ (m : Layout). withStanding m (standing (decode t))) (sym (p .chains) ∙ ap (pushedFrom (s .jobs)) emptied)
       ∙ rebuild-layout t s holds
     where

@@ -1,6 +1,7 @@
 -- The pass over the jobs in rising order: at each bench the job that is due, the next one that its chain leads to.
 use Prim.Native.Nat.{ℕ, _+_, _<_}
 use mathlib.Core.Path.{_≡_}
+use mathlib.Core.Logic.{_⊎_, _≢_}
 use mathlib.Core.List.{List, map}
 use lib.ListN.{length, getD, set}
 use Rattle.spec_lists.specs.Lists.{range}
@@ -9,7 +10,7 @@ use Rattle.table_words.specs.Bytes.{layoutIn}
 use Rattle.table_size.specs.Sizes.{BenchIn, SoundTable}
 use Rattle.table_size.specs.Written.{withHeads}
 use Rattle.table_size.specs.declared.Size.{Size}
-use Rattle.table_board.specs.BoardView.{Loaded}
+use Rattle.table_board.specs.BoardView.{HoldsBoard, Loaded}
 use Rattle.table_chains.specs.Chains.{pushedFrom}
 use Rattle.table_record_form.specs.Kinds.{kindOf, counted}
 use Rattle.table_record_form.specs.declared.Kind.{Kind}
@@ -34,12 +35,17 @@ pub record Met (s : Size) (e : Entry) (j : ℕ) (due loads due₂ loads₂ : Lis
   pub next : due₂ ≡ set due (holderIn e) (e .next)
   pub load : loads₂ ≡ set loads (holderIn e) (getD loads (holderIn e) 0 + 1)
 
+-- job j with the record e can't be met: the record does not fit, or another job is due at its holder
+abbrev pub NotMet : Size → Entry → ℕ → List ℕ → Type 0
+NotMet s e j due =
+    (kindOf (s .benches) e ≡ Unfit) ⊎ ((kindOf (s .benches) e ≡ Fitting) × (getD due (holderIn e) 0 ≢ j))
+
 -- what is left of the due jobs and the loads after job j, by what is told of it: they stay where there is no such job;
 -- where it does not fit or is not due, the pass ends, and the loads stay
 abbrev pub MetAs : Size → Entry → ℕ → List ℕ → List ℕ → List ℕ → List ℕ → Kind → Type 0
 MetAs s e j due loads due₂ loads₂ Vacant = (kindOf (s .benches) e ≡ Vacant) × (due₂ ≡ due) × (loads₂ ≡ loads)
 MetAs s e j due loads due₂ loads₂ Fitting = Met s e j due loads due₂ loads₂
-MetAs s e j due loads due₂ loads₂ Unfit = loads₂ ≡ loads
+MetAs s e j due loads due₂ loads₂ Unfit = (loads₂ ≡ loads) × NotMet s e j due
 
 -- all jobs were met, n of which stand: pushed from the last down, from the jobs that are due now, they give the table's
 -- own chains; all records fit; and at each bench its load was counted
@@ -63,3 +69,13 @@ pub record Rising (t : List ℕ) (s : Size) (loads : List ℕ) : Type 0 where
   pub bytes : t ≡ encode (decode t)
   pub sound : SoundTable t s
   pub loaded : Loaded (decode t) loads
+
+-- a table of size s whose bytes are the encoding of the board that its records hold, every chain rising
+pub record Encoded (t : List ℕ) (s : Size) : Type 0 where
+  pub holdsBoard : HoldsBoard t s
+  pub bytes : t ≡ encode (decode t)
+
+-- what the pass sees of such a table: all jobs, and none is due in the end
+abbrev pub AllInTurn : Size → List ℕ → Seen → Type 0
+AllInTurn s due (Jobs n) = NoneDue s due
+AllInTurn s due Broken = ⊥

@@ -1,14 +1,15 @@
 // The form check in one pass. The jobs are met in rising order: each must fit and be due, the next that its holder's
 // chain leads to. Loads are counted on the way. Got through, the table is sound, and its bytes are those of its board,
-// every chain rising; else nothing is said of it.
+// every chain rising; else they are not, or its records hold no board.
 ghost use mathlib.Core.Path.{_≡_};
+ghost use mathlib.Core.Logic.{_↔_};
 ghost use Prim.Native.Nat.{_+_};
 ghost use lib.Dec.{T};
 ghost use lib.ListN.{length, replicate};
 ghost use Rattle.spec_table.specs.Table.{mostBenches};
 ghost use Rattle.table_size.specs.Sizes.{SizeOf, JobIn, ByBench, Limits};
 ghost use Rattle.table_size.specs.Written.{recordIn, HeadsOf};
-ghost use Rattle.table_rising.specs.Passing.{Before, MetAs, PassedAs, NoneDue, Rising};
+ghost use Rattle.table_rising.specs.Passing.{Before, MetAs, PassedAs, NoneDue, Rising, Encoded, AllInTurn};
 use table_header::heads;
 use table_record_form::Kind;
 use table_record_form::Seen;
@@ -59,6 +60,7 @@ fn meet_all(
     requires { ⌜ HeadsOf (now t) s (now due) ⌝ }
     requires { ⌜ now loads ≡ replicate (mostBenches + 1) 0 ⌝ }
     ensures { λ r. ⌜ PassedAs (now (t .entry)) s (now (due .exit)) (now (loads .exit)) r ⌝ }
+    ensures { λ r. ⌜ (Encoded (now (t .entry)) s → AllInTurn s (now (due .exit)) r) ⌝ }
     ensures { λ _. ⌜ ByBench s (now (loads .exit)) ⌝ }
 {
     let jobs = s.jobs();
@@ -78,7 +80,7 @@ fn meet_all(
 // Tells whether no job is due.
 fn none_due(s: Size, due: &[u16; Size::MOST_BENCHES + 1]) -> bool
     requires { ⌜ Limits s ⌝ }
-    ensures { λ r. ⌜ (T r → NoneDue s (now (due .entry))) ⌝ }
+    ensures { λ r. ⌜ (T r ↔ NoneDue s (now (due .entry))) ⌝ }
 {
     let benches = s.benches();
     let mut x = 1;
@@ -96,6 +98,7 @@ pub fn is_rising(t: &[u8], s: Size, loads: &mut [u16; Size::MOST_BENCHES + 1]) -
     requires { ⌜ SizeOf (now t) s ⌝ }
     requires { ⌜ now loads ≡ replicate (mostBenches + 1) 0 ⌝ }
     ensures { λ r. ⌜ (T r → Rising (now (t .entry)) s (now (loads .exit))) ⌝ }
+    ensures { λ r. ⌜ (Encoded (now (t .entry)) s → T r) ⌝ }
     ensures { λ _. ⌜ ByBench s (now (loads .exit)) ⌝ }
 {
     if table_header::spare_word(t, s) != 0 {

@@ -1,5 +1,6 @@
 -- Refusal 1 where the sizes do not fit; else sound where the pass gets through, and where it does not what `is_formed` tells.
-use mathlib.Core.Path.{sym, _∙_}
+use mathlib.Core.Path.{sym, subst, _∙_}
+use lib.Dec.{T}
 use borrow.Author.Needs.{needs}
 use Rattle.spec_lists.proofs.Tests.{true→T}
 use Rattle.table_size.specs.Sizes.{SizeOf}
@@ -29,7 +30,7 @@ returns : tie.Need-returns
 returns c = rising-answered (c .before .is-rising .ensures .0 (true→T _ (c .if1 .taken)))
 
 is-formed-requires : tie.Need-is-formed-requires
-is-formed-requires c κs = (sized (c .before .before .before .before), c .before .before .is-rising .ensures .1)
+is-formed-requires c κs = (sized (c .before .before .before .before), c .before .before .is-rising .ensures .1 .1)
 
 returns-2 : tie.Need-returns-2
 returns-2 c = misfit-answered _ _ (sym (c .before .before .of .ensures .value) ∙ c .enum-told .given .1)
@@ -37,7 +38,12 @@ returns-2 c = misfit-answered _ _ (sym (c .before .before .of .ensures .value) �
 returns-3 : tie.Need-returns-3
 returns-3 c =
     let formed = c .before .is-formed .ensures in
-    formed-answered (sized (c .before .before .before .before .before .before)) (sym (formed .0) ∙ c .if2 .taken) (formed .1 (true→T _ (c .if2 .taken)))
+    let left = c .before .before .before in
+    formed-answered
+    (sized (c .before .before .before .before .before .before))
+    (sym (formed .0) ∙ c .if2 .taken)
+    (formed .1 (true→T _ (c .if2 .taken)))
+    (λ k. subst T (left .if1 .left) (left .before .is-rising .ensures .1 .0 k))
 
 returns-4 : tie.Need-returns-4
 returns-4 c = unformed-answered (sized (c .before .before .before .before .before .before)) _ (sym (c .before .is-formed .ensures .0) ∙ c .if2 .left)

@@ -2,14 +2,16 @@
 use Prim.Native.Nat.{_+_, _<_}
 use native.Mathlib.Omega.{arith}
 use mathlib.Core.Path.{_≡_, refl, sym, ap, _∙_}
+use mathlib.Core.Logic.{inl}
 use borrow.Author.Needs.{needs}
 use Rattle.spec_table.specs.Table.{mostBenches}
 use Rattle.table_size.specs.Sizes.{BenchIn}
+use Rattle.table_size.specs.Written.{recordIn}
 use Rattle.table_records.specs.Records.{entryOf}
 use Rattle.table_record_form.specs.Kinds.{kindOf}
 use Rattle.table_record_form.specs.declared.Kind.the-variants.{Fitting}
 use Rattle.table_record_form.proofs.KindOfRecord.{fitting-fits}
-use Rattle.table_rising.proofs.Meeting.{read-bench, read-met}
+use Rattle.table_rising.proofs.Meeting.{read-bench, read-met, read-not-met}
 use Rattle.table_rising.proofs.meet.Statement.{statement}
 use Rattle.table_rising.proofs.meet.Tie as tie
 
@@ -27,6 +29,10 @@ enum-told-2 c = search needs
 
 enum-told-3 : tie.Need-enum-told-3
 enum-told-3 c = search needs
+
+-- what is told of the record that was read is the kind of job j's
+read-kind : (c : tie.After-kind-of) → kindOf (c .before .before .before .args .s .benches) (recordIn (c .before .before .before .args .t .now) (c .before .before .before .args .j)) ≡ c .kind-of .result
+read-kind c = ap (kindOf (c .before .before .before .args .s .benches)) (sym (c .before .read-record .ensures .entry)) ∙ sym (c .kind-of .ensures)
 
 -- the record fits
 fits : (c : tie.After-enum-told3) → kindOf (c .before .before .before .before .before .args .s .benches) (entryOf (c .before .before .before .read-record .result)) ≡ Fitting
@@ -56,7 +62,10 @@ cast-if1 : tie.Need-cast-if1
 cast-if1 c = search needs
 
 returns : tie.Need-returns
-returns c = search needs
+returns c =
+    let named = c .before .before in
+    let start = named .before .before .before .before .before .before in
+    (refl, read-not-met (start .args .s) (named .before .before .before .before .read-record .ensures) (fits (named .before)) (named .name-at .ensures) (start .args .due .now) (c .if1 .taken))
 
 cast-due : tie.Need-cast-due
 cast-due c = search needs
@@ -83,12 +92,10 @@ element-write-loads : tie.Need-element-write-loads
 element-write-loads c = small (c .before .before .before)
 
 returns-2 : tie.Need-returns-2
-returns-2 c =
-    let start = c .before .before .before .before .before in
-    (ap (kindOf (start .args .s .benches)) (sym (c .before .before .before .read-record .ensures .entry)) ∙ sym (c .before .before .kind-of .ensures) ∙ c .enum-told .given .1, refl, refl)
+returns-2 c = (read-kind (c .before .before) ∙ c .enum-told .given .1, refl, refl)
 
 returns-3 : tie.Need-returns-3
-returns-3 c = search needs
+returns-3 c = (refl, inl (read-kind (c .before .before) ∙ c .enum-told2 .given .1))
 
 returns-4 : tie.Need-returns-4
 returns-4 c =

@@ -1,15 +1,17 @@
--- All jobs are met. The loop's invariant: the first `done` were. The measure is the number of jobs that are left.
+-- All jobs are met. The loop's invariant: the first `done` were, and of an encoded table those that are due are in turn. The measure is the number of jobs that are left.
 use Prim.Native.Nat.{_-_}
 use native.Mathlib.Omega.{arith}
 use mathlib.Core.Path.{refl}
 use mathlib.Core.Logic.{⊎-elim}
 use borrow.Author.Needs.{needs}
+use Rattle.table_rising.specs.Passing.{Encoded}
 use Rattle.table_rising.proofs.Meeting.{Meeting, meeting-start, meeting-before, meeting-by-bench, meeting-pass, meeting-turn, meeting-end}
+use Rattle.table_rising.proofs.InTurn.{InTurn, turn-start, turn-pass, turn-met, turn-possible, turn-end}
 use Rattle.table_rising.proofs.meet_all.Statement.{statement}
 use Rattle.table_rising.proofs.meet_all.Tie as tie
 
 abbrev Inv-loop : tie.InvT-loop
-Inv-loop t s due₀ loads₀ jobs count₀ done₀ due loads count done = Meeting t s due loads count done
+Inv-loop t s due₀ loads₀ jobs count₀ done₀ due loads count done = Meeting t s due loads count done × (Encoded t s → InTurn t s due done)
 
 abbrev μ-loop : tie.MeasureT-loop
 μ-loop t s due₀ loads₀ jobs count₀ done₀ due loads count done = jobs - done
@@ -20,7 +22,7 @@ jobs-requires c κs = search needs
 loop-holds : tie.Need-loop-holds Inv-loop μ-loop
 loop-holds c =
     let start = c .before .before in
-    meeting-start (start .pre .0) (start .pre .1 .0) (start .pre .1 .1)
+    (meeting-start (start .pre .0) (start .pre .1 .0) (start .pre .1 .1), turn-start (start .pre .1 .0))
 
 add-meet : tie.Need-add-meet Inv-loop μ-loop
 add-meet c = search needs
@@ -28,7 +30,7 @@ add-meet c = search needs
 meet-requires : tie.Need-meet-requires Inv-loop μ-loop
 meet-requires c κs =
     let start = c .before .before .before .before .before .before in
-    let m = c .before .before .before .loop .inv in
+    let m = c .before .before .before .loop .inv .0 in
     (start .pre .0, (record { least = search needs; most = omega arith }, (m .long, meeting-before m (start .pre .0))))
 
 enum-told : tie.Need-enum-told Inv-loop μ-loop
@@ -36,8 +38,9 @@ enum-told c = search needs
 
 returns : tie.Need-returns Inv-loop μ-loop
 returns c =
-    let m = c .before .before .before .before .before .before .loop .inv in
-    (tt, meeting-by-bench m (rw (c .enum-told .given .1) at (c .before .before .meet .ensures)))
+    let inv = c .before .before .before .before .before .before .loop .inv in
+    let not-met = rw (c .enum-told .given .1) at (c .before .before .meet .ensures) in
+    (tt, (λ k. turn-possible k (inv .1 k) (omega arith) (not-met .1), meeting-by-bench (inv .0) (not-met .0)))
 
 enum-told-2 : tie.Need-enum-told-2 Inv-loop μ-loop
 enum-told-2 c = search needs
@@ -57,17 +60,19 @@ loop-less c = search needs
 loop-again : tie.Need-loop-again Inv-loop μ-loop
 loop-again c =
     let start = c .before .before .before .before .before .before .before .before in
-    let m = c .before .before .before .before .before .loop .inv in
+    let inv = c .before .before .before .before .before .loop .inv in
     ⊎-elim
-    (λ w. rw (w .2) (meeting-turn (start .pre .0) m (omega arith) (rw (w .1 .given .1) at (c .before .meet .ensures))))
-    (λ w. rw (w .2) (meeting-pass (start .pre .0) m (omega arith) (rw (w .1 .given .1) at (c .before .meet .ensures))))
+    (λ w. let met = rw (w .1 .given .1) at (c .before .meet .ensures) in
+    (rw (w .2) (meeting-turn (start .pre .0) (inv .0) (omega arith) met), λ k. turn-met k (inv .1 k) (omega arith) (inv .0 .long) met))
+    (λ w. let passed = rw (w .1 .given .1) at (c .before .meet .ensures) in
+    (rw (w .2) (meeting-pass (start .pre .0) (inv .0) (omega arith) passed), λ k. turn-pass k (inv .1 k) (omega arith) passed))
     (c .match .came)
 
 returns-2 : tie.Need-returns-2 Inv-loop μ-loop
 returns-2 c =
     let start = c .before .before .before .before in
-    let m = c .before .loop .inv in
-    (meeting-end (start .pre .0) m (omega arith), meeting-by-bench m refl)
+    let inv = c .before .loop .inv in
+    (meeting-end (start .pre .0) (inv .0) (omega arith), (λ k. turn-end k (inv .1 k) (omega arith), meeting-by-bench (inv .0) refl))
 
 pub meet-all-spec : {M : Type 1} → statement M
 meet-all-spec =

@@ -25,7 +25,9 @@ element-copy-out-if1 : tie.Need-element-copy-out-if1 Inv-loop μ-loop
 element-copy-out-if1 c = omega (arith, c .before .before .before .pre .benches-most)
 
 returns : tie.Need-returns Inv-loop μ-loop
-returns c = λ t. absurd t
+returns c =
+    let loop = c .before .before .before .loop in
+    (λ t. absurd t, λ n. c .if1 .taken (n (loop .x) (record { least = loop .inv .least; most = omega arith })))
 
 add-x : tie.Need-add-x Inv-loop μ-loop
 add-x c = search needs
@@ -37,7 +39,7 @@ loop-again : tie.Need-loop-again Inv-loop μ-loop
 loop-again c = ended-turn (c .before .before .before .loop .inv) (c .if1 .left)
 
 returns-2 : tie.Need-returns-2 Inv-loop μ-loop
-returns-2 c = λ t x b. c .before .loop .inv .none x (b .least) (omega (arith, b .most))
+returns-2 c = (λ t x b. c .before .loop .inv .none x (b .least) (omega (arith, b .most)), λ n. tt)
 
 pub none-due-spec : {M : Type 1} → statement M
 none-due-spec =
