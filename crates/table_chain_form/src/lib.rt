@@ -6,6 +6,7 @@ ghost use Rattle.spec_lists.specs.Lists.{nth};
 ghost use Rattle.spec_table.specs.Table.{formed};
 ghost use Rattle.table_words.specs.Bytes.{layoutIn};
 ghost use Rattle.table_size.specs.Sizes.{SizeOf, BenchIn, ByBench};
+ghost use Rattle.table_record_form.specs.Kinds.{CountedTo};
 ghost use Rattle.table_chain_form.specs.ChainWalks.{walked, allWalked};
 ghost use Rattle.table_chain_form.specs.ChainLengths.{ChainLengths};
 use table_header::heads;
@@ -63,10 +64,17 @@ fn walk_all(t: &[u8], s: Size, count: usize, loads: &mut [u16; Size::MOST_BENCHE
     left == 0
 }
 
-// Tests the clauses of the sound table after its sizes. Of a table that passes, leaves in `loads`, at each bench, the
-// number of jobs on its chain.
-pub fn is_formed(t: &[u8], s: Size, loads: &mut [u16; Size::MOST_BENCHES + 1]) -> bool
+// Tests the clauses of the sound table after its sizes; the first `done` records are counted, and `count` of them
+// stand. Of a table that passes, leaves in `loads`, at each bench, the number of jobs on its chain.
+pub fn is_formed(
+    t: &[u8],
+    s: Size,
+    done: usize,
+    count: usize,
+    loads: &mut [u16; Size::MOST_BENCHES + 1],
+) -> bool
     requires { ⌜ SizeOf (now t) s ⌝ }
+    requires { ⌜ CountedTo (now t) s done count ⌝ }
     requires { ⌜ ByBench s (now loads) ⌝ }
     ensures { λ r. ⌜ r ≡ formed (layoutIn (now (t .entry))) ⌝ }
     ensures { λ r. ⌜ (T r → ChainLengths (layoutIn (now (t .entry))) s (now (loads .exit))) ⌝ }
@@ -74,7 +82,7 @@ pub fn is_formed(t: &[u8], s: Size, loads: &mut [u16; Size::MOST_BENCHES + 1]) -
     if table_header::spare_word(t, s) != 0 {
         return false;
     }
-    match table_record_form::count_records(t, s) {
+    match table_record_form::count_records(t, s, done, count) {
         Seen::Broken => false,
         Seen::Jobs(count) => {
             if table_header::standing_word(t, s) != count {

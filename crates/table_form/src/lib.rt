@@ -1,11 +1,12 @@
 // The form check, of any bytes: refusal 1, refusal 2, or sound. One pass over the table, where every chain rises; else
-// the records and the chains one after the other. It stands in front of every call, which gets the loads from it.
+// the other records, and the chains one after the other. It stands in front of every call, which gets the loads from it.
 ghost use mathlib.Core.Path.{_≡_};
 ghost use Prim.Native.Nat.{_+_};
 ghost use lib.ListN.{replicate};
 ghost use Rattle.spec_table.specs.Table.{mostBenches};
 ghost use Rattle.table_form.specs.FormCheck.{FormOf};
 use table_refusals::Refusal;
+use table_rising::Pass;
 use table_size::Size;
 use table_size::Sizing;
 
@@ -24,15 +25,15 @@ pub fn check(t: &[u8], loads: &mut [u16; Size::MOST_BENCHES + 1]) -> Form
 {
     match Size::of(t) {
         Sizing::Misfit => Form::Refused(Refusal::Sizes),
-        Sizing::Fit(s) => {
-            if table_rising::is_rising(t, s, loads) {
-                return Form::Sound(s, true);
+        Sizing::Fit(s) => match table_rising::pass_over(t, s, loads) {
+            Pass::Rising => Form::Sound(s, true),
+            Pass::Ended(done, count) => {
+                if table_chain_form::is_formed(t, s, done, count, loads) {
+                    Form::Sound(s, false)
+                } else {
+                    Form::Refused(Refusal::Unsound)
+                }
             }
-            if table_chain_form::is_formed(t, s, loads) {
-                Form::Sound(s, false)
-            } else {
-                Form::Refused(Refusal::Unsound)
-            }
-        }
+        },
     }
 }

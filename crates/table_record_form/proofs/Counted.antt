@@ -2,29 +2,54 @@
 use Prim.Native.Nat.{ℕ, suc, _+_, _≤_, _<_}
 use native.Mathlib.Numerals.{add-one}
 use native.Mathlib.Omega.{arith}
-use mathlib.Core.Path.{_≡_, refl, sym, ap, subst}
+use mathlib.Core.Path.{_≡_, refl, sym, ap, subst, _∙_}
 use mathlib.Core.Logic.{inl, inr}
 use mathlib.Core.Bool.{Bool, true, false}
 use mathlib.Core.List.{List, [], _∷_}
 use lib.Dec.{T}
 use lib.ListN.{length, drop, drop-of-length-le}
 use lib.Seq.{drop-cons}
-use Rattle.spec_lists.specs.Lists.{bit, In, nth}
+use Rattle.spec_lists.specs.Lists.{bit, In}
 use Rattle.spec_table.specs.Table.{Entry, vacant, filled, entryFits}
 use Rattle.spec_lists.proofs.Tests.{true→T}
 use Rattle.spec_table.proofs.Sound.{standingFrom, standing-first}
-use Rattle.table_record_form.specs.Kinds.{kindIf, kindOf, byKind, counted}
+use Rattle.table_record_form.specs.Kinds.{kindIf, kindOf, byKind, counted, CountedTo}
+use Rattle.table_words.specs.Bytes.{layoutIn}
+use Rattle.table_size.specs.Sizes.{SizeOf}
+use Rattle.table_size.specs.Written.{recordIn}
+use Rattle.table_size.specs.declared.Size.{Size}
+use Rattle.table_size.proofs.Sizes.{entries-long}
+use Rattle.table_record_form.specs.declared.Kind.the-variants.{Vacant, Fitting}
 use Rattle.table_record_form.specs.declared.Seen.the-variants.{Jobs, Broken}
 
 -- the records one by one
 
--- the next record, e, is the first of those that are left after i
-pub count-step : (benches n i : ℕ) (es : List Entry) (e : Entry) → e ≡ nth es (i + 1) vacant → i < length es → counted benches n (drop i es) ≡ byKind (kindOf benches e) (counted benches n (drop (i + 1) es)) (counted benches (n + 1) (drop (i + 1) es))
-count-step benches n i es e q l = rw (q, add-one i, add-one n, drop-cons es i vacant l)
+-- none is counted yet ..
+pub counted-none : (t : List ℕ) (s : Size) → CountedTo t s 0 0
+counted-none t s = record { number = omega arith; few = omega arith; rest = refl }
 
--- none is left after the last
-pub count-end : (benches n i : ℕ) (es : List Entry) → length es ≤ i → Jobs n ≡ counted benches n (drop i es)
-count-end benches n i es l = rw (drop-of-length-le es l)
+module _ {t : List ℕ} {s : Size} {done count : ℕ} (z : SizeOf t s) (c : CountedTo t s done count) where
+  abbrev es : List Entry
+  es = (layoutIn t) .entries
+
+  -- .. what the next one, e, does to the count ..
+  pub counted-step : {e : Entry} → done < s .jobs → e ≡ recordIn t (done + 1) → byKind (kindOf (s .benches) e) (counted (s .benches) count (drop (done + 1) es)) (counted (s .benches) (count + 1) (drop (done + 1) es)) ≡ counted (s .benches) 0 es
+  counted-step d q =
+      rw (q, add-one done, add-one count) (rw (drop-cons es done vacant (omega (arith, entries-long t s z))) at (c .rest))
+
+  -- .. it is no job's ..
+  pub counted-pass : done < s .jobs → kindOf (s .benches) (recordIn t (done + 1)) ≡ Vacant → CountedTo t s (done + 1) count
+  counted-pass d k = record { number = omega arith; few = omega (arith, c .few); rest = rw k at (counted-step d refl) }
+
+  -- .. or fits ..
+  pub counted-turn : done < s .jobs → kindOf (s .benches) (recordIn t (done + 1)) ≡ Fitting → CountedTo t s (done + 1) (count + 1)
+  counted-turn d k = record { number = omega arith; few = omega (arith, c .few); rest = rw k at (counted-step d refl) }
+
+  -- .. and none is left after the last
+  pub counted-end : s .jobs ≤ done → counted (s .benches) 0 es ≡ Jobs count
+  counted-end l =
+      let few : length es ≤ done = omega (arith, entries-long t s z) in
+      sym (c .rest) ∙ ap (counted (s .benches) count) (drop-of-length-le es few)
 
 -- at its end
 

@@ -3,7 +3,7 @@ ghost use mathlib.Core.Path.{_≡_};
 ghost use Rattle.table_words.specs.Bytes.{layoutIn};
 ghost use Rattle.table_size.specs.Sizes.{SizeOf};
 ghost use Rattle.table_records.specs.Records.{entryOf};
-ghost use Rattle.table_record_form.specs.Kinds.{kindOf, counted};
+ghost use Rattle.table_record_form.specs.Kinds.{kindOf, counted, CountedTo};
 use table_records::Record;
 use table_size::Size;
 
@@ -43,14 +43,15 @@ pub fn kind_of(s: Size, r: Record) -> Kind
     }
 }
 
-// Counts the standing jobs' records.
-pub fn count_records(t: &[u8], s: Size) -> Seen
+// Counts the standing jobs' records; the first `done` are counted, and `count` of them stand.
+pub fn count_records(t: &[u8], s: Size, done: usize, count: usize) -> Seen
     requires { ⌜ SizeOf (now t) s ⌝ }
+    requires { ⌜ CountedTo (now t) s done count ⌝ }
     ensures { λ r. ⌜ r ≡ counted (s .benches) 0 (layoutIn (now (t .entry)) .entries) ⌝ }
 {
     let jobs = s.jobs();
-    let mut count = 0;
-    let mut done = 0;
+    let mut count = count;
+    let mut done = done;
     while done < jobs {
         match kind_of(s, table_records::read_record(t, s, done + 1)) {
             Kind::Unfit => return Seen::Broken,

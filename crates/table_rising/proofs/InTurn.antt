@@ -28,7 +28,7 @@ use Rattle.table_board.proofs.RecordsAsBoard.{holders-long}
 use Rattle.table_record_form.specs.Kinds.{kindIf, kindOf}
 use Rattle.table_record_form.specs.declared.Kind.the-variants.{Vacant, Fitting, Unfit}
 use Rattle.table_record_form.proofs.KindOfRecord.{vacant-unheld}
-use Rattle.table_rising.specs.Passing.{Met, NotMet, Passed, NoneDue, Encoded}
+use Rattle.table_rising.specs.Passing.{Met, Unmet, Passed, NoneDue, Encoded}
 use Rattle.table_rising.proofs.Meeting.{kind-bench, passed-count}
 
 -- a board's records
@@ -75,7 +75,7 @@ module _ {t : List ℕ} {s : Size} (k : Encoded t s) where
 
   -- .. and its word 2 what the pass counts
   pub encoded-standing : {due loads : List ℕ} {n : ℕ} → Passed t s due loads n → (layoutIn t) .standing ≡ n
-  encoded-standing p = standing-word t is-sound ∙ sym (passed-count p)
+  encoded-standing p = standing-word t is-sound ∙ sym (passed-count (k .holdsBoard .size) p)
 
   -- each head is the first job that its bench holds
   head-first : (x : ℕ) → BenchIn s x → nth ((layoutIn t) .heads) x 0 ≡ firstHeld 1 x ((decode t) .holders)
@@ -159,10 +159,10 @@ module _ {t : List ℕ} {s : Size} {due : List ℕ} {done : ℕ} (k : Encoded t 
       go x b (other n) = getD-set-other due h x (e .next) 0 (λ i. n (sym i)) ∙ due-other x b n
 
   -- .. every job can be met ..
-  pub turn-possible : NotMet s (recordIn t (done + 1)) (done + 1) due → ⊥
+  pub turn-possible : Unmet s (recordIn t (done + 1)) (done + 1) due → ⊥
   turn-possible n = go (rw add-one at n)
     where
-      go : NotMet s e (suc done) due → ⊥
+      go : Unmet s e (suc done) due → ⊥
       go (inl q) = none-unfit k (suc done) (omega arith) d q
       go (inr (q, n)) = n (due-at (holderIn e) (kind-bench t s (suc done) q) ∙ ap (λ (z : Bool). cond z (suc done) (later (holderIn e))) (eqb-refl (holderIn e)))
 

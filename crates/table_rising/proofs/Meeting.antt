@@ -8,7 +8,7 @@ use mathlib.Core.Logic.{inr, _≢_}
 use mathlib.Core.Bool.{Bool}
 use mathlib.Core.List.{List}
 use lib.Dec.{T}
-use lib.ListN.{length, getD, set, drop, replicate, length-set, length-replicate}
+use lib.ListN.{length, getD, set, replicate, length-set, length-replicate}
 use lib.Seq.{getD-set-same, getD-set-other}
 use Rattle.spec_lists.specs.Lists.{In, nth, update}
 use Rattle.spec_lists.proofs.Tests.{Compared, same, other, compared}
@@ -21,18 +21,18 @@ use Rattle.table_words.specs.Bytes.{layoutIn}
 use Rattle.table_size.specs.Sizes.{SizeOf, BenchIn, ByBench}
 use Rattle.table_size.specs.Written.{recordIn, HeadsOf, withHeads, withStanding, cleared}
 use Rattle.table_size.specs.declared.Size.{Size}
-use Rattle.table_size.proofs.Sizes.{entries-long, heads-long, zeros-by-bench}
+use Rattle.table_size.proofs.Sizes.{heads-long, zeros-by-bench}
 use Rattle.table_board.specs.BoardView.{HoldsBoard}
 use Rattle.table_board.proofs.RecordsAsBoard.{holders-long}
 use Rattle.table_records.specs.Records.{entryOf, RecordOf, NameAt}
 use Rattle.table_records.specs.declared.Record.{Record}
-use Rattle.table_record_form.specs.Kinds.{kindOf, byKind, counted}
+use Rattle.table_record_form.specs.Kinds.{kindOf, CountedTo}
 use Rattle.table_record_form.specs.declared.Kind.the-variants.{Vacant, Fitting}
 use Rattle.table_record_form.proofs.KindOfRecord.{vacant-unheld, fitting-tests}
-use Rattle.table_record_form.proofs.Counted.{AllFit, count-step, count-end, counted-seen}
+use Rattle.table_record_form.proofs.Counted.{AllFit, counted-none, counted-pass, counted-turn, counted-end, counted-seen}
 use Rattle.table_chains.specs.Chains.{pushed, pushedFrom}
 use Rattle.table_chains.proofs.Rebuilding.{rebuild-layout, rebuild-bytes}
-use Rattle.table_rising.specs.Passing.{dueHeads, Before, Met, NotMet, Passed, NoneDue, Rising}
+use Rattle.table_rising.specs.Passing.{dueHeads, Before, Met, Unmet, Passed, NoneDue, Rising}
 use Rattle.table_rising.proofs.Undoing.{undo-vacant, undo-standing}
 use Rattle.table_rising.proofs.LoadCounts.{LoadsTo, loads-start, loads-turn, loads-pass, loads-few, loads-end}
 
@@ -91,7 +91,7 @@ module _ (s : Size) {t : List ℕ} {j : ℕ} {r : Record} (f : RecordOf t j r) (
     read-bench = subst (BenchIn s) (sym holder-there) (kind-bench t s j read-fits)
 
     -- .. if another job is due there, this one can't be met ..
-    pub read-not-met : (due : List ℕ) → getD due x 0 ≢ j → NotMet s (recordIn t j) j due
+    pub read-not-met : (due : List ℕ) → getD due x 0 ≢ j → Unmet s (recordIn t j) j due
     read-not-met due d = inr (read-fits, λ u. d (ap (λ (y : ℕ). getD due y 0) holder-there ∙ u))
 
     -- .. and if it is due there, it is met
@@ -109,10 +109,9 @@ module _ (s : Size) {t : List ℕ} {j : ℕ} {r : Record} (f : RecordOf t j r) (
 
 -- the first `done` jobs were met, `count` of which stand: pushed again, from the jobs that are due now, they give the table's own chains
 pub record Meeting (t : List ℕ) (s : Size) (due loads : List ℕ) (count done : ℕ) : Type 0 where
-  pub few : count ≤ done
   pub long : length due ≡ mostBenches + 1
   pub chains : pushedFrom done (withHeads (layoutIn t) (dueHeads s due)) ≡ layoutIn t
-  pub records : counted (s .benches) count (drop done ((layoutIn t) .entries)) ≡ counted (s .benches) 0 ((layoutIn t) .entries)
+  pub records : CountedTo t s done count
   pub loaded : LoadsTo ((decode t) .holders) done loads
   pub beyond : (x : ℕ) → s .benches < x → getD loads x 0 ≡ 0
 
@@ -120,10 +119,9 @@ pub record Meeting (t : List ℕ) (s : Size) (due loads : List ℕ) (count done 
 pub meeting-start : {t : List ℕ} {s : Size} {due loads : List ℕ} → SizeOf t s → HeadsOf t s due → loads ≡ replicate (mostBenches + 1) 0 → Meeting t s due loads 0 0
 meeting-start {t} {s} {due} {loads} z h e =
     record {
-      few = omega arith;
       long = h .byBench .long;
       chains = ap (withHeads (layoutIn t)) (sym (due-heads s due ((layoutIn t) .heads) (heads-long t s z) (λ x b. sym (h .head x b))));
-      records = refl;
+      records = counted-none t s;
       loaded = rw e (loads-start ((decode t) .holders));
       beyond = rw e (zeros-by-bench s .beyond);
     }
@@ -141,10 +139,6 @@ module _ {t : List ℕ} {s : Size} {due loads : List ℕ} {count done : ℕ} (z 
   abbrev e : Entry
   e = recordIn t (done + 1)
 
-  -- what the next record does to the count
-  step : byKind (kindOf (s .benches) e) (counted (s .benches) count (drop (done + 1) ((layoutIn t) .entries))) (counted (s .benches) (count + 1) (drop (done + 1) ((layoutIn t) .entries))) ≡ counted (s .benches) 0 ((layoutIn t) .entries)
-  step = sym (count-step (s .benches) count done ((layoutIn t) .entries) e refl (omega (arith, entries-long t s z))) ∙ m .records
-
   fewer : done < length ((decode t) .holders)
   fewer = omega (arith, holders-long z)
 
@@ -153,10 +147,9 @@ module _ {t : List ℕ} {s : Size} {due loads : List ℕ} {count done : ℕ} (z 
   meeting-pass (k, p, q) =
       rw (p, q)
       (record {
-        few = omega (arith, m .few);
         long = m .long;
         chains = rw add-one (ap (pushedFrom done) (undo-vacant (layoutIn t) (suc done) (dueHeads s due) (rw add-one at (vacant-unheld (s .benches) e k))) ∙ m .chains);
-        records = rw k at step;
+        records = counted-pass z (m .records) d k;
         loaded = loads-pass (m .loaded) fewer (sym (holder-record t (done + 1) ∙ vacant-unheld (s .benches) e k));
         beyond = m .beyond;
       })
@@ -166,10 +159,9 @@ module _ {t : List ℕ} {s : Size} {due loads : List ℕ} {count done : ℕ} (z 
   meeting-turn w =
       rw (w .next, w .load)
       (record {
-        few = omega (arith, m .few);
         long = length-set due h (e .next) ∙ m .long;
         chains = ap (λ (k : ℕ). pushedFrom k met) (add-one done) ∙ ap (pushedFrom done) undone ∙ m .chains;
-        records = rw (w .fits) at step;
+        records = counted-turn z (m .records) d (w .fits);
         loaded = loads-turn (m .loaded) h fewer (sym (holder-record t (done + 1))) (bench .least) (omega (arith, bench .most, z .limits .benches-most));
         beyond = λ x l. getD-set-other loads h x (getD loads h 0 + 1) 0 (λ i. omega (arith, bench .most)) ∙ m .beyond x l;
       })
@@ -207,12 +199,12 @@ pub meeting-end : {t : List ℕ} {s : Size} {due loads : List ℕ} {count done :
 meeting-end {t} {s} {due} {loads} {count} {done} z m l =
     record {
       chains = subst (λ (n : ℕ). pushedFrom n (withHeads (layoutIn t) (dueHeads s due)) ≡ layoutIn t) all (m .chains);
-      records = sym (m .records) ∙ sym (count-end (s .benches) count done ((layoutIn t) .entries) (omega (arith, entries-long t s z)));
+      records = subst (λ (n : ℕ). CountedTo t s n count) all (m .records);
       loaded = loads-end (m .loaded) (omega (arith, holders-long z));
     }
   where
     all : done ≡ s .jobs
-    all = omega (arith, m .loaded .most, holders-long z)
+    all = omega (arith, m .records .number)
 
 -- the end
 
@@ -230,10 +222,10 @@ ended-turn {due} {x} m e =
     }
 
 -- all jobs were met ..
-module _ {t : List ℕ} {s : Size} {due loads : List ℕ} {n : ℕ} (p : Passed t s due loads n) where
+module _ {t : List ℕ} {s : Size} {due loads : List ℕ} {n : ℕ} (z : SizeOf t s) (p : Passed t s due loads n) where
   -- .. so the filled records fit, and are n ..
   seen : AllFit (s .benches) ((layoutIn t) .entries) × (n ≡ 0 + length (standingFrom 1 ((layoutIn t) .entries)))
-  seen = counted-seen (s .benches) 0 1 ((layoutIn t) .entries) n (p .records)
+  seen = counted-seen (s .benches) 0 1 ((layoutIn t) .entries) n (counted-end z (p .records) (omega arith))
 
   -- .. and so are the standing jobs
   pub passed-count : n ≡ standing (decode t)
@@ -242,7 +234,7 @@ module _ {t : List ℕ} {s : Size} {due loads : List ℕ} {n : ℕ} (p : Passed 
 -- all jobs were met and none is due: the layout is that of the board ..
 module _ {t : List ℕ} {s : Size} {due loads : List ℕ} {n : ℕ} (z : SizeOf t s) (p : Passed t s due loads n) (none : NoneDue s due) (standing-word : (layoutIn t) .standing ≡ n) (spare : (layoutIn t) .spare ≡ 0) where
   holds : HoldsBoard t s
-  holds = record { size = z; storable = fit-storable t (z .fit) (subst (λ (b : ℕ). (e : Entry) → In e ((layoutIn t) .entries) → T (filled e) → T (entryFits b e)) (sym (z .benches)) (seen p .0)) }
+  holds = record { size = z; storable = fit-storable t (z .fit) (subst (λ (b : ℕ). (e : Entry) → In e ((layoutIn t) .entries) → T (filled e) → T (entryFits b e)) (sym (z .benches)) (seen z p .0)) }
 
   -- no chain has a job before the first is pushed
   emptied : withHeads (layoutIn t) (dueHeads s due) ≡ cleared (layoutIn t)
@@ -250,7 +242,7 @@ module _ {t : List ℕ} {s : Size} {due loads : List ℕ} {n : ℕ} (z : SizeOf 
 
   laid : layoutIn t ≡ layoutOf (decode t)
   laid =
-      (λ i. record { benches = l .benches; jobs = l .jobs; standing = (standing-word ∙ passed-count p) i; spare = spare i; heads = l .heads; entries = l .entries })
+      (λ i. record { benches = l .benches; jobs = l .jobs; standing = (standing-word ∙ passed-count z p) i; spare = spare i; heads = l .heads; entries = l .entries })
       ∙ ap (λ (m : Layout). withStanding m (standing (decode t))) (sym (p .chains) ∙ ap (pushedFrom (s .jobs)) emptied)
       ∙ rebuild-layout t s holds
     where

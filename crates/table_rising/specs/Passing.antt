@@ -7,16 +7,16 @@ use lib.ListN.{length, getD, set}
 use Rattle.spec_lists.specs.Lists.{range}
 use Rattle.spec_table.specs.Table.{mostBenches, Entry, holderIn, decode, encode}
 use Rattle.table_words.specs.Bytes.{layoutIn}
-use Rattle.table_size.specs.Sizes.{BenchIn, SoundTable}
+use Rattle.table_size.specs.Sizes.{BenchIn, ByBench, SoundTable}
 use Rattle.table_size.specs.Written.{withHeads}
 use Rattle.table_size.specs.declared.Size.{Size}
 use Rattle.table_board.specs.BoardView.{HoldsBoard, Loaded}
 use Rattle.table_chains.specs.Chains.{pushedFrom}
-use Rattle.table_record_form.specs.Kinds.{kindOf, counted}
-use Rattle.table_record_form.specs.declared.Kind.{Kind}
+use Rattle.table_record_form.specs.Kinds.{kindOf, CountedTo}
 use Rattle.table_record_form.specs.declared.Kind.the-variants.{Vacant, Fitting, Unfit}
-use Rattle.table_record_form.specs.declared.Seen.{Seen}
-use Rattle.table_record_form.specs.declared.Seen.the-variants.{Jobs, Broken}
+use Rattle.table_rising.specs.declared.Turn.{Turn}
+use Rattle.table_rising.specs.declared.Reach.{Reach}
+use Rattle.table_rising.specs.declared.Pass.{Pass}
 
 -- the due jobs of benches 1 to B, as heads of chains
 abbrev pub dueHeads : Size → List ℕ → List ℕ
@@ -36,28 +36,28 @@ pub record Met (s : Size) (e : Entry) (j : ℕ) (due loads due₂ loads₂ : Lis
   pub load : loads₂ ≡ set loads (holderIn e) (getD loads (holderIn e) 0 + 1)
 
 -- job j with the record e can't be met: the record does not fit, or another job is due at its holder
-abbrev pub NotMet : Size → Entry → ℕ → List ℕ → Type 0
-NotMet s e j due =
+abbrev pub Unmet : Size → Entry → ℕ → List ℕ → Type 0
+Unmet s e j due =
     (kindOf (s .benches) e ≡ Unfit) ⊎ ((kindOf (s .benches) e ≡ Fitting) × (getD due (holderIn e) 0 ≢ j))
 
 -- what is left of the due jobs and the loads after job j, by what is told of it: they stay where there is no such job;
 -- where it does not fit or is not due, the pass ends, and the loads stay
-abbrev pub MetAs : Size → Entry → ℕ → List ℕ → List ℕ → List ℕ → List ℕ → Kind → Type 0
-MetAs s e j due loads due₂ loads₂ Vacant = (kindOf (s .benches) e ≡ Vacant) × (due₂ ≡ due) × (loads₂ ≡ loads)
-MetAs s e j due loads due₂ loads₂ Fitting = Met s e j due loads due₂ loads₂
-MetAs s e j due loads due₂ loads₂ Unfit = (loads₂ ≡ loads) × NotMet s e j due
+abbrev pub MetAs : Size → Entry → ℕ → List ℕ → List ℕ → List ℕ → List ℕ → Turn → Type 0
+MetAs s e j due loads due₂ loads₂ Turn.Vacant = (kindOf (s .benches) e ≡ Vacant) × (due₂ ≡ due) × (loads₂ ≡ loads)
+MetAs s e j due loads due₂ loads₂ Turn.Met = Met s e j due loads due₂ loads₂
+MetAs s e j due loads due₂ loads₂ Turn.NotMet = (loads₂ ≡ loads) × Unmet s e j due
 
 -- all jobs were met, n of which stand: pushed from the last down, from the jobs that are due now, they give the table's
 -- own chains; all records fit; and at each bench its load was counted
 pub record Passed (t : List ℕ) (s : Size) (due loads : List ℕ) (n : ℕ) : Type 0 where
   pub chains : pushedFrom (s .jobs) (withHeads (layoutIn t) (dueHeads s due)) ≡ layoutIn t
-  pub records : counted (s .benches) 0 ((layoutIn t) .entries) ≡ Jobs n
+  pub records : CountedTo t s (s .jobs) n
   pub loaded : Loaded (decode t) loads
 
--- what the pass has seen: all jobs in turn, or it ended before
-abbrev pub PassedAs : List ℕ → Size → List ℕ → List ℕ → Seen → Type 0
-PassedAs t s due loads (Jobs n) = Passed t s due loads n
-PassedAs t s due loads Broken = Unit {0}
+-- how many jobs were met: all, or so many of them, and their records are counted
+abbrev pub ReachedAs : List ℕ → Size → List ℕ → List ℕ → Reach → Type 0
+ReachedAs t s due loads (Reach.All n) = Passed t s due loads n
+ReachedAs t s due loads (Reach.Part done count) = CountedTo t s done count
 
 -- no job is due: every chain came to its end
 abbrev pub NoneDue : Size → List ℕ → Type 0
@@ -75,7 +75,18 @@ pub record Encoded (t : List ℕ) (s : Size) : Type 0 where
   pub holdsBoard : HoldsBoard t s
   pub bytes : t ≡ encode (decode t)
 
--- what the pass sees of such a table: all jobs, and none is due in the end
-abbrev pub AllInTurn : Size → List ℕ → Seen → Type 0
-AllInTurn s due (Jobs n) = NoneDue s due
-AllInTurn s due Broken = ⊥
+-- what is met of such a table: all jobs, and none is due in the end
+abbrev pub AllInTurn : Size → List ℕ → Reach → Type 0
+AllInTurn s due (Reach.All n) = NoneDue s due
+AllInTurn s due (Reach.Part done count) = ⊥
+
+-- the pass did not get through: the bytes are not the encoding of a board; the first `done` records are counted
+pub record NotRising (t : List ℕ) (s : Size) (loads : List ℕ) (done count : ℕ) : Type 0 where
+  pub other : Encoded t s → ⊥
+  pub counted : CountedTo t s done count
+  pub byBench : ByBench s loads
+
+-- what each end of the pass says
+abbrev pub PassOf : List ℕ → Size → List ℕ → Pass → Type 0
+PassOf t s loads Pass.Rising = Rising t s loads
+PassOf t s loads (Pass.Ended done count) = NotRising t s loads done count

@@ -1,6 +1,6 @@
 // The form check in one pass. The jobs are met in rising order: each must fit and be due, the next that its holder's
 // chain leads to. Loads are counted on the way. Got through, the table is sound, and its bytes are those of its board,
-// every chain rising; else they are not, or its records hold no board.
+// every chain rising; else they are not, and it is told how many records were counted, for a check that goes on there.
 ghost use mathlib.Core.Path.{_≡_};
 ghost use mathlib.Core.Logic.{_↔_};
 ghost use Prim.Native.Nat.{_+_};
@@ -9,11 +9,35 @@ ghost use lib.ListN.{length, replicate};
 ghost use Rattle.spec_table.specs.Table.{mostBenches};
 ghost use Rattle.table_size.specs.Sizes.{SizeOf, JobIn, ByBench, Limits};
 ghost use Rattle.table_size.specs.Written.{recordIn, HeadsOf};
-ghost use Rattle.table_rising.specs.Passing.{Before, MetAs, PassedAs, NoneDue, Rising, Encoded, AllInTurn};
+ghost use Rattle.table_rising.specs.Passing.{Before, MetAs, ReachedAs, NoneDue, Encoded, AllInTurn, PassOf};
 use table_header::heads;
 use table_record_form::Kind;
-use table_record_form::Seen;
 use table_size::Size;
+
+// How the pass ended.
+pub enum Pass {
+    // Got through.
+    Rising,
+    // Not got through; so many records are counted, and so many of them stand.
+    Ended(usize, usize),
+}
+
+// What meeting a job tells.
+enum Turn {
+    // No job has this number.
+    Vacant,
+    Met,
+    // Its record does not fit, or another job is due at its holder.
+    NotMet,
+}
+
+// How many jobs were met.
+enum Reach {
+    // All; so many stand.
+    All(usize),
+    // So many, before one that can't be met, and so many of them stand.
+    Part(usize, usize),
+}
 
 // Meets job j. If it stands, it must fit and be due at its holder; then the next job on that chain is due there, and
 // the holder has one job more.
@@ -23,7 +47,7 @@ fn meet(
     j: usize,
     due: &mut [u16; Size::MOST_BENCHES + 1],
     loads: &mut [u16; Size::MOST_BENCHES + 1],
-) -> Kind
+) -> Turn
     requires { ⌜ SizeOf (now t) s ⌝ }
     requires { ⌜ JobIn s j ⌝ }
     requires { ⌜ length (now due) ≡ mostBenches + 1 ⌝ }
@@ -35,31 +59,31 @@ fn meet(
     let place = r.holder;
     let next = r.next;
     match table_record_form::kind_of(s, r) {
-        Kind::Vacant => Kind::Vacant,
-        Kind::Unfit => Kind::Unfit,
+        Kind::Vacant => Turn::Vacant,
+        Kind::Unfit => Turn::NotMet,
         Kind::Fitting => {
             let x = table_records::name_at(t, s, j, place);
             if due[x] != j as u16 {
-                return Kind::Unfit;
+                return Turn::NotMet;
             }
             due[x] = next as u16;
             loads[x] += 1;
-            Kind::Fitting
+            Turn::Met
         }
     }
 }
 
-// Meets all jobs in rising order, from the first jobs on the chains on; tells how many stand.
+// Meets the jobs in rising order, from the first jobs on the chains on, as long as they can be met.
 fn meet_all(
     t: &[u8],
     s: Size,
     due: &mut [u16; Size::MOST_BENCHES + 1],
     loads: &mut [u16; Size::MOST_BENCHES + 1],
-) -> Seen
+) -> Reach
     requires { ⌜ SizeOf (now t) s ⌝ }
     requires { ⌜ HeadsOf (now t) s (now due) ⌝ }
     requires { ⌜ now loads ≡ replicate (mostBenches + 1) 0 ⌝ }
-    ensures { λ r. ⌜ PassedAs (now (t .entry)) s (now (due .exit)) (now (loads .exit)) r ⌝ }
+    ensures { λ r. ⌜ ReachedAs (now (t .entry)) s (now (due .exit)) (now (loads .exit)) r ⌝ }
     ensures { λ r. ⌜ (Encoded (now (t .entry)) s → AllInTurn s (now (due .exit)) r) ⌝ }
     ensures { λ _. ⌜ ByBench s (now (loads .exit)) ⌝ }
 {
@@ -68,13 +92,13 @@ fn meet_all(
     let mut done = 0;
     while done < jobs {
         match meet(t, s, done + 1, due, loads) {
-            Kind::Unfit => return Seen::Broken,
-            Kind::Fitting => count += 1,
-            Kind::Vacant => {}
+            Turn::NotMet => return Reach::Part(done, count),
+            Turn::Met => count += 1,
+            Turn::Vacant => {}
         }
         done += 1;
     }
-    Seen::Jobs(count)
+    Reach::All(count)
 }
 
 // Tells whether no job is due.
@@ -93,26 +117,25 @@ fn none_due(s: Size, due: &[u16; Size::MOST_BENCHES + 1]) -> bool
     true
 }
 
-// Tells whether the pass gets through; then the loads are the benches'.
-pub fn is_rising(t: &[u8], s: Size, loads: &mut [u16; Size::MOST_BENCHES + 1]) -> bool
+// Makes the pass; where it gets through, the loads are the benches'.
+pub fn pass_over(t: &[u8], s: Size, loads: &mut [u16; Size::MOST_BENCHES + 1]) -> Pass
     requires { ⌜ SizeOf (now t) s ⌝ }
     requires { ⌜ now loads ≡ replicate (mostBenches + 1) 0 ⌝ }
-    ensures { λ r. ⌜ (T r → Rising (now (t .entry)) s (now (loads .exit))) ⌝ }
-    ensures { λ r. ⌜ (Encoded (now (t .entry)) s → T r) ⌝ }
-    ensures { λ _. ⌜ ByBench s (now (loads .exit)) ⌝ }
+    ensures { λ r. ⌜ PassOf (now (t .entry)) s (now (loads .exit)) r ⌝ }
 {
     if table_header::spare_word(t, s) != 0 {
-        return false;
+        return Pass::Ended(0, 0);
     }
     let mut due = [0; Size::MOST_BENCHES + 1];
     heads::copy_heads(t, s, &mut due);
     match meet_all(t, s, &mut due, loads) {
-        Seen::Broken => false,
-        Seen::Jobs(count) => {
-            if table_header::standing_word(t, s) != count {
-                return false;
+        Reach::Part(done, count) => Pass::Ended(done, count),
+        Reach::All(count) => {
+            if table_header::standing_word(t, s) == count && none_due(s, &due) {
+                Pass::Rising
+            } else {
+                Pass::Ended(s.jobs(), count)
             }
-            none_due(s, &due)
         }
     }
 }

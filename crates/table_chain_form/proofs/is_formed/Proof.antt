@@ -46,7 +46,7 @@ walk-all-requires c κs =
     let start = place .before .before .before .before in
     let t = start .args .t .now in
     let e = found place ∙ c .before .before .before .before .count .given .1 in
-    (start .pre .0, (start .pre .1, omega (arith, counted-few (layoutIn t) _ (table-whole t (start .args .s) (start .pre .0)) e, start .pre .0 .jobs)))
+    (start .pre .0, (start .pre .1 .1, omega (arith, counted-few (layoutIn t) _ (table-whole t (start .args .s) (start .pre .0)) e, start .pre .0 .jobs)))
 
 returns-3 : tie.Need-returns-3
 returns-3 c =

@@ -1,10 +1,10 @@
 -- Refusal 1 where the sizes do not fit; else sound where the pass gets through, and where it does not what `is_formed` tells.
-use mathlib.Core.Path.{sym, subst, _∙_}
-use lib.Dec.{T}
+use mathlib.Core.Path.{sym, _∙_}
 use borrow.Author.Needs.{needs}
 use Rattle.spec_lists.proofs.Tests.{true→T}
 use Rattle.table_size.specs.Sizes.{SizeOf}
 use Rattle.table_size.proofs.Sizes.{fit-size}
+use Rattle.table_rising.specs.Passing.{NotRising}
 use Rattle.table_form.proofs.Answer.{misfit-answered, unformed-answered, formed-answered, rising-answered}
 use Rattle.table_form.proofs.check.Statement.{statement}
 use Rattle.table_form.proofs.check.Tie as tie
@@ -23,30 +23,42 @@ sized : (c : tie.After-known-told) → SizeOf (c .before .before .before .before
 sized c =
     fit-size (c .before .before .before .before .before .args .t .now) (c .before .s .given .0 .0) (sym (c .before .before .before .of .ensures .value) ∙ c .before .s .given .1)
 
-is-rising-requires : tie.Need-is-rising-requires
-is-rising-requires c κs = (sized (c .before), c .before .before .before .before .before .before .pre)
+pass-over-requires : tie.Need-pass-over-requires
+pass-over-requires c κs = (sized (c .before), c .before .before .before .before .before .before .pre)
 
-returns : tie.Need-returns
-returns c = rising-answered (c .before .is-rising .ensures .0 (true→T _ (c .if1 .taken)))
+enum-told-2 : tie.Need-enum-told-2
+enum-told-2 c = search needs
+
+enum-known-done : tie.Need-enum-known-done
+enum-known-done c = search needs
+
+-- the pass did not get through
+ended : (c : tie.After-known-told2) → NotRising (c .before .before .before .before .before .before .before .before .before .before .args .t .now) (c .before .before .before .before .before .before .s .given .0 .0) (c .before .before .before .pass-over .last .1 .1 .0) (c .before .done .given .0 .0) (c .before .done .given .0 .1 .0)
+ended c = rw (c .before .done .given .1) at (c .before .before .before .pass-over .ensures)
 
 is-formed-requires : tie.Need-is-formed-requires
-is-formed-requires c κs = (sized (c .before .before .before .before), c .before .before .is-rising .ensures .1 .1)
+is-formed-requires c κs =
+    let n = ended (c .before) in
+    (sized (c .before .before .before .before .before .before), (n .counted, n .byBench))
+
+returns : tie.Need-returns
+returns c = misfit-answered _ _ (sym (c .before .before .of .ensures .value) ∙ c .enum-told .given .1)
 
 returns-2 : tie.Need-returns-2
-returns-2 c = misfit-answered _ _ (sym (c .before .before .of .ensures .value) ∙ c .enum-told .given .1)
+returns-2 c = rising-answered (rw (c .enum-told2 .given .1) at (c .before .before .pass-over .ensures))
 
 returns-3 : tie.Need-returns-3
 returns-3 c =
     let formed = c .before .is-formed .ensures in
-    let left = c .before .before .before in
+    let known = c .before .before .before in
     formed-answered
-    (sized (c .before .before .before .before .before .before))
-    (sym (formed .0) ∙ c .if2 .taken)
-    (formed .1 (true→T _ (c .if2 .taken)))
-    (λ k. subst T (left .if1 .left) (left .before .is-rising .ensures .1 .0 k))
+    (sized (known .before .before .before .before .before))
+    (sym (formed .0) ∙ c .if1 .taken)
+    (formed .1 (true→T _ (c .if1 .taken)))
+    (ended known .other)
 
 returns-4 : tie.Need-returns-4
-returns-4 c = unformed-answered (sized (c .before .before .before .before .before .before)) _ (sym (c .before .is-formed .ensures .0) ∙ c .if2 .left)
+returns-4 c = unformed-answered (sized (c .before .before .before .before .before .before .before .before)) _ (sym (c .before .is-formed .ensures .0) ∙ c .if1 .left)
 
 pub check-spec : {M : Type 1} → statement M
 check-spec =
@@ -55,9 +67,11 @@ check-spec =
     of-requires
     enum-told
     enum-known-s
-    is-rising-requires
-    returns
+    pass-over-requires
+    enum-told-2
+    enum-known-done
     is-formed-requires
+    returns
     returns-2
     returns-3
     returns-4)

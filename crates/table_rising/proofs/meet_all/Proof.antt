@@ -40,7 +40,7 @@ returns : tie.Need-returns Inv-loop μ-loop
 returns c =
     let inv = c .before .before .before .before .before .before .loop .inv in
     let not-met = rw (c .enum-told .given .1) at (c .before .before .meet .ensures) in
-    (tt, (λ k. turn-possible k (inv .1 k) (omega arith) (not-met .1), meeting-by-bench (inv .0) (not-met .0)))
+    (inv .0 .records, (λ k. turn-possible k (inv .1 k) (omega arith) (not-met .1), meeting-by-bench (inv .0) (not-met .0)))
 
 enum-told-2 : tie.Need-enum-told-2 Inv-loop μ-loop
 enum-told-2 c = search needs
