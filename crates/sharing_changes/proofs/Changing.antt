@@ -7,13 +7,15 @@ use mathlib.Core.Logic.{_⊎_, inl, inr}
 use mathlib.Core.Bool.{Bool, true, false, not, cond}
 use mathlib.Core.List.{List, [], _∷_}
 use mathlib.Core.Option.{Option, none, some}
+use borrow.Author.Tests.{lt-ltb, le-ltb}
 use lib.Dec.{T, eqb, ltb}
 use lib.ListN.{length, set, length-map, length-set}
-use Rattle.spec_lists.specs.Lists.{bit, count, filter, In, update}
+use Rattle.spec_lists.specs.Lists.{bit, count, filter, within, In, update}
 use Rattle.spec_table.specs.Board.{Board, Valid, namesOf, holderOf, stands, put, load, namesFit}
 use Rattle.spec_sharing.specs.Paths.{Step, BenchPath, jobs, IsPath}
 use Rattle.spec_sharing.specs.Sharing.{Change, lightestNamed, arrivalChoice, closingChoice, afterArrival, afterClosing, arrive, close}
-use Rattle.spec_table.specs.Table.{decode, encode}
+use Rattle.spec_table.specs.Table.{mostBenches, decode, encode}
+use Rattle.spec_lists.proofs.Tests.{within-low, within-high, within-both}
 use Rattle.spec_lists.proofs.Elements.{nth-update-same, is-empty}
 use Rattle.spec_lists.proofs.NumberLists.{Member, is-in, not-in, membered, in-member}
 use Rattle.spec_table.proofs.Named.{fit-bench}
@@ -49,6 +51,22 @@ written-load {t} {s} {j} k b a i =
 
 -- an arrival
 
+module _ (loads : List ℕ) (x y : ℕ) (u : T (within 1 mostBenches x)) (v : T (within 1 mostBenches y)) where
+  -- the rule, by the loads as they stand
+  by-loads : (b : Board) → Loaded b loads → lightestNamed (b .holders) (x ∷ y ∷ []) ≡ cond (ltb (at loads y) (at loads x)) y x
+  by-loads b l = rw (tells x u, tells y v) refl
+    where
+      tells : (a : ℕ) → T (within 1 mostBenches a) → at loads a ≡ load (b .holders) a
+      tells a w = l .bench a (within-low 1 mostBenches a w) (within-high 1 mostBenches a w)
+
+  -- the second-named gets the job if it is lighter ..
+  pub second-lightest : at loads y < at loads x → (b : Board) → Loaded b loads → y ≡ lightestNamed (b .holders) (x ∷ y ∷ [])
+  second-lightest h b l = rw (by-loads b l, lt-ltb (at loads y) (at loads x) h) refl
+
+  -- .. else the first-named
+  pub first-lightest : at loads x ≤ at loads y → (b : Board) → Loaded b loads → x ≡ lightestNamed (b .holders) (x ∷ y ∷ [])
+  first-lightest h b l = rw (by-loads b l, le-ltb (at loads y) (at loads x) h) refl
+
 -- the bench that gets the job is one of the two
 getting-in : (holders : List ℕ) (x y : ℕ) {g : ℕ} → g ≡ lightestNamed holders (x ∷ y ∷ []) → In g (x ∷ y ∷ [])
 getting-in holders x y e = rw e (lightestNamed-in holders (x ∷ y ∷ []) tt)
@@ -59,12 +77,18 @@ module _ {t : List ℕ} {s : Size} {j x y : ℕ} (z : SoundTable t s) (m : MayAr
   arriving-job = board-job j (z .size) (m .number)
 
   -- .. it names benches of 1 to B ..
-  pub arriving-bench : {a : ℕ} → In a (x ∷ y ∷ []) → BenchIn s a
+  arriving-bench : {a : ℕ} → In a (x ∷ y ∷ []) → BenchIn s a
   arriving-bench {a} i = board-bench a (z .size) (fit-bench ((decode t) .benches) (x ∷ y ∷ []) a (namable-fit (decode t) (x ∷ y ∷ []) (m .fit)) i)
 
   -- .. so the one that gets it is one, too ..
   pub getting-bench : {g : ℕ} → g ≡ lightestNamed ((decode t) .holders) (x ∷ y ∷ []) → BenchIn s g
   getting-bench e = arriving-bench (getting-in ((decode t) .holders) x y e)
+
+  -- .. there is a load for each named ..
+  pub named-within : {a : ℕ} → In a (x ∷ y ∷ []) → T (within 1 mostBenches a)
+  named-within {a} i =
+      let b = arriving-bench i in
+      within-both 1 mostBenches a (b .least) (omega (arith, b .most, z .size .limits .benches-most))
 
   -- .. a record can hold the job ..
   pub arriving-fills : {g : ℕ} → g ≡ lightestNamed ((decode t) .holders) (x ∷ y ∷ []) → Fillable s j (x ∷ y ∷ []) g
@@ -77,12 +101,6 @@ module _ {t : List ℕ} {s : Size} {j x y : ℕ} (z : SoundTable t s) (m : MayAr
       }
 
   module _ {loads : List ℕ} (l : Loaded (decode t) loads) where
-    -- .. the lightest named is the one that the loads tell ..
-    pub lighter-named : {g : ℕ} → g ≡ cond (ltb (at loads y) (at loads x)) y x → g ≡ lightestNamed ((decode t) .holders) (x ∷ y ∷ [])
-    lighter-named e =
-        let k = sound-holds-board t s z in
-        rw (load-at k l (arriving-bench (inl refl)), load-at k l (arriving-bench (inr (inl refl)))) at e
-
     -- .. and with the job the loads are one more at the bench that gets it
     pub arriving-loads : {u : List ℕ} {g : ℕ} → BenchIn s g → Holds u s (put (decode t) j (x ∷ y ∷ []) g) → Loaded (decode u) (set loads g (at loads g + 1))
     arriving-loads {u} {g} b a =

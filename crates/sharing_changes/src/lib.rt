@@ -1,16 +1,14 @@
 // Arrival and closing of a job that may arrive or close.
 ghost use mathlib.Core.Path.{_≡_};
-ghost use mathlib.Core.Bool.{cond};
 ghost use mathlib.Core.List.{[], _∷_};
-ghost use Prim.Native.Nat.{_≤_};
-ghost use lib.Dec.{T, ltb};
-ghost use Rattle.spec_table.specs.Board.{stands};
-ghost use Rattle.spec_sharing.specs.Sharing.{arrivalChoice, closingChoice};
+ghost use lib.Dec.{T};
+ghost use Rattle.spec_lists.specs.Lists.{within};
+ghost use Rattle.spec_table.specs.Board.{Board, stands};
+ghost use Rattle.spec_sharing.specs.Sharing.{lightestNamed, arrivalChoice, closingChoice};
 ghost use Rattle.spec_table.specs.Table.{mostBenches, decode};
 ghost use Rattle.spec_calls.specs.Calls.{MayArrive};
 ghost use Rattle.table_size.specs.Sizes.{BenchIn, SoundTable};
 ghost use Rattle.table_board.specs.BoardView.{HoldsBoard, Loaded};
-ghost use Rattle.graph_lists.specs.Arrays.{at};
 ghost use Rattle.sharing_paths.specs.Flips.{lastOf, startOf, Flipped};
 ghost use Rattle.sharing_changes.specs.ChangeResults.{ArrivalOf, ClosingOf};
 use graph_lists::scratch;
@@ -28,9 +26,10 @@ pub struct Arrival {
 
 // Picks the lighter of two benches, the first-named if they are equal.
 fn lighter(loads: &[u16; Size::MOST_BENCHES + 1], first: usize, second: usize) -> usize
-    requires { ⌜ first ≤ mostBenches ⌝ }
-    requires { ⌜ second ≤ mostBenches ⌝ }
-    ensures { λ r. ⌜ r ≡ cond (ltb (at (now (loads .entry)) second) (at (now (loads .entry)) first)) second first ⌝ }
+    requires { ⌜ T (within 1 mostBenches first) ⌝ }
+    requires { ⌜ T (within 1 mostBenches second) ⌝ }
+    ensures { λ r. ⌜ ((b : Board) → Loaded b (now (loads .entry)) →
+        r ≡ lightestNamed (b .holders) (first ∷ second ∷ [])) ⌝ }
 {
     if loads[second] < loads[first] {
         second

@@ -11,21 +11,18 @@ use Rattle.spec_table.specs.Table.{mostBenches, decode}
 use Rattle.table_size.specs.Sizes.{BenchIn}
 use Rattle.table_board.proofs.RecordsAsBoard.{sound-holds-board}
 use Rattle.sharing_arcs.proofs.AsArcs.{loads-in}
-use Rattle.sharing_changes.proofs.Changing.{arriving-job, arriving-bench, getting-bench, arriving-fills, lighter-named, arriving-loads, Handed, arrival-handed, arrival-rebuilt}
+use Rattle.sharing_changes.proofs.Changing.{arriving-job, named-within, getting-bench, arriving-fills, arriving-loads, Handed, arrival-handed, arrival-rebuilt}
 use Rattle.sharing_changes.proofs.arrive.Statement.{statement}
 use Rattle.sharing_changes.proofs.arrive.Tie as tie
 
 lighter-requires : tie.Need-lighter-requires
 lighter-requires c κs =
     let pre = c .before .before .pre in
-    let most = pre .0 .size .limits .benches-most in
-    (omega (arith, arriving-bench (pre .0) (pre .1 .0) (inl refl) .most), omega (arith, arriving-bench (pre .0) (pre .1 .0) (inr (inl refl)) .most))
+    (named-within (pre .0) (pre .1 .0) (inl refl), named-within (pre .0) (pre .1 .0) (inr (inl refl)))
 
 -- the bench that gets the job is the rule's ..
 lightest : (c : tie.After-lighter) → let args = c .before .before .before .args in c .lighter .result ≡ lightestNamed ((decode (args .t .now)) .holders) (args .first ∷ args .second ∷ [])
-lightest c =
-    let pre = c .before .before .before .pre in
-    lighter-named (pre .0) (pre .1 .0) (pre .1 .1) (c .lighter .ensures)
+lightest c = let start = c .before .before .before in c .lighter .ensures (decode (start .args .t .now)) (start .pre .1 .1)
 
 -- .. one of 1 to B ..
 bench : (c : tie.After-lighter) → BenchIn (c .before .before .before .args .s) (c .lighter .result)
