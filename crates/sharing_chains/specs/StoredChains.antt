@@ -5,9 +5,8 @@ use mathlib.Core.List.{List}
 use lib.Dec.{T}
 use Rattle.spec_table.specs.Board.{stands}
 use Rattle.spec_table.specs.Table.{decode}
-use Rattle.table_size.specs.Written.{HeadsOf}
 use Rattle.table_size.specs.declared.Size.{Size}
-use Rattle.table_chains.specs.Chains.{storedNext}
+use Rattle.table_chains.specs.Chains.{storedNext, StoredHeads}
 use Rattle.graph_lists.specs.Arrays.{at}
 use Rattle.sharing_arcs.specs.Arcs.{otherOf}
 
@@ -18,5 +17,5 @@ pub record StoredJobs (t next to : List ℕ) : Type 0 where
 
 -- the arrays have the table's chains
 pub record StoredChains (t : List ℕ) (s : Size) (head next to : List ℕ) : Type 0 where
-  pub heads : HeadsOf t s head
+  pub heads : StoredHeads t s head
   pub jobs : StoredJobs t next to

@@ -66,7 +66,7 @@ module _ {t : List ℕ} {s : Size} {head next to : List ℕ} (sound : SoundTable
   chains-walkable = record {
     bench = λ x w. elim (decLe x (s .benches)) [
       | yes l ↦ bench x (record { least = within-low 1 mostBenches x w; most = l })
-      | no d ↦ beyond (stored .heads .byBench .beyond x (omega arith))
+      | no d ↦ beyond (stored .heads .beyond x (omega arith))
     ];
   }
     where

@@ -12,8 +12,8 @@ use Rattle.table_size.specs.declared.Size.{Size}
 use Rattle.table_board.specs.BoardView.{HoldsBoard}
 use mathlib.Core.Logic.{_↔_}
 use lib.Dec.{T}
-use lib.ListN.{length}
-use Rattle.table_size.specs.Sizes.{SoundTable}
+use lib.ListN.{length, getD}
+use Rattle.table_size.specs.Sizes.{BenchIn, SoundTable}
 
 -- the jobs on a chain from job j on
 unfoldable pub chainFrom : List ℕ → ℕ → List ℕ
@@ -34,6 +34,11 @@ pub record ChainOf (t : List ℕ) (s : Size) (x j : ℕ) : Type 0 where
   pub held : (i : ℕ) → In i (chainFrom t j) ↔ (T (stands (decode t) i) × (holderOf (decode t) i ≡ x))
   pub once : T (distinct (chainFrom t j))
   pub few : length (chainFrom t j) ≤ s .jobs
+
+-- at each bench the first job on its chain, and 0 beyond the last bench
+pub record StoredHeads (t : List ℕ) (s : Size) (heads : List ℕ) : Type 0 where
+  pub head : (x : ℕ) → BenchIn s x → getD heads x 0 ≡ storedHead t x
+  pub beyond : (x : ℕ) → s .benches < x → getD heads x 0 ≡ 0
 
 -- after job j on its chain comes the chain from job n on
 pub record NextOf (t : List ℕ) (j n : ℕ) : Type 0 where

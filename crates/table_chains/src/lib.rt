@@ -6,9 +6,8 @@ ghost use lib.ListN.{replicate};
 ghost use Rattle.spec_table.specs.Board.{stands, standing};
 ghost use Rattle.spec_table.specs.Table.{mostBenches, decode};
 ghost use Rattle.table_size.specs.Sizes.{JobIn, BenchIn, SoundTable};
-ghost use Rattle.table_size.specs.Written.{HeadsOf};
 ghost use Rattle.table_board.specs.BoardView.{HoldsBoard};
-ghost use Rattle.table_chains.specs.Chains.{ChainOf, NextOf, ChainsRebuilt, Pushed, Linked};
+ghost use Rattle.table_chains.specs.Chains.{ChainOf, StoredHeads, NextOf, ChainsRebuilt, Pushed, Linked};
 use table_board::jobs;
 use table_header::heads;
 use table_size::Size;
@@ -34,7 +33,7 @@ pub fn head(t: &[u8], s: Size, x: usize) -> usize
 pub fn copy_heads(t: &[u8], s: Size, head: &mut [u16; Size::MOST_BENCHES + 1])
     requires { ⌜ SoundTable (now t) s ⌝ }
     requires { ⌜ now head ≡ replicate (mostBenches + 1) 0 ⌝ }
-    ensures { λ _. ⌜ HeadsOf (now (t .entry)) s (now (head .exit)) ⌝ }
+    ensures { λ _. ⌜ StoredHeads (now (t .entry)) s (now (head .exit)) ⌝ }
 {
     heads::copy_heads(t, s, head);
 }
