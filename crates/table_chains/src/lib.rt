@@ -29,7 +29,7 @@ pub fn head(t: &[u8], s: Size, x: usize) -> usize
     heads::head(t, s, x)
 }
 
-// Writes, at x, the first job on bench x's chain; what stands beyond the last bench stays.
+// Writes, at x, the first job on bench x's chain; 0 stands beyond the last bench.
 pub fn copy_heads(t: &[u8], s: Size, head: &mut [u16; Size::MOST_BENCHES + 1])
     requires { ⌜ SoundTable (now t) s ⌝ }
     requires { ⌜ now head ≡ replicate (mostBenches + 1) 0 ⌝ }

@@ -17,7 +17,7 @@ pub fn head(t: &[u8], s: Size, x: usize) -> usize
     table_words::read(t, 3 + x)
 }
 
-// Writes, at x, the first job on bench x's chain; what stands beyond the last bench stays.
+// Writes, at x, the first job on bench x's chain; 0 stands beyond the last bench.
 pub fn copy_heads(t: &[u8], s: Size, heads: &mut [u16; Size::MOST_BENCHES + 1])
     requires { ⌜ SizeOf (now t) s ⌝ }
     requires { ⌜ now heads ≡ replicate (mostBenches + 1) 0 ⌝ }
