@@ -1,14 +1,15 @@
 //! What was to be reached, and whether it was.
 use crate::each::is_of;
 use crate::figures::{head, Row, Spread};
-use crate::trials::{NO_ORDER, SIZES};
+use crate::trials::{NEARLY, NO_ORDER, SIZES};
 
 /// Boards that a target is for: how they are called, and which they are.
 struct Boards(&'static str, fn(&str) -> bool);
 
 const EVERY: Boards = Boards("every", |_| true);
-const RISING: Boards = Boards("chains rise", |board| board != NO_ORDER);
+const RISING: Boards = Boards("chains rise", |board| board != NO_ORDER && board != NEARLY);
 const DISORDERED: Boards = Boards(NO_ORDER, |board| board == NO_ORDER);
+const ONE_DISORDERED: Boards = Boards(NEARLY, |board| board == NEARLY);
 
 /// The sizes that a target is for: those of SIZES from here on.
 type From = usize;
@@ -27,13 +28,14 @@ const NAMES: [&str; 4] = ["", "of the plain one's time", "of the independent one
 /// The calls whose name begins so, on which boards, at which sizes, against what, the most their ratio may be on any of these boards.
 struct Target(&'static str, Boards, From, Against, f64);
 
-const TARGETS: [Target; 26] = [
+const TARGETS: [Target; 27] = [
     Target("form check", RISING, ALL, INDEPENDENT, 1.0),
     Target("load", RISING, ALL, INDEPENDENT, 1.0),
     Target("heaviest", RISING, ALL, INDEPENDENT, 1.0),
     Target("form check", DISORDERED, ALL, INDEPENDENT, 1.1),
     Target("load", DISORDERED, ALL, INDEPENDENT, 1.1),
     Target("heaviest", DISORDERED, ALL, INDEPENDENT, 1.1),
+    Target("form check", ONE_DISORDERED, ALL, INDEPENDENT, 1.1),
     Target("blanking", EVERY, LARGEST, INDEPENDENT, 1.0),
     Target("level check", EVERY, LARGEST, INDEPENDENT, 1.0),
     Target("tight set", EVERY, LARGEST, INDEPENDENT, 1.0),

@@ -6,8 +6,9 @@ use crate::{independent, INDEPENDENT};
 /// The sizes that are timed, B and J.
 pub const SIZES: [(usize, usize); 3] = [(10, 60), (100, 1000), (500, 4000)];
 
-/// The one board whose chains do not rise.
+/// The boards whose chains do not all rise: a check in one pass gives up at once on the first, and near its end on the second.
 pub const NO_ORDER: &str = "chains in no order";
+pub const NEARLY: &str = "one chain out of order";
 
 /// The benches that a job names, by its number and B.
 pub type Names = fn(usize, usize, &mut Random) -> [usize; 2];
@@ -63,6 +64,18 @@ fn disordered(t: &[u8], random: &mut Random) -> Vec<u8> {
     boards::table(benches, jobs, &standing)
 }
 
+/// Makes the same board, all chains rising but one, whose last two jobs are exchanged. Of the benches with two jobs or more it is the one
+/// whose last job but one is highest.
+fn nearly_rising(t: &[u8]) -> Vec<u8> {
+    let (benches, jobs) = boards::sizes(t);
+    let mut standing = standing(t);
+    let holders: Vec<_> = standing.iter().map(|(_, names, holder)| names[holder - 1]).collect();
+    let last_two = |i: usize| Some((holders[..i].iter().position(|x| *x == holders[i])?, i));
+    let (last, before) = (1..standing.len()).find_map(last_two).unwrap();
+    standing.swap(last, before);
+    boards::table(benches, jobs, &standing)
+}
+
 /// Makes arrivals under free numbers, of jobs like the board's own.
 pub fn arrivals(count: usize, t: &[u8], names: Names, random: &mut Random) -> Vec<Call> {
     let (benches, jobs) = boards::sizes(t);
@@ -93,9 +106,13 @@ fn tightest(t: &[u8]) -> Call {
     Call::TightSet(heaviest, 1000)
 }
 
+/// Asks for the load of the last bench.
+fn last_load(t: &[u8]) -> Call {
+    Call::Load(boards::sizes(t).0 as u32)
+}
+
 fn questions(t: &[u8]) -> Vec<Vec<Call>> {
-    let last = Call::Load(boards::sizes(t).0 as u32);
-    let questions = [Call::FormCheck, Call::LevelCheck, last, Call::Heaviest, tightest(t), Call::TightSet(1, 1000)];
+    let questions = [Call::FormCheck, Call::LevelCheck, last_load(t), Call::Heaviest, tightest(t), Call::TightSet(1, 1000)];
     questions.map(|question| vec![question]).into()
 }
 
@@ -117,16 +134,25 @@ fn nearly_full((kind, names): (&str, Names), benches: usize, jobs: usize, random
     [(format!("{kind}, level"), level, all), (format!("{kind}, not level"), unlevel, some)]
 }
 
-/// Makes a board whose chains are in no order, for all calls, and boards for a few: a path through all benches, one bench with all jobs.
-fn special(benches: usize, jobs: usize, random: &mut Random) -> [Trial; 4] {
+/// Makes boards whose chains do not all rise, of the same jobs: in no order, for all calls, and all but one rising, for those that the
+/// form check takes most of.
+fn out_of_order(benches: usize, jobs: usize, random: &mut Random) -> [Trial; 2] {
+    let level = level(PAIRS, benches, jobs, random);
+    let disordered = disordered(&level, random);
+    let all = [questions(&disordered), changes(&disordered, PAIRS, random)].concat();
+    let nearly = nearly_rising(&level);
+    let [check, load, heaviest] = [Call::FormCheck, last_load(&nearly), Call::Heaviest].map(|question| vec![question]);
+    let some = vec![check, load, heaviest, arrivals(16, &nearly, PAIRS, random), closings(16, &nearly, random)];
+    [(NO_ORDER.into(), disordered, all), (NEARLY.into(), nearly, some)]
+}
+
+/// Makes boards for a few calls: a path through all benches, one bench with all jobs.
+fn special(benches: usize, jobs: usize) -> [Trial; 3] {
     let path = boards::long_path(benches, jobs);
     let along = vec![vec![Call::LevelCheck], vec![tightest(&path)], vec![arrival_moving(benches - 1, benches, jobs)]];
     let back = boards::long_path_back(benches, jobs);
     let heap = boards::heap(benches, jobs, jobs);
-    let disordered = disordered(&level(PAIRS, benches, jobs, random), random);
-    let all = [questions(&disordered), changes(&disordered, PAIRS, random)].concat();
     [
-        (NO_ORDER.into(), disordered, all),
         ("long path".into(), path, along),
         ("long path back".into(), back, vec![vec![closing_moving(benches - 1)]]),
         ("all jobs on bench 1".into(), heap, vec![vec![Call::Levelling(u32::MAX)]]),
@@ -141,7 +167,8 @@ fn trials(benches: usize, jobs: usize) -> Vec<Trial> {
     for kind in KINDS {
         trials.extend(nearly_full(kind, benches, jobs, random));
     }
-    trials.extend(special(benches, jobs, random));
+    trials.extend(out_of_order(benches, jobs, random));
+    trials.extend(special(benches, jobs));
     trials
 }
 
