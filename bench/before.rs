@@ -22,9 +22,9 @@ const INDEPENDENT: Perform = |c, t, list| answer!(independent, c, t, list);
 const TABLE: &str = "before and now";
 
 /// Times calls of one kind, before and now.
-fn measure_row(board: &str, t: &[u8], calls: &[Call]) {
-    let both = times([Task(OLDER, t, calls), Task(PROVED, t, calls)]);
-    print_line(TABLE, &trials::cells(calls[0], board, t), &both);
+fn measure_row(board: &str, t: &[u8], calls: &[Call], number: u32) {
+    let both = times([OLDER, PROVED].map(|perform| Task(perform, t, calls, number)));
+    print_line(TABLE, &trials::cells(calls[0], number, board, t), &both);
 }
 
 /// Prints the figures of this process, which has a number, as lines.

@@ -18,7 +18,8 @@ impl Random {
     }
 }
 
-fn put(t: &mut [u8], i: usize, w: usize) {
+/// Writes word i of a table.
+pub fn put(t: &mut [u8], i: usize, w: usize) {
     t[2 * i..2 * i + 2].copy_from_slice(&(w as u16).to_le_bytes());
 }
 

@@ -46,6 +46,9 @@ pub fn moved(call: Call, values: [u32; 3]) -> Option<u32> {
 /// The values of a call, zeros after them, or its refusal.
 pub type Answer = Result<[u32; 3], u32>;
 
+/// The number of an accepted call's answer; a refused one's is that of its refusal.
+pub const ACCEPTED: u32 = 0;
+
 /// Puts zeros after the values of a call.
 pub fn padded<const N: usize>(values: [u32; N]) -> [u32; 3] {
     let mut three = [0; 3];
@@ -55,7 +58,7 @@ pub fn padded<const N: usize>(values: [u32; N]) -> [u32; 3] {
 
 /// Gives the answer of a call that has no values.
 pub fn bare(number: u32) -> Answer {
-    if number == 0 {
+    if number == ACCEPTED {
         Ok([0; 3])
     } else {
         Err(number)

@@ -33,7 +33,7 @@ fn compare() -> [usize; 9] {
                 boards::damage(&mut tried, &mut random);
             }
             let (after, answer) = calls::same([PROVED, PLAIN, INDEPENDENT], call, &tried, &mut random);
-            answers[answer.err().unwrap_or(0) as usize] += 1;
+            answers[answer.err().unwrap_or(calls::ACCEPTED) as usize] += 1;
             if !damaged {
                 t = after;
             }

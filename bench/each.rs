@@ -8,9 +8,9 @@ use crate::{INDEPENDENT, PLAIN, PROVED};
 
 const TABLE: &str = "each call";
 
-/// Gives the mean number of jobs moved, or of paths turned, of calls of one kind. None for calls that move none.
+/// Gives the mean number of jobs moved, or of paths turned, of calls of one kind. None for calls that move none, and for refused ones.
 fn mean_moved(t: &[u8], calls: &[Call]) -> Option<f64> {
-    let each = calls.iter().map(|&call| moved(call, PROVED(call, &mut t.to_vec(), &mut [0; 1000]).unwrap()));
+    let each = calls.iter().map(|&call| moved(call, PROVED(call, &mut t.to_vec(), &mut [0; 1000]).ok()?));
     Some(each.sum::<Option<u32>>()? as f64 / calls.len() as f64)
 }
 
@@ -25,11 +25,12 @@ fn checks(calls: &[Call], moved: Option<f64>) -> f64 {
 }
 
 /// Times calls of one kind with each implementation, and the proved form check beside them.
-fn measure_row(board: &str, t: &[u8], calls: &[Call]) {
-    let all = [Task(PROVED, t, calls), Task(PLAIN, t, calls), Task(INDEPENDENT, t, calls), Task(PROVED, t, &[Call::FormCheck])];
+fn measure_row(board: &str, t: &[u8], calls: &[Call], number: u32) {
+    let task = |perform, calls| Task(perform, t, calls, number);
+    let all = [task(PROVED, calls), task(PLAIN, calls), task(INDEPENDENT, calls), task(PROVED, &[Call::FormCheck])];
     let [proved, plain, independent, check] = times(all);
     let moved = mean_moved(t, calls);
-    let mut cells = trials::cells(calls[0], board, t);
+    let mut cells = trials::cells(calls[0], number, board, t);
     cells.push(moved.map_or("".into(), |mean| ((10.0 * mean).round() / 10.0).to_string()));
     print_line(TABLE, &cells, &[proved, plain, independent, check * checks(calls, moved)]);
 }

@@ -1,6 +1,6 @@
 //! How the cost of proved calls grows with J and with the length of the path. What a column compares is timed in turn.
 use crate::boards::{self, Random};
-use crate::calls::{moved, Call};
+use crate::calls::{moved, Call, ACCEPTED};
 use crate::figures::{head, micros, print_line, rows, two_places, Spread};
 use crate::timing::{times, Task};
 use crate::trials::{self, PAIRS};
@@ -20,7 +20,7 @@ fn measure_with_jobs(benches: usize, random: &mut Random) {
     let arrivals = tables.each_ref().map(|t| trials::arrivals(64, t, PAIRS, random));
     let closings = tables.each_ref().map(|t| trials::closings(64, t, random));
     let checks = from_fn(|_| vec![Call::FormCheck]);
-    let columns = [arrivals, closings, checks].map(|calls| times(from_fn::<_, 4, _>(|i| Task(PROVED, &tables[i], &calls[i]))));
+    let columns = [arrivals, closings, checks].map(|calls| times(from_fn::<_, 4, _>(|i| Task(PROVED, &tables[i], &calls[i], ACCEPTED))));
     for (i, jobs) in JOBS.into_iter().enumerate() {
         print_line(WITH_JOBS, &[benches, jobs].map(|n| n.to_string()), &columns.map(|column| column[i]));
     }
@@ -44,7 +44,7 @@ fn moving(t: &[u8], calls: [Call; 6]) -> [f64; 6] {
         let values = PROVED(call, &mut t.to_vec(), &mut []).unwrap();
         assert_eq!(moved(call, values), Some(count as u32), "{call:?}");
     }
-    times(calls.each_ref().map(|call| Task(PROVED, t, from_ref(call))))
+    times(calls.each_ref().map(|call| Task(PROVED, t, from_ref(call), ACCEPTED)))
 }
 
 /// Measures arrivals and closings that move more and more jobs.

@@ -1,6 +1,6 @@
 //! One change on a level board, beside levelling the changed board's jobs from scratch.
 use crate::boards::{self, Random};
-use crate::calls::Call;
+use crate::calls::{Call, ACCEPTED};
 use crate::figures::{head, micros, print_line, rows};
 use crate::timing::{times, Task};
 use crate::trials::{self, KINDS, SIZES};
@@ -35,8 +35,8 @@ fn measured(t: &[u8], change: Call) -> [f64; 4] {
     let (levelled, paths) = after(LEVEL, &scratch);
     // Both are level: the same loads, though not of the same benches.
     assert_eq!(sorted_loads(&changed), sorted_loads(&levelled), "{change:?} on {t:?} and levelling from scratch differ");
-    let [once, proved, independent] =
-        times([Task(PROVED, t, &[change]), Task(PROVED, &scratch, &[LEVEL]), Task(INDEPENDENT, &scratch, &[LEVEL])]);
+    let levelling = |perform| Task(perform, &scratch, &[LEVEL], ACCEPTED);
+    let [once, proved, independent] = times([Task(PROVED, t, &[change], ACCEPTED), levelling(PROVED), levelling(INDEPENDENT)]);
     [once, proved, independent, paths as f64]
 }
 
@@ -49,7 +49,7 @@ fn measure_row(board: &str, t: &[u8], changes: &[Call]) {
         }
     }
     let [times @ .., paths] = means;
-    let mut cells = trials::cells(changes[0], board, t);
+    let mut cells = trials::cells(changes[0], ACCEPTED, board, t);
     cells.push(format!("{paths:.0}"));
     print_line(TABLE, &cells, &times);
 }

@@ -1,5 +1,5 @@
 //! Least times of calls, taken in turn.
-use crate::calls::{Call, Perform};
+use crate::calls::{Call, Perform, ACCEPTED};
 use std::hint::black_box;
 use std::time::{Duration, Instant};
 
@@ -8,8 +8,9 @@ const BATCH: Duration = Duration::from_micros(500);
 const ROUNDS: usize = 100;
 const WHOLE: Duration = Duration::from_millis(1000);
 
-/// An implementation, a table, and calls, all of the same kind and accepted, each made on the table as it is here.
-pub struct Task<'a>(pub Perform, pub &'a [u8], pub &'a [Call]);
+/// An implementation, a table, and calls, all of the same kind, each made on the table as it is here; last the number that each of them
+/// is answered with: ACCEPTED or a refusal.
+pub struct Task<'a>(pub Perform, pub &'a [u8], pub &'a [Call], pub u32);
 
 /// A table, and what performs a task's calls as many times as it is told, on bytes that hold the table, and a list.
 struct Run<'a>(&'a [u8], Box<dyn Fn(usize, &mut [u8], &mut [u8]) + 'a>);
@@ -66,7 +67,7 @@ impl<'a> Task<'a> {
 
     /// Makes whole rounds of the calls, so that every implementation performs each of them equally often.
     fn run(&self) -> Run<'a> {
-        let (&Task(perform, table, calls), changes) = (self, self.changes());
+        let (&Task(perform, table, calls, _), changes) = (self, self.changes());
         let performed = move |n, t: &mut [u8], list: &mut [u8]| {
             for _ in 0..n {
                 for &call in calls {
@@ -101,9 +102,10 @@ pub fn shift(process: usize) {
 /// Times each task: µs a call, the mean over its calls. What copying a table of that length takes, timed in turn with
 /// the tasks, is taken off those that change it.
 pub fn times<const N: usize>(tasks: [Task; N]) -> [f64; N] {
-    for Task(perform, table, calls) in &tasks {
+    for Task(perform, table, calls, number) in &tasks {
         for &call in *calls {
-            assert!(perform(call, &mut table.to_vec(), &mut [0; 1000]).is_ok(), "{call:?} is refused");
+            let answer = perform(call, &mut table.to_vec(), &mut [0; 1000]);
+            assert_eq!(answer.err().unwrap_or(ACCEPTED), *number, "{call:?} is answered otherwise than expected");
         }
     }
     let mut copied = tasks.each_ref().map(|task| task.1).to_vec();
@@ -111,7 +113,7 @@ pub fn times<const N: usize>(tasks: [Task; N]) -> [f64; N] {
     let runs: Vec<_> = tasks.iter().map(Task::run).chain(copied.iter().map(|table| copying(table))).collect();
     let times = least(&runs);
     std::array::from_fn(|i| {
-        let Task(_, table, calls) = tasks[i];
+        let Task(_, table, calls, _) = tasks[i];
         let copy = copied.iter().position(|other| other.len() == table.len()).unwrap();
         times[i] / calls.len() as f64 - if tasks[i].changes() { times[N + copy] } else { 0.0 }
     })

@@ -1,6 +1,6 @@
 //! The boards that are timed, and the calls on each.
 use crate::boards::{self, Job, Random};
-use crate::calls::{kind, Call, NAMES};
+use crate::calls::{kind, Call, ACCEPTED, NAMES};
 use crate::{independent, INDEPENDENT};
 
 /// The sizes that are timed, B and J.
@@ -9,6 +9,9 @@ pub const SIZES: [(usize, usize); 3] = [(10, 60), (100, 1000), (500, 4000)];
 /// The boards whose chains do not all rise: a check in one pass gives up at once on the first, and near its end on the second.
 pub const NO_ORDER: &str = "chains in no order";
 pub const NEARLY: &str = "one chain out of order";
+
+/// What stands after the name of a call that is refused.
+pub const REFUSED: &str = ", refused";
 
 /// The benches that a job names, by its number and B.
 pub type Names = fn(usize, usize, &mut Random) -> [usize; 2];
@@ -121,8 +124,23 @@ fn changes(t: &[u8], names: Names, random: &mut Random) -> Vec<Vec<Call>> {
     vec![arrivals(16, t, names, random), closings(16, t, random), vec![Call::Levelling(u32::MAX)]]
 }
 
-/// A board to time calls on: its name, its table, and lists of calls, each of one kind.
-type Trial = (String, Vec<u8>, Vec<Vec<Call>>);
+/// A board to time calls on: its name, its table, lists of calls, each of one kind, and the number that the table's form check and these
+/// calls are answered with.
+struct Trial(String, Vec<u8>, Vec<Vec<Call>>, u32);
+
+/// Makes the trial of a sound table, whose calls are accepted.
+fn sound(board: impl Into<String>, t: Vec<u8>, lists: Vec<Vec<Call>>) -> Trial {
+    Trial(board.into(), t, lists, ACCEPTED)
+}
+
+/// Makes the trial of the form check of a board whose word 2, the number of the standing jobs, is one too high: known only when
+/// all records are counted.
+fn miscounted(Trial(_, t, ..): &Trial) -> Trial {
+    let mut t = t.clone();
+    let standing = boards::get(&t, 2);
+    boards::put(&mut t, 2, standing + 1);
+    Trial("random pairs, level, word 2 one too high".into(), t, vec![vec![Call::FormCheck]], 2)
+}
 
 /// Makes nearly full boards with the same jobs, level and not.
 fn nearly_full((kind, names): (&str, Names), benches: usize, jobs: usize, random: &mut Random) -> [Trial; 2] {
@@ -131,7 +149,7 @@ fn nearly_full((kind, names): (&str, Names), benches: usize, jobs: usize, random
     let unlevel = first_named(&level);
     let all = [questions(&level), changes.clone()].concat();
     let some = [vec![vec![Call::LevelCheck], vec![tightest(&unlevel)]], changes].concat();
-    [(format!("{kind}, level"), level, all), (format!("{kind}, not level"), unlevel, some)]
+    [sound(format!("{kind}, level"), level, all), sound(format!("{kind}, not level"), unlevel, some)]
 }
 
 /// Makes boards whose chains do not all rise, of the same jobs: in no order, for all calls, and all but one rising, for those that the
@@ -143,7 +161,7 @@ fn out_of_order(benches: usize, jobs: usize, random: &mut Random) -> [Trial; 2] 
     let nearly = nearly_rising(&level);
     let [check, load, heaviest] = [Call::FormCheck, last_load(&nearly), Call::Heaviest].map(|question| vec![question]);
     let some = vec![check, load, heaviest, arrivals(16, &nearly, PAIRS, random), closings(16, &nearly, random)];
-    [(NO_ORDER.into(), disordered, all), (NEARLY.into(), nearly, some)]
+    [sound(NO_ORDER, disordered, all), sound(NEARLY, nearly, some)]
 }
 
 /// Makes boards for a few calls: a path through all benches, one bench with all jobs.
@@ -153,9 +171,9 @@ fn special(benches: usize, jobs: usize) -> [Trial; 3] {
     let back = boards::long_path_back(benches, jobs);
     let heap = boards::heap(benches, jobs, jobs);
     [
-        ("long path".into(), path, along),
-        ("long path back".into(), back, vec![vec![closing_moving(benches - 1)]]),
-        ("all jobs on bench 1".into(), heap, vec![vec![Call::Levelling(u32::MAX)]]),
+        sound("long path", path, along),
+        sound("long path back", back, vec![vec![closing_moving(benches - 1)]]),
+        sound("all jobs on bench 1", heap, vec![vec![Call::Levelling(u32::MAX)]]),
     ]
 }
 
@@ -163,21 +181,22 @@ fn special(benches: usize, jobs: usize) -> [Trial; 3] {
 fn trials(benches: usize, jobs: usize) -> Vec<Trial> {
     let random = &mut Random(11);
     let blanking = vec![vec![Call::Blank(benches as u32, jobs as u32)]];
-    let mut trials = vec![("any".into(), boards::blank(benches, jobs), blanking)];
-    for kind in KINDS {
-        trials.extend(nearly_full(kind, benches, jobs, random));
-    }
+    let [pairs, ring] = KINDS.map(|kind| nearly_full(kind, benches, jobs, random));
+    let mut trials = vec![sound("any", boards::blank(benches, jobs), blanking), miscounted(&pairs[0])];
+    trials.extend(pairs);
+    trials.extend(ring);
     trials.extend(out_of_order(benches, jobs, random));
     trials.extend(special(benches, jobs));
     trials
 }
 
-/// Hands over each list of calls at each size, with its board's name and table.
-pub fn each(measure: fn(&str, &[u8], &[Call])) {
+/// Hands over each list of calls at each size, with its board's name and table before it, and after it the number that the calls are
+/// answered with.
+pub fn each(measure: fn(&str, &[u8], &[Call], u32)) {
     for (benches, jobs) in SIZES {
-        for (board, t, lists) in trials(benches, jobs) {
+        for Trial(board, t, lists, number) in trials(benches, jobs) {
             for calls in lists {
-                measure(&board, &t, &calls);
+                measure(&board, &t, &calls, number);
             }
         }
     }
@@ -191,8 +210,9 @@ fn name(call: Call) -> &'static str {
     }
 }
 
-/// Gives the cells that tell what was timed: the call, the board, B and J.
-pub fn cells(call: Call, board: &str, t: &[u8]) -> Vec<String> {
+/// Gives the cells that tell what was timed: the call and whether it is refused, the board, B and J.
+pub fn cells(call: Call, number: u32, board: &str, t: &[u8]) -> Vec<String> {
     let (benches, jobs) = boards::sizes(t);
-    vec![name(call).into(), board.into(), benches.to_string(), jobs.to_string()]
+    let refused = if number == ACCEPTED { "" } else { REFUSED };
+    vec![[name(call), refused].concat(), board.into(), benches.to_string(), jobs.to_string()]
 }
