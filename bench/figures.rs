@@ -34,9 +34,12 @@ impl Row {
         Spread::of(self.processes.iter().map(|figures| figures[i]).collect())
     }
 
-    /// Gives the spread of the ratio of two figures, which is taken in each process.
+    /// Gives the spread of the ratio of two figures, which is taken in each process. It must be a positive number: another one would
+    /// be below what is allowed, or not above it.
     pub fn ratio(&self, over: usize, under: usize) -> Spread {
-        Spread::of(self.processes.iter().map(|figures| figures[over] / figures[under]).collect())
+        let ratios: Vec<_> = self.processes.iter().map(|figures| figures[over] / figures[under]).collect();
+        assert!(ratios.iter().all(|ratio| ratio.is_finite() && *ratio > 0.0), "{:?} has ratios {ratios:?}", self.cells);
+        Spread::of(ratios)
     }
 
     /// Reads the whole number in a cell.
