@@ -4,6 +4,7 @@
 mod boards;
 #[macro_use]
 mod calls;
+mod comparison;
 mod figures;
 mod independent;
 #[path = "../target/bench/older.rs"]
@@ -13,7 +14,7 @@ mod timing;
 mod trials;
 
 use calls::{Call, Perform};
-use figures::{head, micros, print_line, rows, two_places};
+use figures::{head, micros, print_line, rows, two_places, Row};
 use timing::{times, Task};
 
 const OLDER: Perform = |c, t, list| answer!(older, c, t, list);
@@ -33,9 +34,43 @@ fn measure(process: usize) {
     trials::each(measure_row);
 }
 
+/// What is claimed. A row's ratio may be above 1 by so much, for noise: if its calls took less than SHORT, in µs, before, where small
+/// differences in memory count much, and if not.
+const CLAIM: &str = "No call slower than before (a tenth allowed for noise on rows under 1 µs, three hundredths else)";
+const SHORT: f64 = 1.0;
+const NOISE_OF_SHORT: f64 = 0.1;
+const NOISE: f64 = 0.03;
+
+/// Gives the ratio of a row, now by before.
+fn ratio(row: &Row) -> f64 {
+    row.ratio(1, 0).median
+}
+
+/// Tells by how much a row is slower than allowed; below 0 it is not.
+fn excess(row: &Row) -> f64 {
+    let noise = if row.figure(0).median < SHORT { NOISE_OF_SHORT } else { NOISE };
+    ratio(row) - (1.0 + noise)
+}
+
+/// Writes which calls a row is of, and its ratio.
+fn named(row: &Row) -> String {
+    let [call, board, benches, jobs] = [0, 1, 2, 3].map(|i| &row.cells[i]);
+    format!("{call} on {board} ({benches} benches, {jobs} jobs) {:.3}", ratio(row))
+}
+
+/// Prints whether no call is slower than before, and the three rows whose ratio is most above what is allowed or nearest to it.
+fn verdict(files: &[String]) {
+    let mut rows = rows(TABLE, files);
+    rows.sort_by(|a, b| excess(b).total_cmp(&excess(a)));
+    let slower = rows.iter().filter(|row| excess(row) > 0.0).count();
+    let verdict = if slower == 0 { "met" } else { "missed" };
+    let worst: Vec<_> = rows.iter().take(3).map(named).collect();
+    println!("{CLAIM}: {verdict}, {slower} of {} rows slower; the worst: {}.", rows.len(), worst.join("; "));
+}
+
 fn report(files: &[String]) {
     let mut rows = rows(TABLE, files);
-    rows.sort_by(|a, b| b.ratio(1, 0).median.total_cmp(&a.ratio(1, 0).median));
+    rows.sort_by(|a, b| ratio(b).total_cmp(&ratio(a)));
     head(
         "Each call of the older archive and of this one, in µs, the highest ratio first.",
         "call | board | B | J | before | now | now / before",
@@ -48,8 +83,10 @@ fn report(files: &[String]) {
 fn main() {
     let arguments: Vec<_> = std::env::args().skip(1).collect();
     match arguments.first().map(String::as_str) {
+        Some("compare") => comparison::print("Before and now", [OLDER, PROVED]),
         Some("measure") => measure(arguments[1].parse().unwrap()),
+        Some("verdict") => verdict(&arguments[1..]),
         Some("report") => report(&arguments[1..]),
-        _ => panic!("measure and the process's number, or report and files"),
+        _ => panic!("compare, or measure and the process's number, or verdict or report and files"),
     }
 }

@@ -1,7 +1,7 @@
-//! That all implementations answer alike.
+//! That implementations answer alike.
 use crate::boards::{self, Random};
-use crate::{calls, independent};
-use crate::{INDEPENDENT, PLAIN, PROVED};
+use crate::calls::{self, Perform};
+use crate::independent;
 
 const ROUNDS: usize = 200_000;
 
@@ -17,7 +17,7 @@ fn some_sizes(random: &mut Random) -> (usize, usize) {
 
 /// Makes all calls on sound and damaged tables, four on each board: the implementations must answer alike and leave
 /// the same bytes. Counts the answers: accepted, then refused with 1 to 8.
-fn compare() -> [usize; 9] {
+fn compare<const N: usize>(all: [Perform; N]) -> [usize; 9] {
     let mut random = Random(1);
     let mut answers = [0; 9];
     for _ in 0..ROUNDS / 4 {
@@ -32,7 +32,7 @@ fn compare() -> [usize; 9] {
             if damaged {
                 boards::damage(&mut tried, &mut random);
             }
-            let (after, answer) = calls::same([PROVED, PLAIN, INDEPENDENT], call, &tried, &mut random);
+            let (after, answer) = calls::same(all, call, &tried, &mut random);
             answers[answer.err().unwrap_or(calls::ACCEPTED) as usize] += 1;
             if !damaged {
                 t = after;
@@ -42,9 +42,10 @@ fn compare() -> [usize; 9] {
     answers
 }
 
-pub fn print() {
-    let [accepted, refused @ ..] = compare();
+/// Compares implementations, which are called by these names, and prints the outcome.
+pub fn print<const N: usize>(names: &str, all: [Perform; N]) {
+    let [accepted, refused @ ..] = compare(all);
     let refused: Vec<_> = refused.iter().zip(1..).map(|(count, number)| format!("{count} with {number}")).collect();
-    println!("Proved, plain and independent, {ROUNDS} random calls: same answers, tables and lists.");
+    println!("{names}, {ROUNDS} random calls: same answers, tables and lists.");
     println!("{accepted} accepted; refused {}.", refused.join(", "));
 }

@@ -39,7 +39,7 @@ fn report(files: &[String]) {
 fn main() {
     let arguments: Vec<_> = std::env::args().skip(1).collect();
     match arguments.first().map(String::as_str) {
-        Some("compare") => comparison::print(),
+        Some("compare") => comparison::print("Proved, plain and independent", [PROVED, PLAIN, INDEPENDENT]),
         Some("measure") => measure(arguments[1].parse().unwrap()),
         Some("report") => report(&arguments[1..]),
         _ => panic!("compare, or measure and the process's number, or report and files"),
