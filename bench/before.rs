@@ -34,11 +34,8 @@ fn measure(process: usize) {
     trials::each(measure_row);
 }
 
-/// What is claimed. A row's ratio may be above 1 by so much, for noise: if its calls took less than SHORT, in µs, before, where small
-/// differences in memory count much, and if not.
-const CLAIM: &str = "No call slower than before (a tenth allowed for noise on rows under 1 µs, three hundredths else)";
-const SHORT: f64 = 1.0;
-const NOISE_OF_SHORT: f64 = 0.1;
+/// What is claimed. A row's ratio may be above 1 by so much, for noise: more than two copies of one archive differed (RESULTS.md).
+const CLAIM: &str = "No call slower than before (three hundredths allowed for noise)";
 const NOISE: f64 = 0.03;
 
 /// Gives the ratio of a row, now by before.
@@ -48,8 +45,7 @@ fn ratio(row: &Row) -> f64 {
 
 /// Tells by how much a row is slower than allowed; below 0 it is not.
 fn excess(row: &Row) -> f64 {
-    let noise = if row.figure(0).median < SHORT { NOISE_OF_SHORT } else { NOISE };
-    ratio(row) - (1.0 + noise)
+    ratio(row) - (1.0 + NOISE)
 }
 
 /// Writes which calls a row is of, and its ratio.

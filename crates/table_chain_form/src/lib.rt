@@ -13,8 +13,7 @@ use table_header::heads;
 use table_record_form::Seen;
 use table_size::Size;
 
-// Walks bench x's chain, before which `left` jobs are not yet met; how many are left after it. Reads the next job
-// before it compares the holder, so that this read does not wait for the comparison.
+// Walks bench x's chain, before which `left` jobs are not yet met; how many are left after it.
 fn walk(t: &[u8], s: Size, x: usize, left: usize) -> Seen
     requires { ⌜ SizeOf (now t) s ⌝ }
     requires { ⌜ BenchIn s x ⌝ }
