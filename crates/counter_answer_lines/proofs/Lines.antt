@@ -10,7 +10,8 @@ use Rattle.spec_lists.specs.Lists.{nth}
 use Rattle.spec_calls.proofs.Refusals.{refusal-positive}
 use Rattle.spec_calls.specs.Answers.{Answer, refused, arrived, closed, said, isRefused, inNumbers}
 use Rattle.board_answers.specs.Answered.{returned}
-use Rattle.spec_counter.specs.Counter.{lineFeed, space, digits, printed}
+use Rattle.spec_text.specs.Numbers.{lineFeed, space, digits}
+use Rattle.spec_counter.specs.Counter.{printed}
 use Rattle.counter_printing.specs.Wrote.{Wrote, spaced}
 use Rattle.counter_printing.proofs.WrittenText.{wrote-start, wrote-then, wrote-more, printed-is, spaced-append}
 use Rattle.counter_answer_lines.specs.AnswerLines.{refusalText, answerText}

@@ -13,7 +13,8 @@ use lib.ListN.{length, drop, getD, length-append, drop-of-length-le}
 use lib.Seq.{drop-cons}
 use borrow.Author.Tests.{le-leb, lt-leb, eq-eqb, ne-eqb, leb-true, leb-false}
 use Rattle.spec_lists.specs.Lists.{all, empty}
-use Rattle.spec_counter.specs.Counter.{space, onto, pieces, digit, value, number, numbers, joined, commandFor, fieldsCommand, command}
+use Rattle.spec_text.specs.Numbers.{space, digit, value, number}
+use Rattle.spec_counter.specs.Counter.{onto, pieces, numbers, joined, commandFor, fieldsCommand, command}
 use Rattle.spec_lists.proofs.Tests.{Compared, same, other, compared, true→T, within-low, within-high, right, T-leb}
 use Rattle.counter_commands.specs.Read.{readingOf, readingNumbers, numbersDue, ReadingOf, digitValue, behind, onwards, Further, ReadField, followed, few, taken, given}
 use Rattle.counter_commands.specs.declared.Reading.{Reading}

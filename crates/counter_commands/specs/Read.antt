@@ -9,7 +9,8 @@ use lib.Dec.{eqb, leb}
 use lib.ListN.{length, drop}
 use Rattle.spec_calls.specs.Answers.{refusalNumber, unreadable}
 use Rattle.spec_counter.specs.Counter as paper
-use Rattle.spec_counter.specs.Counter.{space, pieces, digit, numbers, joined, commandFor, numbersOf}
+use Rattle.spec_text.specs.Numbers.{space, digit}
+use Rattle.spec_counter.specs.Counter.{pieces, numbers, joined, commandFor, numbersOf}
 use Rattle.counter_commands.specs.declared.Command.{Command}
 use Rattle.counter_commands.specs.declared.Command.the-variants as told
 use Rattle.counter_commands.specs.declared.Reading.{Reading}

@@ -11,7 +11,8 @@ use lib.Seq.{take-suc, take-suc-set, length-take-le}
 use Rattle.spec_lists.proofs.Elements.{each-append}
 use Rattle.spec_calls.specs.Answers.{unreadable, refusalNumber}
 use Rattle.spec_counter.specs.Counter as paper
-use Rattle.spec_counter.specs.Counter.{lineFeed, atFirst, unreadableLine}
+use Rattle.spec_text.specs.Numbers.{lineFeed}
+use Rattle.spec_counter.specs.Counter.{atFirst, unreadableLine}
 use Rattle.spec_counter.specs.Stream.{Place, atEnd, Unended, Consumes, lineText}
 use Rattle.spec_counter.proofs.Stream.{consumes-line, consumes-byte, consumes-past, goes-none, consumes-then, output-end}
 use Rattle.counter_printing.specs.Wrote.{Wrote}

@@ -7,8 +7,9 @@ use mathlib.Core.Path.{_≡_, refl, sym, ap, subst, _∙_}
 use mathlib.Core.List.{List, [], _∷_, _++_, flatMap, append-nil, append-assoc}
 use lib.ListN.{length, set, take, length-append, length-set}
 use lib.Seq.{take-all, take-suc, take-suc-set}
-use Rattle.spec_counter.specs.Counter.{lineFeed, space, digits, printed}
-use Rattle.spec_counter.proofs.Counter.{digits-one, digits-next, digits-short}
+use Rattle.spec_text.specs.Numbers.{lineFeed, space, digits}
+use Rattle.spec_counter.specs.Counter.{printed}
+use Rattle.spec_text.proofs.Numbers.{digits-one, digits-next, digits-short}
 use Rattle.spec_table.specs.Table.{words}
 use Rattle.spec_table.proofs.Places.{length-words}
 use Rattle.table_words.specs.Bytes.{IsWord}

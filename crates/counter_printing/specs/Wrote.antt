@@ -3,7 +3,7 @@ use Prim.Native.Nat.{ℕ, _+_}
 use mathlib.Core.Path.{_≡_}
 use mathlib.Core.List.{List, _∷_, _++_, flatMap}
 use lib.ListN.{length, take}
-use Rattle.spec_counter.specs.Counter.{space, digits}
+use Rattle.spec_text.specs.Numbers.{space, digits}
 
 -- text was written behind the first `at` bytes; `next` bytes are written now. Bytes beyond are scratch
 pub record Wrote (before after : List ℕ) (at next : ℕ) (text : List ℕ) : Type 0 where

@@ -5,7 +5,7 @@ ghost use Prim.Native.Nat.{_+_, _*_, _<_, _≤_};
 ghost use lib.ListN.{length, take};
 ghost use Rattle.spec_table.specs.Table.{words};
 ghost use Rattle.board_answers.specs.Answered.{valuesOf};
-ghost use Rattle.spec_counter.specs.Counter.{space, digits};
+ghost use Rattle.spec_text.specs.Numbers.{space, digits};
 ghost use Rattle.counter_printing.specs.Wrote.{Wrote, fieldMost, spaced};
 use board_answers::Values;
 

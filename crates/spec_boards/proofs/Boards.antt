@@ -7,7 +7,8 @@ use Rattle.spec_sharing.specs.Paths.{steps, pathsFrom, improves, improvingFrom,
 use Rattle.spec_sharing.specs.Sharing.{arrivalChoice, closingChoice, levellingChoice, arrive, close, level, closureRound, tightSet}
 use Rattle.spec_calls.specs.Calls.{arrivalConditions, closingConditions, questionConditions, refusals, arrivalOutcome, closingOutcome, levellingOutcome, tightSetTold, asked, accepted, outcome, blanking}
 use Rattle.spec_calls.specs.Tally.{noted}
-use Rattle.spec_counter.specs.Counter.{number, commandFor, command, printed, lineFor, done, after, prints, counter}
+use Rattle.spec_text.specs.Numbers.{number}
+use Rattle.spec_counter.specs.Counter.{commandFor, command, printed, lineFor, done, after, prints, counter}
 use Rattle.spec_boards.specs.Boards.{Case, result, boards}
 
 pub boards-hold : map (λ (c : Case). result (c .trial)) boards ≡ map (λ (c : Case). c .expected) boards

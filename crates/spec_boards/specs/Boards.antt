@@ -8,7 +8,7 @@ use Rattle.spec_calls.specs.Answers.{Outcome, inNumbers}
 use Rattle.spec_calls.specs.Calls.{Call, blanking, arrival, closing, levelling, ask, loadOf, heaviestLoad, tightSetOf, formCheck}
 use Rattle.spec_calls.specs.JobBook.{run, tableAfter}
 use Rattle.spec_counter.specs.Counter.{counter}
-use Rattle.spec_counter.specs.Text.{text}
+use Rattle.spec_text.specs.Text.{text}
 
 -- bytes that are no blank table's: blanking must not look at them
 abbrev pub someBytes : ℕ → List ℕ

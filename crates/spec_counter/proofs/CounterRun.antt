@@ -15,7 +15,7 @@ use Rattle.spec_calls.specs.Answers.{Outcome, isRefused, said, tightSetIs}
 use Rattle.spec_calls.specs.Calls.{arrival, closing, ask, heaviestLoad, tightSetOf, questionConditions, asked, accepted, outcome, blanking}
 use Rattle.spec_calls.specs.Tally.{zeroTally, noted}
 use Rattle.spec_counter.specs.Counter.{Counter, Command, setTable, takeIn, closeJob, askTightSet, askHeaviest, command, printed, lineFor, done, after, prints, atFirst, room, counterList}
-use Rattle.spec_counter.specs.Text.{text}
+use Rattle.spec_text.specs.Text.{text}
 use Rattle.spec_lists.proofs.Tests.{true→T, within-high}
 use Rattle.spec_table.proofs.Places.{sized}
 use Rattle.spec_calls.proofs.Blanking.{standing-empty, blank-sound, blank-decodes}

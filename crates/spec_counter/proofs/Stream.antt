@@ -8,7 +8,8 @@ use mathlib.Core.List.{List, [], _∷_, _++_, append-assoc, append-nil, flatMap}
 use mathlib.Core.Option.{Option, none, some}
 use lib.Dec.{eqb}
 use lib.ListN.{length, length-append}
-use Rattle.spec_counter.specs.Counter.{Counter, Command, lineFeed, pieces, onto, command, lineFor, done, after, unreadableLine, prints, counter}
+use Rattle.spec_text.specs.Numbers.{lineFeed}
+use Rattle.spec_counter.specs.Counter.{Counter, Command, pieces, onto, command, lineFor, done, after, unreadableLine, prints, counter}
 use Rattle.spec_counter.specs.Stream.{lineText, lineAfter, Place, beginning, Unended, outputFrom, Consumes, ConsumesAll, ended, then, atEnd}
 use Rattle.spec_counter.proofs.Counter.{before-piece, long-unreadable}
 use Rattle.spec_counter.proofs.CounterRun.{unreadable-line}

@@ -1,24 +1,17 @@
 -- 01, "The counter program": from the bytes it reads to the bytes it prints.
-use Prim.Native.Nat.{ℕ, zero, suc, _+_, _-_, _*_, _/_, _%_}
+use Prim.Native.Nat.{ℕ, _+_, _-_}
 use Prim.Native.Char.{Char, code}
-use mathlib.Core.Bool.{Bool, true, false, cond, not, _&&_, _||_}
+use mathlib.Core.Bool.{Bool, cond, not, _&&_}
 use mathlib.Core.List.{List, [], _∷_, _++_, flatMap}
 use mathlib.Core.Option.{Option, none, some}
-use lib.Dec.{eqb, leb, ltb}
+use lib.Dec.{eqb, leb}
 use lib.ListN.{length, take, drop, replicate}
-use Rattle.spec_lists.specs.Lists.{within, all, empty, nth}
+use Rattle.spec_lists.specs.Lists.{all, empty, nth}
+use Rattle.spec_text.specs.Numbers.{lineFeed, space, digits, number}
 use Rattle.spec_table.specs.Table.{words, lengthFor, mostBenches, mostJobs}
 use Rattle.spec_calls.specs.Answers.{Outcome, inNumbers, isRefused, refused, unreadable}
 use Rattle.spec_calls.specs.Calls.{outcome, blanking, arrival, closing, ask, heaviestLoad, tightSetOf}
 use Rattle.spec_calls.specs.Tally.{Tally, zeroTally, noted}
-
--- the byte that ends a line
-abbrev pub lineFeed : ℕ
-lineFeed = code "\n"
-
--- the byte between two fields
-abbrev pub space : ℕ
-space = code " "
 
 -- a byte put in front of the first piece
 abbrev pub onto : ℕ → List (List ℕ) → List (List ℕ)
@@ -29,22 +22,6 @@ onto c (piece ∷ pieces) = (c ∷ piece) ∷ pieces
 abbrev pub pieces : ℕ → List ℕ → List (List ℕ)
 pieces sep [] = [] ∷ []
 pieces sep (c ∷ l) = let r = pieces sep l in cond (eqb c sep) ([] ∷ r) (onto c r)
-
--- a digit, 0 to 9
-abbrev pub digit : ℕ → Bool
-digit c = within (code "0") (code "9") c
-
--- the number that digits write, after the number n before them
-abbrev pub value : ℕ → List ℕ → ℕ
-value n [] = n
-value n (c ∷ l) = value (10 * n + (c - code "0")) l
-
--- "numbers of 0 to 65,535 without leading zeros"
-unfoldable pub number : List ℕ → Option ℕ
-number [] = none
-number (c ∷ l) =
-    cond (all digit (c ∷ l) && (empty l || not (eqb c (code "0"))) && leb (value 0 (c ∷ l)) 65535)
-    (some (value 0 (c ∷ l))) none
 
 -- a number and the numbers after it; none if one of them is not readable
 abbrev pub joined : Option ℕ → Option (List ℕ) → Option (List ℕ)
@@ -85,12 +62,6 @@ fieldsCommand ((letter ∷ c ∷ l) ∷ fs) = none
 -- "each a letter and numbers [..], one space between, at most 40 bytes before the line feed"
 unfoldable pub command : List ℕ → Option Command
 command line = let r = fieldsCommand (pieces space line) in cond (leb (length line) 40) r none
-
--- the digits of a number; the fuel is the number
-abbrev pub digits : ℕ → ℕ → List ℕ
-digits zero n = (code "0" + n) ∷ []
-digits (suc k) n =
-    elim (ltb n 10) [ true ↦ (code "0" + n) ∷ [] | false ↦ digits k (n / 10) ++ ((code "0" + n % 10) ∷ []) ]
 
 -- a printed line: a letter and numbers, one space between
 unfoldable pub printed : ℕ → List ℕ → List ℕ

@@ -6,7 +6,8 @@ use mathlib.Core.Bool.{cond}
 use mathlib.Core.List.{List, [], _∷_, _++_}
 use mathlib.Core.Option.{none, some}
 use Rattle.spec_lists.specs.Lists.{Each, empty}
-use Rattle.spec_counter.specs.Counter.{Counter, lineFeed, pieces, command, lineFor, done, after, unreadableLine, prints, atFirst}
+use Rattle.spec_text.specs.Numbers.{lineFeed}
+use Rattle.spec_counter.specs.Counter.{Counter, pieces, command, lineFor, done, after, unreadableLine, prints, atFirst}
 
 -- what is printed for a line
 unfoldable pub lineText : Counter → List ℕ → List ℕ

@@ -151,5 +151,3 @@ pub others-in : (j : ℕ) (l : List ℕ) (i : ℕ) → In i (filter (λ k. not (
 others-in j l i =
     let rest : ℕ → Bool = λ k. not (eqb k j) in
     (λ m. let r = filter-in rest i l m in ((differ i j) .1 (r .1), r .0), λ d. in-filter rest i l (d .1) ((differ i j) .0 (d .0)))
-
--- sharings

@@ -13,18 +13,13 @@ use lib.ListN.{length, getD, drop}
 use lib.Seq.{getD-drop, drop-drop}
 use borrow.Author.Tests.{eq-eqb, ne-eqb}
 use Rattle.spec_lists.specs.Lists.{bit, within, count, range, filter, all, Each, In, empty, nth, enumerate}
-use Rattle.spec_table.specs.Board.{Board, Valid, mayHold, Shares, namesFit}
+use Rattle.spec_table.specs.Board.{Board, Valid, jobsHeld, mayHold, Shares, namesFit}
 use Rattle.spec_table.specs.Table.{Entry, vacant, filled, holderIn, follow, chains, standingIn, entryFits, placed, onlyStanding, formed, boardOf, firstHeld, positionOf, entryFor, entriesFrom, layoutOf}
 use Rattle.spec_lists.proofs.Counting.{bit-same, bit-other, filter-counts}
 use Rattle.spec_lists.proofs.Tests.{true→T, both, five, Compared, same, other, compared, T-eqb, eqb-T, within-low, within-both}
 use Rattle.spec_lists.proofs.Elements.{filter-in, in-all, map-in}
 use Rattle.spec_lists.proofs.NumberLists.{member-in, range-low}
 use Rattle.spec_table.proofs.Named.{length-shares, fit-bench}
-
--- the jobs from number i on that bench x holds, rising
-abbrev pub jobsHeld : ℕ → ℕ → List ℕ → List ℕ
-jobsHeld i x [] = []
-jobsHeld i x (h ∷ holders) = let r = jobsHeld (suc i) x holders in cond (eqb h x) (i ∷ r) r
 
 -- a valid board's jobs one by one: the benches that each names fit, and one of them holds it
 data Rows (benches : ℕ) : List (List ℕ) → List ℕ → Type 0 where

@@ -1,7 +1,7 @@
 -- The board as mathematics sees it: jobs that name benches, and who holds each. A job names a list of benches; how
 -- many is the table's affair, and nothing here depends on it.
-use Prim.Native.Nat.{ℕ, _-_}
-use mathlib.Core.Bool.{Bool, _&&_, not}
+use Prim.Native.Nat.{ℕ, suc, _-_}
+use mathlib.Core.Bool.{Bool, cond, not, _&&_}
 use mathlib.Core.List.{List, [], _∷_}
 use lib.Dec.{T, eqb}
 use lib.ListN.{length}
@@ -39,6 +39,11 @@ put b j names h =
 -- "a bench's load is then the number of jobs given to it"; 000: the vertex's out-degree
 abbrev pub load : List ℕ → ℕ → ℕ
 load holders x = count x holders
+
+-- the jobs from number i on that bench x holds, rising; the first holder is that of job i
+abbrev pub jobsHeld : ℕ → ℕ → List ℕ → List ℕ
+jobsHeld i x [] = []
+jobsHeld i x (h ∷ holders) = let r = jobsHeld (suc i) x holders in cond (eqb h x) (i ∷ r) r
 
 -- the heaviest load of benches 1 to B, 0 without jobs; 000: the maximum out-degree
 unfoldable pub heaviest : Board → ℕ

@@ -1,0 +1,64 @@
+// Numbers in columns, written on a page; the bytes around them stay as they were.
+ghost use mathlib.Core.Path.{_≡_};
+ghost use Prim.Native.Nat.{_+_, _≤_, _<_};
+ghost use lib.ListN.{length, replicate};
+ghost use Rattle.spec_text.specs.Numbers.{space};
+ghost use Rattle.spec_sheet.specs.Sheet.{field};
+ghost use Rattle.sheet_fields.specs.Page.{columnOf, withText};
+
+// Gives the digit of n that counts units (1, 10, 100 ..), a blank where n is less than one unit.
+fn column(n: usize, unit: usize) -> u8
+    requires { ⌜ 1 ≤ unit ⌝ }
+    ensures { λ r. ⌜ r ≡ columnOf n unit ⌝ }
+{
+    if n < unit {
+        return b' ';
+    }
+    b'0' + (n / unit % 10) as u8
+}
+
+// Writes a bench's number in 3 columns.
+pub fn write_bench(page: &mut [u8], at: usize, x: usize)
+    requires { ⌜ x < 1000 ⌝ }
+    requires { ⌜ at + 3 ≤ length (now page) ⌝ }
+    ensures { λ _. ⌜ now (page .exit) ≡ withText (now (page .entry)) at (field 3 x) ⌝ }
+{
+    page[at] = column(x, 100);
+    page[at + 1] = column(x, 10);
+    page[at + 2] = b'0' + (x % 10) as u8;
+}
+
+// Writes a number in 5 columns. A job or a load has at most four digits, so that the first column is blank.
+pub fn write_number(page: &mut [u8], at: usize, n: usize)
+    requires { ⌜ n < 10000 ⌝ }
+    requires { ⌜ at + 5 ≤ length (now page) ⌝ }
+    ensures { λ _. ⌜ now (page .exit) ≡ withText (now (page .entry)) at (field 5 n) ⌝ }
+{
+    page[at] = b' ';
+    page[at + 1] = column(n, 1000);
+    page[at + 2] = column(n, 100);
+    page[at + 3] = column(n, 10);
+    page[at + 4] = b'0' + (n % 10) as u8;
+}
+
+// Writes 5 blanks: a column without a job.
+pub fn write_no_number(page: &mut [u8], at: usize)
+    requires { ⌜ at + 5 ≤ length (now page) ⌝ }
+    ensures { λ _. ⌜ now (page .exit) ≡ withText (now (page .entry)) at (replicate 5 space) ⌝ }
+{
+    page[at] = b' ';
+    page[at + 1] = b' ';
+    page[at + 2] = b' ';
+    page[at + 3] = b' ';
+    page[at + 4] = b' ';
+}
+
+// Writes 3 blanks: a line without a bench number.
+pub fn write_no_bench(page: &mut [u8], at: usize)
+    requires { ⌜ at + 3 ≤ length (now page) ⌝ }
+    ensures { λ _. ⌜ now (page .exit) ≡ withText (now (page .entry)) at (replicate 3 space) ⌝ }
+{
+    page[at] = b' ';
+    page[at + 1] = b' ';
+    page[at + 2] = b' ';
+}

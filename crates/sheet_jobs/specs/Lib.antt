@@ -1,0 +1,2 @@
+-- What the lists promise.
+pub mod JobLists

@@ -1,0 +1,2 @@
+-- What the lines promise.
+pub mod Lines

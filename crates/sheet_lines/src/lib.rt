@@ -1,0 +1,120 @@
+// The sheet's lines: how many they are, and each written on a lent page.
+ghost use mathlib.Core.Path.{_≡_};
+ghost use Prim.Native.Nat.{_+_, _*_, _≤_, _<_};
+ghost use lib.ListN.{length};
+ghost use Rattle.spec_sheet.specs.Sheet.{lineCount};
+ghost use Rattle.table_size.specs.Sizes.{Limits};
+ghost use Rattle.sheet_fields.specs.Page.{withText};
+ghost use Rattle.sheet_lines.specs.Lines.{cellText, after, Listed, LineWritten, Room, BenchWritten, Measured,
+    RoomForAll, SheetWritten};
+use table_size::Size;
+
+// Counts the characters of a line, the line feed included.
+const LINE: usize = 69;
+
+// Writes a job in its columns, or blanks for 0; gives the job after it.
+fn write_cell(page: &mut [u8], at: usize, j: usize, next: &[u16; Size::MOST_JOBS + 1]) -> usize
+    requires { ⌜ Listed (now next) j ⌝ }
+    requires { ⌜ at + 5 ≤ length (now page) ⌝ }
+    ensures { λ _. ⌜ now (page .exit) ≡ withText (now (page .entry)) at (cellText j) ⌝ }
+    ensures { λ r. ⌜ r ≡ after (now (next .entry)) j ⌝ }
+{
+    if j == 0 {
+        sheet_fields::write_no_number(page, at);
+        return 0;
+    }
+    sheet_fields::write_number(page, at, j);
+    next[j] as usize
+}
+
+// Writes a line from its 9th column on: twelve jobs of a list, blanks where it ends before, and the line feed; gives
+// the job after them.
+fn write_jobs(page: &mut [u8], at: usize, first: usize, next: &[u16; Size::MOST_JOBS + 1]) -> usize
+    requires { ⌜ Listed (now next) first ⌝ }
+    requires { ⌜ at + 61 ≤ length (now page) ⌝ }
+    ensures { λ r. ⌜ LineWritten (now (next .entry)) (now (page .entry)) (now (page .exit)) at first r ⌝ }
+{
+    let mut j = first;
+    let mut cells = 0;
+    while cells < 12 {
+        j = write_cell(page, at + 5 * cells, j, next);
+        cells += 1;
+    }
+    page[at + 60] = b'\n';
+    j
+}
+
+// Writes the lines of bench x with this load, whose jobs begin with `first`; gives the place after them.
+fn write_bench(
+    page: &mut [u8],
+    at: usize,
+    x: usize,
+    load: usize,
+    first: usize,
+    next: &[u16; Size::MOST_JOBS + 1],
+) -> usize
+    requires { ⌜ x < 1000 ⌝ }
+    requires { ⌜ load < 10000 ⌝ }
+    requires { ⌜ Room (now next) (now page) at first ⌝ }
+    ensures { λ r. ⌜ BenchWritten (now (next .entry)) (now (page .entry)) (now (page .exit)) at x load first r ⌝ }
+{
+    sheet_fields::write_bench(page, at, x);
+    sheet_fields::write_number(page, at + 3, load);
+    let mut j = write_jobs(page, at + 8, first, next);
+    let mut end = at + LINE;
+    while j != 0 {
+        sheet_fields::write_no_bench(page, end);
+        sheet_fields::write_no_number(page, end + 3);
+        j = write_jobs(page, end + 8, j, next);
+        end += LINE;
+    }
+    end
+}
+
+// Writes all lines.
+pub fn write(
+    s: Size,
+    loads: &[u16; Size::MOST_BENCHES + 1],
+    head: &[u16; Size::MOST_BENCHES + 1],
+    next: &[u16; Size::MOST_JOBS + 1],
+    page: &mut [u8],
+)
+    requires { ⌜ RoomForAll s (now loads) (now head) (now next) (now page) ⌝ }
+    ensures { λ _. ⌜ SheetWritten s (now (loads .entry)) (now (head .entry)) (now (next .entry)) (now (page .entry))
+        (now (page .exit)) ⌝ }
+{
+    let benches = s.benches();
+    let mut at = 0;
+    let mut done = 0;
+    while done < benches {
+        let x = done + 1;
+        at = write_bench(page, at, x, loads[x] as usize, head[x] as usize, next);
+        done += 1;
+    }
+}
+
+// Counts the lines of a bench.
+fn line_count(load: usize) -> usize
+    requires { ⌜ load < 65536 ⌝ }
+    ensures { λ r. ⌜ r ≡ lineCount load ⌝ }
+{
+    if load == 0 {
+        return 1;
+    }
+    (load + 11) / 12
+}
+
+// Computes how long the sheet is.
+pub fn length(s: Size, loads: &[u16; Size::MOST_BENCHES + 1]) -> usize
+    requires { ⌜ Limits s ⌝ }
+    ensures { λ r. ⌜ Measured s (now (loads .entry)) r ⌝ }
+{
+    let benches = s.benches();
+    let mut lines = 0;
+    let mut done = 0;
+    while done < benches {
+        done += 1;
+        lines += line_count(loads[done] as usize);
+    }
+    LINE * lines
+}

@@ -1,0 +1,2 @@
+-- What is proved of numbers as text.
+pub mod Numbers

@@ -1,0 +1,3 @@
+-- Text, as the definitions use it.
+pub mod Numbers
+pub mod Text
