@@ -1,5 +1,5 @@
 -- A table whose form is refused: every call answers so, and leaves what it was lent. And what a call left is its outcome.
-use mathlib.Core.Path.{_≡_, sym}
+use mathlib.Core.Path.{_≡_, refl, sym, subst}
 use mathlib.Core.List.{List}
 use mathlib.Core.Option.{some}
 use Prim.Native.Nat.{ℕ}
@@ -12,6 +12,10 @@ use Rattle.board_answers.specs.Answered.{leftBy, Leaves}
 use Rattle.table_refusals.specs.declared.Refusal.{Refusal}
 use Rattle.board_answers.specs.declared.Answer.{Answer}
 use Rattle.board_answers.specs.declared.Answer.the-variants.{Refused}
+
+-- an outcome that has just this answer and these bytes
+pub answered-leaves : {o : Outcome} {r : Answer} {t beside : List ℕ} → o ≡ leftBy r t beside → Leaves o r t beside
+answered-leaves {r} {t} {beside} e = subst (λ q. Leaves q r t beside) (sym e) (record { answer = refl; bytes = refl; lent = refl })
 
 -- a refused call leaves every lent byte
 pub refused-leaves : (r : Refusal) (c : Call) (t : List ℕ) → (outcome c t) .answer ≡ refused (refusalOf r) → Leaves (outcome c t) (Refused r) t (lentTo c)

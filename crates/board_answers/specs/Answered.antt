@@ -24,6 +24,7 @@ answerOf told.Level = paper.said paper.levelYes
 answerOf told.NotLevel = paper.said paper.levelNo
 answerOf (told.Levelled paths) = paper.said (paper.levelled paths)
 answerOf (told.Stopped paths) = paper.said (paper.stopped paths)
+answerOf (told.Sheet length) = paper.said (paper.sheetIs length)
 
 -- what is returned: the refusal's number, 0 for an accepted call
 abbrev pub returned : paper.Answer → ℕ

@@ -26,6 +26,8 @@ pub enum Answer {
     Levelled(u32),
     // Paths flipped, and one is left.
     Stopped(u32),
+    // How long the sheet is.
+    Sheet(usize),
 }
 
 // Up to three numbers, of an answer or of a command: the first `count` of them count.
@@ -109,6 +111,7 @@ impl Answer {
             Answer::NotLevel => 0,
             Answer::Levelled(_) => 0,
             Answer::Stopped(_) => 0,
+            Answer::Sheet(_) => 0,
         }
     }
 
@@ -129,6 +132,7 @@ impl Answer {
             Answer::NotLevel => Values::new(1, 0, 0, 0),
             Answer::Levelled(paths) => Values::new(2, paths as usize, 1, 0),
             Answer::Stopped(paths) => Values::new(2, paths as usize, 0, 0),
+            Answer::Sheet(length) => Values::new(1, length, 0, 0),
         }
     }
 }

@@ -32,7 +32,7 @@ use Rattle.board_answers.specs.Answered.{answerOf, Leaves}
 use Rattle.table_refusals.specs.declared.Refusal.the-variants as code
 use Rattle.board_answers.specs.declared.Answer.{Answer}
 use Rattle.board_answers.specs.declared.Answer.the-variants as told
-use Rattle.board_answers.proofs.Formal.{refused-leaves}
+use Rattle.board_answers.proofs.Formal.{answered-leaves, refused-leaves}
 use Rattle.table_size.proofs.Sizes.{bench-of-board}
 
 -- heights and their sets
@@ -60,11 +60,6 @@ bench-low b v h p =
     omega (arith, l, load-heaviest b x t)
 
 -- what is left
-
--- an outcome that has just this answer and these bytes
-answered-leaves : {o : Outcome} {r : Answer} {t list : List ℕ} → o ≡ record { answer = answerOf r; table = t; lent = list } → Leaves o r t list
-answered-leaves {o} {r} {t} {list} e =
-    subst (λ q. Leaves q r t list) (sym e) (record { answer = refl; bytes = refl; lent = refl })
 
 module _ {t : List ℕ} {s : Size} (z : SoundTable t s) where
   -- form check

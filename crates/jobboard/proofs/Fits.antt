@@ -11,7 +11,7 @@ use Rattle.spec_table.specs.Board.{Board, holderOf, namesOf, stands, load, heav
 use Rattle.spec_table.specs.Table.{mostBenches, mostJobs, sound, decode}
 use Rattle.spec_sharing.specs.Sharing.{Levelled, close, relevel, level, tightSet, inside}
 use Rattle.spec_calls.specs.Answers.{Answer, Outcome, isRefused, refused, arrived, closed, said, levelYes, levelNo, levelled, stopped}
-use Rattle.spec_calls.specs.Calls.{Arriving, Closing, Question, loadOf, heaviestLoad, tightSetOf, formCheck, levelCheck, Call, arrival, closing, levelling, ask, asked, accepted, outcome, arrivalOutcome, closingOutcome, levellingOutcome, tightSetTold}
+use Rattle.spec_calls.specs.Calls.{Arriving, Closing, Question, loadOf, heaviestLoad, tightSetOf, formCheck, levelCheck, wallSheet, Call, arrival, closing, levelling, ask, asked, accepted, outcome, arrivalOutcome, closingOutcome, levellingOutcome, tightSetTold, sheetTold}
 use Rattle.spec_sharing.specs.Demand2.{handed}
 use Rattle.spec_lists.proofs.Tests.{true→T, false→not, within-high}
 use Rattle.spec_lists.proofs.Elements.{is-empty, length-filter}
@@ -19,6 +19,7 @@ use Rattle.spec_lists.proofs.NumberLists.{length-range}
 use Rattle.spec_table.proofs.Named.{length-shares}
 use Rattle.spec_lists.proofs.Counting.{bit-le, count-most, total-most, greatest-most}
 use Rattle.spec_table.proofs.Sound.{sound-storable}
+use Rattle.spec_sheet.proofs.Longest.{sheet-most}
 use Rattle.spec_sharing.proofs.Paths.{holder-bench, holder-none}
 use Rattle.spec_sharing.proofs.TightSet.{tight-rising}
 use Rattle.spec_calls.proofs.Refusals.{accepted-by, on-sound, accepted-sound}
@@ -104,7 +105,7 @@ Bounded (ask q lent) = Unit {0}
 
 -- the values that a question tells of a sound table
 asked-fits : (q : Question) (lent t : List ℕ) → T (sound t) → Fitting (said ((asked q lent (decode t)) .fact))
-unfolding asked tightSetTold
+unfolding asked tightSetTold sheetTold
 asked-fits (loadOf x) lent t s = (omega (arith, load-small t s x), tt)
 asked-fits heaviestLoad lent t s = (omega (arith, heaviest-small t s), tt)
 asked-fits (tightSetOf h) lent t s =
@@ -115,6 +116,7 @@ asked-fits levelCheck lent t s = go (level (decode t))
     go : (z : Bool) → Fitting (said (cond z levelYes levelNo))
     go true = (omega arith, tt)
     go false = (omega arith, tt)
+asked-fits wallSheet page t s = (omega (arith, sheet-most (decode t) (sound-storable t s)), tt)
 
 -- the values of an accepted call
 accepted-fits : (c : Call) (t : List ℕ) → Bounded c → T (sound t) → outcome c t ≡ accepted c t (decode t) → Fitting ((accepted c t (decode t)) .answer)

@@ -1,7 +1,7 @@
 // The calls for C programs, over numbers and the table's bytes; a slice is passed as a pointer and its length in
 // bytes. Each returns the refusal's number, or 0. Results go through lent numbers, which a refused call leaves alone.
 ghost use mathlib.Core.List.{[], _∷_};
-ghost use Rattle.spec_calls.specs.Calls.{outcome, blanking, arrival, closing, levelling, ask, loadOf, heaviestLoad, tightSetOf, formCheck, levelCheck};
+ghost use Rattle.spec_calls.specs.Calls.{outcome, blanking, arrival, closing, levelling, ask, loadOf, heaviestLoad, tightSetOf, formCheck, levelCheck, wallSheet};
 ghost use Rattle.jobboard.specs.Desk.{Reported};
 
 // Writes a table without jobs; 1 where the length is not that of so many benches and jobs.
@@ -119,4 +119,13 @@ pub extern "C" fn jobboard_tight_set(
         benches,
         jobs,
     )
+}
+
+// Writes the wall sheet at the page's beginning. Result: its length.
+#[no_mangle]
+pub extern "C" fn jobboard_sheet(table: &[u8], page: &mut [u8], length: &mut u32) -> u32
+    ensures { λ r. ⌜ Reported (outcome (ask wallSheet (now (page .entry))) (now (table .entry))) r
+        (now (table .entry)) (now (page .exit)) (now (length .entry) ∷ []) (now (length .exit) ∷ []) ⌝ }
+{
+    jobboard_report::one(board_sheet::sheet(table, page), length)
 }

@@ -7,7 +7,7 @@ use contract.Lifetimes.{Lfts}
 use lib.ListN.{replicate}
 use Rattle.spec_table.specs.Table.{decode}
 use Rattle.spec_calls.specs.Answers.{Outcome}
-use Rattle.spec_calls.specs.Calls.{Call, arrival, closing, levelling, ask, loadOf, heaviestLoad, tightSetOf, formCheck, levelCheck}
+use Rattle.spec_calls.specs.Calls.{Call, arrival, closing, levelling, ask, loadOf, heaviestLoad, tightSetOf, formCheck, levelCheck, wallSheet}
 use Rattle.spec_calls.specs.JobBook.{Book, run, tableAfter, Claim}
 use Rattle.jobboard.specs.Desk.{Reported}
 use Rattle.jobboard.proofs.jobboard_blank.Reads as c-blank
@@ -19,6 +19,7 @@ use Rattle.jobboard.proofs.jobboard_level_check.Reads as c-level-check
 use Rattle.jobboard.proofs.jobboard_load.Reads as c-load
 use Rattle.jobboard.proofs.jobboard_heaviest.Reads as c-heaviest
 use Rattle.jobboard.proofs.jobboard_tight_set.Reads as c-tight-set
+use Rattle.jobboard.proofs.jobboard_sheet.Reads as c-sheet
 
 -- the number returned, the bytes left of the table and of what was lent beside it, and the lent numbers before and
 -- after, which lie outside both
@@ -80,6 +81,11 @@ pub data Called : Call → List ℕ → Observed → Type 0 where
       (κs : Lfts 2) (a : _) (r : _) (s : _) → c-level-check.Post κs a r s →
       Called (ask levelCheck []) (a .0 .now)
       (observed r (a .0 .now) [] (a .1 .0 .now ∷ []) (s .1 .0 .now ∷ []))
+  -- table, page; length
+  bySheet :
+      (κs : Lfts 3) (a : _) (r : _) (s : _) → c-sheet.Post κs a r s →
+      Called (ask wallSheet (a .1 .0 .now)) (a .0 .now)
+      (observed r (a .0 .now) (s .1 .0 .now) (a .1 .1 .0 .now ∷ []) (s .1 .1 .0 .now ∷ []))
 
 -- C calls one after the other, each on the table that the last one left
 abbrev pub CallsMade : List ℕ → List Call → List Observed → Type 0

@@ -6,6 +6,7 @@ pub mod Tally
 pub mod Stops
 pub mod JobBook
 pub mod Questions
+pub mod Sheets
 pub mod Outcomes
 pub mod Refused
 pub mod Results

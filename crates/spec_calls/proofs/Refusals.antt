@@ -13,11 +13,11 @@ use Rattle.spec_table.specs.Table.{sound, decode}
 use Rattle.spec_sharing.specs.Sharing.{level, relevel}
 use Rattle.spec_table.specs.Board.{Board}
 use Rattle.spec_lists.proofs.Tests.{not-false}
-use Rattle.spec_calls.specs.Answers.{Refusal, Condition, refusalNumber, inNumbers, firstHolding, isRefused, refusedOr, refused, said, levelYes, levelNo, levelled, stopped, sizes, unsound, jobNumber, benchNumber, alreadyStanding, notStanding, height, listTooShort, countFull, unreadable}
-use Rattle.spec_calls.specs.Calls.{Question, loadOf, heaviestLoad, tightSetOf, formCheck, levelCheck, Call, arrival, closing, levelling, ask, formConditions, arrivalConditions, closingConditions, questionConditions, refusals, questionOrder, order, lentTo, accepted, outcome, arrivalOutcome, closingOutcome, levellingOutcome}
+use Rattle.spec_calls.specs.Answers.{Refusal, Condition, refusalNumber, inNumbers, firstHolding, isRefused, refusedOr, refused, said, levelYes, levelNo, levelled, stopped, sizes, unsound, jobNumber, benchNumber, alreadyStanding, notStanding, height, listTooShort, countFull, unreadable, pageTooShort}
+use Rattle.spec_calls.specs.Calls.{Question, loadOf, heaviestLoad, tightSetOf, formCheck, levelCheck, wallSheet, Call, arrival, closing, levelling, ask, formConditions, arrivalConditions, closingConditions, questionConditions, refusals, questionOrder, order, lentTo, accepted, outcome, arrivalOutcome, closingOutcome, levellingOutcome}
 
--- "returned": 1 to 10, in the table's order
-pub refusals-told : map refusalNumber (sizes ∷ unsound ∷ jobNumber ∷ benchNumber ∷ alreadyStanding ∷ notStanding ∷ height ∷ listTooShort ∷ countFull ∷ unreadable ∷ []) ≡ range 1 10
+-- "returned": 1 to 11, in the table's order; 02: "11, after 10"
+pub refusals-told : map refusalNumber (sizes ∷ unsound ∷ jobNumber ∷ benchNumber ∷ alreadyStanding ∷ notStanding ∷ height ∷ listTooShort ∷ countFull ∷ unreadable ∷ pageTooShort ∷ []) ≡ range 1 11
 refusals-told = refl
 
 -- a level check's and a levelling's answers in numbers: yes and level are 1, no and stopped 0
@@ -42,6 +42,7 @@ conditions-ordered (ask q lent) t = asked q
     asked (tightSetOf h) = refl
     asked formCheck = refl
     asked levelCheck = refl
+    asked wallSheet = refl
 
 -- each number is below the next
 abbrev rise : List ℕ → Bool
@@ -62,6 +63,7 @@ order-rises (ask q lent) = asked q
     asked (tightSetOf h) = tt
     asked formCheck = tt
     asked levelCheck = tt
+    asked wallSheet = tt
 
 -- r is the refusal of a condition that holds, and no condition before it does
 abbrev pub FirstIs : Refusal → List Condition → Type 0
@@ -184,6 +186,7 @@ refusal-positive height = omega arith
 refusal-positive listTooShort = omega arith
 refusal-positive countFull = omega arith
 refusal-positive unreadable = omega arith
+refusal-positive pageTooShort = omega arith
 
 -- the calls that ask and change nothing
 abbrev pub isQuestion : Call → Bool

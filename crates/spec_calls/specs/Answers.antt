@@ -1,12 +1,13 @@
--- 01, "Refused calls", and what each call answers.
+-- 01, "Refused calls", with the refusals that 02 adds, and what each call answers.
 use Prim.Native.Nat.{ℕ}
 use mathlib.Core.Bool.{Bool, cond, true, false}
 use mathlib.Core.List.{List, [], _∷_}
 use mathlib.Core.Option.{Option, none, some}
 
--- the conditions of 01's table, in its order
+-- the conditions of 01's table, in its order: "01's table take[s] in this refusal and every later one" of 02
 pub data Refusal : Type 0 where
   sizes unsound jobNumber benchNumber alreadyStanding notStanding height listTooShort countFull unreadable : Refusal
+  pageTooShort : Refusal
 
 -- "returned"
 abbrev pub refusalNumber : Refusal → ℕ
@@ -20,9 +21,10 @@ refusalNumber height = 7
 refusalNumber listTooShort = 8
 refusalNumber countFull = 9
 refusalNumber unreadable = 10
+refusalNumber pageTooShort = 11
 
 -- what a call says that is neither an arrival's nor a closing's answer. A tight set: benches, inside jobs. A
--- levelling: paths turned, and level or stopped
+-- levelling: paths turned, and level or stopped. A sheet: its length
 pub data Fact : Type 0 where
   blanked : Fact
   loadIs : ℕ → Fact
@@ -31,6 +33,7 @@ pub data Fact : Type 0 where
   isSound : Fact
   levelYes levelNo : Fact
   levelled stopped : ℕ → Fact
+  sheetIs : ℕ → Fact
 
 -- what a call answers. An arrival: the holder of the new job, the bench whose load rose, other jobs moved. A closing:
 -- the bench whose load fell, jobs moved
@@ -51,6 +54,7 @@ factValues levelYes = 1 ∷ []
 factValues levelNo = 0 ∷ []
 factValues (levelled paths) = paths ∷ 1 ∷ []
 factValues (stopped paths) = paths ∷ 0 ∷ []
+factValues (sheetIs length) = length ∷ []
 
 -- an answer in this paper's numbers: the refusal's number, or 0 and the values
 abbrev pub inNumbers : Answer → List ℕ

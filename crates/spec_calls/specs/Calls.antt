@@ -8,8 +8,9 @@ use lib.ListN.{length, drop}
 use Rattle.spec_lists.specs.Lists.{within}
 use Rattle.spec_table.specs.Board.{Board, holderOf, stands, load, heaviest, namesFit}
 use Rattle.spec_table.specs.Table.{bytesOf, sizesFit, fits, sound, decode, encode, blankTable}
+use Rattle.spec_sheet.specs.Sheet.{sheet}
 use Rattle.spec_sharing.specs.Sharing.{Change, arrive, close, level, Levelled, relevel, tightSet, inside}
-use Rattle.spec_calls.specs.Answers.{Fact, Outcome, Condition, refuse, unless, sizes, unsound, jobNumber, benchNumber, alreadyStanding, notStanding, height, listTooShort, arrived, closed, said, blanked, loadIs, heaviestIs, tightSetIs, isSound, levelYes, levelNo, levelled, stopped}
+use Rattle.spec_calls.specs.Answers.{Fact, Outcome, Condition, refuse, unless, sizes, unsound, jobNumber, benchNumber, alreadyStanding, notStanding, height, listTooShort, pageTooShort, arrived, closed, said, blanked, loadIs, heaviestIs, tightSetIs, isSound, levelYes, levelNo, levelled, stopped, sheetIs}
 
 -- what an arrival is given: the job's number, and the benches it names
 pub record Arriving : Type 0 where
@@ -21,13 +22,14 @@ pub record Closing : Type 0 where
   pub job : ℕ
 
 -- "the questions, which change no table byte": a bench's load, the heaviest load, the tight set of a height, the form
--- check, the level check
+-- check, the level check; 02: the wall sheet
 pub data Question : Type 0 where
   loadOf : ℕ → Question
   heaviestLoad : Question
   tightSetOf : ℕ → Question
   formCheck : Question
   levelCheck : Question
+  wallSheet : Question
 
 -- a call on a table; a levelling has its allowance, a question the bytes lent beside the table, [] for none
 pub data Call : Type 0 where
@@ -80,6 +82,7 @@ questionConditions (tightSetOf h) lent b =
     ∷ []
 questionConditions formCheck lent b = []
 questionConditions levelCheck lent b = []
+questionConditions wallSheet page b = refuse pageTooShort (ltb (length page) (length (sheet b))) ∷ []
 
 -- when each call is refused: its whole list, in the order that counts
 unfoldable pub refusals : Call → List ℕ → List Condition
@@ -95,6 +98,7 @@ questionOrder heaviestLoad = 1 ∷ 2 ∷ []
 questionOrder (tightSetOf h) = 1 ∷ 2 ∷ 7 ∷ 8 ∷ []
 questionOrder formCheck = 1 ∷ 2 ∷ []
 questionOrder levelCheck = 1 ∷ 2 ∷ []
+questionOrder wallSheet = 1 ∷ 2 ∷ 11 ∷ []
 
 -- the numbers that a call may be refused with, in the order that counts
 abbrev pub order : Call → List ℕ
@@ -152,6 +156,10 @@ tightSetTold b set list =
       lent = bytesOf set ++ drop (2 * length set) list;
     }
 
+-- 02: "The result is its length; bytes after it are untouched"
+unfoldable pub sheetTold : List ℕ → List ℕ → Told
+sheetTold text page = record { fact = sheetIs (length text); lent = text ++ drop (length text) page }
+
 -- what an accepted question tells of a board
 unfoldable pub asked : Question → List ℕ → Board → Told
 asked (loadOf x) lent b = telling (loadIs (load (b .holders) x)) lent
@@ -159,6 +167,7 @@ asked heaviestLoad lent b = telling (heaviestIs (heaviest b)) lent
 asked (tightSetOf h) lent b = tightSetTold b (tightSet b h) lent
 asked formCheck lent b = telling isSound lent
 asked levelCheck lent b = telling (cond (level b) levelYes levelNo) lent
+asked wallSheet page b = sheetTold (sheet b) page
 
 -- what is told, the table's bytes as they were
 abbrev pub answering : List ℕ → Told → Outcome

@@ -15,3 +15,4 @@ refusalOf code.Height = paper.height
 refusalOf code.ListTooShort = paper.listTooShort
 refusalOf code.CountFull = paper.countFull
 refusalOf code.Unreadable = paper.unreadable
+refusalOf code.PageTooShort = paper.pageTooShort

@@ -3,7 +3,7 @@ ghost use mathlib.Core.Path.{_≡_};
 ghost use Rattle.spec_calls.specs.Answers.{refusalNumber};
 ghost use Rattle.table_refusals.specs.Refusals.{refusalOf};
 
-// Why a call is refused, in the order of document 01's table.
+// Why a call is refused, in the order of document 01's table and of those that 02 adds to it.
 pub enum Refusal {
     Sizes,
     Unsound,
@@ -15,6 +15,7 @@ pub enum Refusal {
     ListTooShort,
     CountFull,
     Unreadable,
+    PageTooShort,
 }
 
 impl Refusal {
@@ -33,6 +34,7 @@ impl Refusal {
             Refusal::ListTooShort => 8,
             Refusal::CountFull => 9,
             Refusal::Unreadable => 10,
+            Refusal::PageTooShort => 11,
         }
     }
 }

@@ -91,6 +91,12 @@ cast-new-2 c = search needs
 new-requires-12 : tie.Need-new-requires-12
 new-requires-12 c κs = search needs
 
+enum-known-self-8 : tie.Need-enum-known-self-8
+enum-known-self-8 c = search needs
+
+new-requires-13 : tie.Need-new-requires-13
+new-requires-13 c κs = search needs
+
 returns : tie.Need-returns
 returns c = told (c .new .ensures) (c .before .enum-told .given .1) refl
 
@@ -127,6 +133,9 @@ returns-11 c = told (c .new11 .ensures) (c .before .before .self6 .given .1) ref
 returns-12 : tie.Need-returns-12
 returns-12 c = told (c .new12 .ensures) (c .before .before .self7 .given .1) refl
 
+returns-13 : tie.Need-returns-13
+returns-13 c = told (c .new13 .ensures) (c .before .before .self8 .given .1) refl
+
 pub values-spec : {M : Type 1} → statement M
 values-spec =
     tie.close
@@ -157,6 +166,8 @@ values-spec =
     enum-known-self-7
     cast-new-2
     new-requires-12
+    enum-known-self-8
+    new-requires-13
     returns
     returns-2
     returns-3
@@ -168,4 +179,5 @@ values-spec =
     returns-9
     returns-10
     returns-11
-    returns-12)
+    returns-12
+    returns-13)

@@ -1,0 +1,3 @@
+-- The sheet of a sound table, and the call's contract as demand 3 sees it.
+pub mod Asking
+pub mod Contracts
