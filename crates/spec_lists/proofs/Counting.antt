@@ -6,14 +6,14 @@ use native.Mathlib.Decide.{decLt, decLe}
 use mathlib.Core.Path.{_≡_, refl, sym, ap, _∙_}
 use mathlib.Core.Logic.{inl, inr, _≢_, _↔_}
 use mathlib.Core.Bool.{Bool, true, false, cond, _||_}
-use mathlib.Core.List.{List, [], _∷_, _++_}
+use mathlib.Core.List.{List, [], _∷_, _++_, flatMap}
 use lib.Dec.{T, eqb}
 use lib.ListN.{length, getD, set}
 use borrow.Author.Tests.{eq-eqb, ne-eqb}
-use Rattle.spec_lists.specs.Lists.{bit, within, count, member, distinct, total, greatest, filter, Each, In, nth, update}
+use Rattle.spec_lists.specs.Lists.{bit, within, count, member, distinct, range, total, greatest, filter, Each, In, nth, update}
 use Rattle.spec_lists.proofs.Tests.{Compared, same, other, compared, within-low, within-high}
 use Rattle.spec_lists.proofs.Elements.{in-each}
-use Rattle.spec_lists.proofs.NumberLists.{member-in, in-member, distinct-head, distinct-tail}
+use Rattle.spec_lists.proofs.NumberLists.{member-in, in-member, distinct-head, distinct-tail, flatMap-next}
 
 -- bits
 
@@ -109,6 +109,12 @@ total-tight (suc n) f g h e x l u = go (total-tight n f g before) (compared x (s
     go : (total n f ≡ total n g → (y : ℕ) → 1 ≤ y → y ≤ n → f y ≡ g y) → {z : Bool} → Compared x (suc n) z → f x ≡ g x
     go ih (same q) = omega (arith, last, total-le n f g before, ap f q, ap g q)
     go ih (other d) = ih (omega (arith, last, total-le n f g before)) x l (omega arith)
+
+-- lists for 1 to n, one after the other: what is counted of each adds up
+pub total-flatMap : {A : Type 0} (sizeOf : List A → ℕ) → sizeOf [] ≡ 0 → ((k l : List A) → sizeOf (k ++ l) ≡ sizeOf k + sizeOf l) → (f : ℕ → List A) (n : ℕ) → sizeOf (flatMap f (range 1 n)) ≡ total n (λ x. sizeOf (f x))
+unfolding flatMap
+total-flatMap sizeOf none join f zero = none
+total-flatMap sizeOf none join f (suc n) = omega (arith, ap sizeOf (flatMap-next f n), join (flatMap f (range 1 n)) (f (suc n)), total-flatMap sizeOf none join f n)
 
 -- how often x stands in a list, place by place
 pub count-total : (x : ℕ) (l : List ℕ) → count x l ≡ total (length l) (λ i. bit (eqb (nth l i 0) x))

@@ -4,9 +4,9 @@ use native.Mathlib.Omega.{arith}
 use mathlib.Core.Path.{_≡_, refl, sym, ap, subst, _∙_}
 use mathlib.Core.Logic.{_⊎_, inl, inr, _≢_}
 use mathlib.Core.Bool.{Bool, true, false, cond, not}
-use mathlib.Core.List.{List, [], _∷_, _++_, map, flatMap}
+use mathlib.Core.List.{List, [], _∷_, _++_, map, flatMap, append-assoc}
 use lib.Dec.{T}
-use lib.ListN.{length, getD, set, replicate, length-set, List·getD-map}
+use lib.ListN.{length, getD, set, take, drop, replicate, length-set, List·getD-map}
 use lib.Seq.{getD-set-same, getD-set-other, set-set, set-getD}
 use Rattle.spec_lists.specs.Lists.{filter, all, Each, In, empty, nth, update, enumerate}
 use Rattle.spec_lists.proofs.Tests.{true→T, both, left, right}
@@ -110,6 +110,16 @@ module _ {A : Type 0} where
   pub each-replicate : (P : A → Type 0) (n : ℕ) (a : A) → P a → Each P (replicate n a)
   each-replicate P zero a p = tt
   each-replicate P (suc n) a p = (p, each-replicate P n a p)
+
+  pub each-take : (P : A → Type 0) (n : ℕ) (l : List A) → Each P l → Each P (take n l)
+  each-take P zero l e = tt
+  each-take P (suc n) [] e = tt
+  each-take P (suc n) (x ∷ l) e = (e .0, each-take P n l (e .1))
+
+  pub each-drop : (P : A → Type 0) (n : ℕ) (l : List A) → Each P l → Each P (drop n l)
+  each-drop P zero l e = e
+  each-drop P (suc n) [] e = tt
+  each-drop P (suc n) (x ∷ l) e = each-drop P n l (e .1)
 
   pub each-getD : (P : A → Type 0) (l : List A) (i : ℕ) (d : A) → P d → Each P l → P (getD l i d)
   each-getD P [] i d p e = p
@@ -268,3 +278,10 @@ module _ {A B : Type 0} where
       go : (In b (flatMap f l) → (a : A) × In a l × In b (f a)) → In b (f x) ⊎ In b (flatMap f l) → (a : A) × In a (x ∷ l) × In b (f a)
       go ih (inl j) = (x, inl refl, j)
       go ih (inr j) = let r = ih j in (r .0, inr (r .1), r .2)
+
+  -- the lists for two lists one after the other
+  pub flatMap-append : (f : A → List B) (k l : List A) → flatMap f (k ++ l) ≡ flatMap f k ++ flatMap f l
+  unfolding flatMap
+  flatMap-append f [] l = refl
+  flatMap-append f (x ∷ k) l =
+      ap (λ (m : List B). f x ++ m) (flatMap-append f k l) ∙ sym (append-assoc (f x) (flatMap f k) (flatMap f l))

@@ -1,1 +1,2 @@
 -- What is proved of the sheet.
+pub mod Lines

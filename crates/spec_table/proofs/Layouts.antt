@@ -6,7 +6,7 @@ use native.Mathlib.Nat.{add-zero}
 use native.Mathlib.Numerals.{add-one}
 use mathlib.Core.Path.{_≡_, refl, sym, ap, subst, _∙_}
 use mathlib.Core.Logic.{inl, inr}
-use mathlib.Core.Bool.{Bool, true, false, cond, not}
+use mathlib.Core.Bool.{Bool, cond, not}
 use mathlib.Core.List.{List, [], _∷_, map}
 use lib.Dec.{T, eqb}
 use lib.ListN.{length, getD, drop}
@@ -15,11 +15,12 @@ use borrow.Author.Tests.{eq-eqb, ne-eqb}
 use Rattle.spec_lists.specs.Lists.{bit, within, count, range, filter, all, Each, In, empty, nth, enumerate}
 use Rattle.spec_table.specs.Board.{Board, Valid, jobsHeld, mayHold, Shares, namesFit}
 use Rattle.spec_table.specs.Table.{Entry, vacant, filled, holderIn, follow, chains, standingIn, entryFits, placed, onlyStanding, formed, boardOf, firstHeld, positionOf, entryFor, entriesFrom, layoutOf}
-use Rattle.spec_lists.proofs.Counting.{bit-same, bit-other, filter-counts}
+use Rattle.spec_lists.proofs.Counting.{filter-counts}
 use Rattle.spec_lists.proofs.Tests.{true→T, both, five, Compared, same, other, compared, T-eqb, eqb-T, within-low, within-both}
 use Rattle.spec_lists.proofs.Elements.{filter-in, in-all, map-in}
 use Rattle.spec_lists.proofs.NumberLists.{member-in, range-low}
 use Rattle.spec_table.proofs.Named.{length-shares, fit-bench}
+use Rattle.spec_table.proofs.Held.{count-later, count-here, count-before}
 
 -- a valid board's jobs one by one: the benches that each names fit, and one of them holds it
 data Rows (benches : ℕ) : List (List ℕ) → List ℕ → Type 0 where
@@ -181,22 +182,6 @@ eqb-sym x y = go (compared x y)
     go : {z : Bool} → Compared x y z → z ≡ eqb y x
     go (same e) = sym (eq-eqb y x (sym e))
     go (other d) = sym (ne-eqb y x (λ e. d (sym e)))
-
--- another number in front, put there or not, changes no count
-count-later : (z : Bool) (i j : ℕ) (l : List ℕ) → (i ≡ j → ⊥) → count j (cond z (i ∷ l) l) ≡ count j l
-count-later true i j l d = omega (arith, bit-other i j d)
-count-later false i j l d = refl
-
--- a number in front of a list without it counts as often as it is put there
-count-here : (z : Bool) (i : ℕ) (l : List ℕ) → count i l ≡ 0 → count i (cond z (i ∷ l) l) ≡ bit z
-count-here true i l e = omega (arith, bit-same i i refl)
-count-here false i l e = e
-
--- no job before number i is among those from i on
-count-before : (j i x : ℕ) (holders : List ℕ) → j < i → count j (jobsHeld i x holders) ≡ 0
-count-before j i x [] l = refl
-count-before j i x (h ∷ holders) l =
-    count-later (eqb h x) i j (jobsHeld (suc i) x holders) (λ e. omega arith) ∙ count-before j (suc i) x holders (omega arith)
 
 -- a filled record of a job fits
 fits-entry : (benches : ℕ) (names : List ℕ) (h n : ℕ) → T (namesFit benches names) → T (mayHold names h) → T (filled (entryFor names h n)) → T (entryFits benches (entryFor names h n))
