@@ -8,7 +8,7 @@ use mathlib.Core.Logic.{inl, inr, _≢_, _↔_}
 use mathlib.Core.Bool.{Bool, true, false, cond, _||_}
 use mathlib.Core.List.{List, [], _∷_, _++_, flatMap}
 use lib.Dec.{T, eqb}
-use lib.ListN.{length, getD, set}
+use lib.ListN.{length, getD, set, replicate}
 use borrow.Author.Tests.{eq-eqb, ne-eqb}
 use Rattle.spec_lists.specs.Lists.{bit, within, count, member, distinct, range, total, greatest, filter, Each, In, nth, update}
 use Rattle.spec_lists.proofs.Tests.{Compared, same, other, compared, within-low, within-high}
@@ -49,6 +49,11 @@ pub count-append : (x : ℕ) (k l : List ℕ) → count x (k ++ l) ≡ count x k
 count-append x [] l = omega arith
 count-append x (y ∷ k) l = omega (arith, count-append x k l)
 
+-- in equal numbers each of them, or none
+pub count-replicate : (x n a : ℕ) → count x (replicate n a) ≡ n * bit (eqb a x)
+count-replicate x zero a = omega arith
+count-replicate x (suc n) a = omega (arith, count-replicate x n a)
+
 pub distinct-count : (l : List ℕ) → T (distinct l) → (x : ℕ) → count x l ≤ 1
 distinct-count [] t x = omega arith
 distinct-count (y ∷ l) t x = go (distinct-count l (distinct-tail y l t) x) (compared y x)
@@ -72,6 +77,11 @@ total-first (suc n) f = omega (arith, total-first n f)
 pub total-times : (n h : ℕ) (f : ℕ → ℕ) → total n (λ x. h * f x) ≡ h * total n f
 total-times zero h f = omega arith
 total-times (suc n) h f = omega (arith, total-times n h f, mul-add h (total n f) (f (suc n)))
+
+-- the same value for all
+pub total-each : (n h : ℕ) → total n (λ x. h) ≡ n * h
+total-each zero h = omega arith
+total-each (suc n) h = omega (arith, total-each n h)
 
 pub total-at : (n : ℕ) (f : ℕ → ℕ) (y : ℕ) → 1 ≤ y → y ≤ n → f y ≤ total n f
 total-at zero f y l h = omega arith

@@ -1,2 +1,3 @@
 -- What is proved of the sheet.
 pub mod Lines
+pub mod Longest

@@ -74,7 +74,7 @@ lines-length (suc k) head js h e u =
 
 module _ (b : Board) (s : Storable b) where
   -- there are at most 4,000 job numbers ..
-  jobs-most : length (b .holders) ≤ mostJobs
+  pub jobs-most : length (b .holders) ≤ mostJobs
   jobs-most =
       omega (arith, within-high 1 mostJobs (length (b .named)) (s .jobs), length-shares (b .named) (b .holders) (s .valid .shares))
 
