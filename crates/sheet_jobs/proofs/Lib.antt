@@ -1,0 +1,2 @@
+-- How the lists come about.
+pub mod Listing
