@@ -1,18 +1,18 @@
 -- Jobs listed by their holders, from the last down: one more, and all of them.
 use Prim.Native.Nat.{ℕ, zero, suc, _+_, _-_, _≤_, _<_}
 use native.Mathlib.Omega.{arith}
-use mathlib.Core.Path.{_≡_, sym, ap, subst, _∙_}
+use mathlib.Core.Path.{_≡_, sym, _∙_}
 use mathlib.Core.Logic.{inl, inr}
 use mathlib.Core.Bool.{Bool, cond}
-use mathlib.Core.List.{List, [], _∷_}
+use mathlib.Core.List.{List, _∷_}
 use lib.Dec.{T}
 use lib.ListN.{length, getD, set, drop, replicate, length-set, length-replicate, getD-replicate}
 use lib.Seq.{drop-cons, drop-length, getD-set-same, getD-set-other}
 use Rattle.spec_lists.specs.Lists.{within, In}
 use Rattle.spec_lists.proofs.Tests.{Compared, same, other, compared, within-high, within-both}
 use Rattle.spec_lists.proofs.Counting.{count-some}
-use Rattle.spec_table.specs.Board.{Board, jobsHeld, holderOf}
-use Rattle.spec_table.specs.Table.{mostBenches, mostJobs, Storable, decode}
+use Rattle.spec_table.specs.Board.{Board, jobsHeld}
+use Rattle.spec_table.specs.Table.{mostBenches, mostJobs, decode}
 use Rattle.spec_table.proofs.Layouts.{count-before}
 use Rattle.table_size.specs.Sizes.{SoundTable}
 use Rattle.table_size.specs.declared.Size.{Size}
@@ -20,7 +20,9 @@ use Rattle.table_board.specs.BoardView.{HolderOf}
 use Rattle.table_board.proofs.RecordsAsBoard.{holders-long}
 use Rattle.sheet_jobs.specs.JobLists.{ListFrom, listEnd, listJob, JobLists}
 
--- another job after job i changes no list without job i
+-- lists in an array
+
+-- another next job at job i changes no list without job i
 list-apart : {next js : List ℕ} {j : ℕ} (i n : ℕ) → ListFrom next j js → (In i js → ⊥) → ListFrom (set next i n) j js
 list-apart i n listEnd d = listEnd
 list-apart {next} i n (listJob {j} {js} w l) d =
@@ -30,6 +32,8 @@ list-apart {next} i n (listJob {j} {js} w l) d =
 list-front : {next js : List ℕ} {n : ℕ} (j : ℕ) → T (within 1 mostJobs j) → length next ≡ mostJobs + 1 → ListFrom next n js → (In j js → ⊥) → ListFrom (set next j n) j (j ∷ js)
 list-front {next} {js} {n} j w e l d =
     listJob {j = j} {js = js} w (rw (getD-set-same next j n 0 (omega (arith, within-high 1 mostJobs j w))) (list-apart j n l d))
+
+-- one turn of the listing
 
 -- the jobs after job j that bench x holds
 abbrev later : Board → ℕ → ℕ → List ℕ
@@ -47,7 +51,7 @@ pub record ListedAfter (b : Board) (s : Size) (j : ℕ) (head next : List ℕ) :
   pub nexts-long : length next ≡ mostJobs + 1
 
 module _ {t : List ℕ} {s : Size} (z : SoundTable t s) {head next : List ℕ} where
-  -- so do zeros where no job comes after it ..
+  -- at first none is listed ..
   pub listing-start : head ≡ replicate (mostBenches + 1) 0 → length next ≡ mostJobs + 1 → ListedAfter (decode t) s (s .jobs) head next
   listing-start e n =
       record {
@@ -63,7 +67,7 @@ module _ {t : List ℕ} {s : Size} (z : SoundTable t s) {head next : List ℕ} w
       small : (x : ℕ) → T (within 1 (b .benches) x) → x < mostBenches + 1
       small x w = omega (arith, within-high 1 (b .benches) x w, z .size .board-benches, z .size .limits .benches-most)
 
-  -- .. job j goes before those of its holder ..
+  -- .. each next one goes before those that its holder has ..
   pub listing-turn : {j h : ℕ} → 0 < j → ListedAfter (decode t) s j head next → HolderOf t s j h → ListedAfter (decode t) s (j - 1) (set head h j) (set next j (getD head h 0))
   listing-turn {j = zero} l a o = absurd (omega arith)
   listing-turn {j = suc j} {h} l a o =
@@ -93,6 +97,6 @@ module _ {t : List ℕ} {s : Size} (z : SoundTable t s) {head next : List ℕ} w
           rw (getD-set-other head h x (suc j) 0 (λ e. d (sym e)))
           (list-apart (suc j) (getD head h 0) (a .held x w) (later-without b (suc j) x))
 
--- .. and in the end all are listed
+-- .. and in the end all are
 pub listing-end : {b : Board} {s : Size} {head next : List ℕ} → ListedAfter b s 0 head next → JobLists b head next
 listing-end a = record { held = a .held; heads-long = a .heads-long; nexts-long = a .nexts-long }

@@ -1,5 +1,4 @@
 -- The loop's invariant: the jobs above j are listed by their holders. The measure is j.
-use native.Mathlib.Omega.{arith}
 use mathlib.Core.Path.{_≡_}
 use borrow.Author.Needs.{needs}
 use Rattle.spec_table.specs.Table.{decode}
