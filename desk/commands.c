@@ -46,6 +46,8 @@ const char *refusal_words(uint32_t refusal)
         return "height 0, or above the heaviest load";
     case JOBBOARD_LIST_TOO_SHORT:
         return "list shorter than the set's words";
+    case JOBBOARD_PAGE_TOO_SHORT:
+        return "page shorter than the sheet";
     default:
         return "unknown refusal";
     }
@@ -199,6 +201,18 @@ static uint32_t run_show(uint8_t *table, size_t length, const struct numbers *n,
     return refusal;
 }
 
+/* Writes the sheet as it is: it is text already. */
+static uint32_t run_sheet(uint8_t *table, size_t length, const struct numbers *n, struct report *report)
+{
+    uint32_t sheet;
+    (void)n;
+    uint8_t *page = (uint8_t *)report->text + report->used;
+    uint32_t refusal = jobboard_sheet(table, length, page, sizeof report->text - report->used, &sheet);
+    if (refusal == JOBBOARD_OK)
+        report->used += sheet;
+    return refusal;
+}
+
 static const struct command commands[] = {
     {"new", 2, 2, CREATES, run_new, "new BENCHES JOBS      make the file, with a board without jobs; a file that exists is left alone"},
     {"renew", 2, 2, CREATES_ANEW, run_new, "renew BENCHES JOBS    the same, in place of the file if there is one: what it held is lost"},
@@ -208,6 +222,7 @@ static const struct command commands[] = {
     {"heaviest", 0, 0, ASKS, run_heaviest, "heaviest              how many the heaviest bench holds"},
     {"tight", 1, 1, ASKS, run_tight, "tight HEIGHT          the benches that keep each other at that height"},
     {"show", 0, 1, ASKS, run_show, "show [BENCH]          the jobs of each bench, or of one"},
+    {"sheet", 0, 0, ASKS, run_sheet, "sheet                 the wall sheet, to print and pin up: bench, load and jobs in columns"},
     {"check", 0, 0, ASKS, run_check, "check                 whether the board is sound"},
     {"level-check", 0, 0, ASKS, run_level_check, "level-check           whether the board is level: nothing to hand along for the better"},
     {"level", 0, 1, CHANGES, run_level, "level [PATHS]         hand jobs along, path by path, until the board is level or so many are turned"},

@@ -9,20 +9,22 @@
  * WHAT A CALL RETURNS. JOBBOARD_OK (0), or the number of a refusal (below). Any bytes, any length and any numbers may be passed: each
  * is answered or refused. Where several refusals apply, the lowest number is returned; each call lists its own in that order.
  * Results go through pointers to numbers, which are written and never read: they need no value before the call. A refused call changes
- * nothing: no byte of the table or the list, and no result.
+ * nothing: no byte of the table, the list or the page, and no result.
  *
  * MEMORY. All of it is the caller's. A call reads and writes only what it is lent, for as long as it runs; it allocates nothing and
  * keeps no pointer. For each call:
- * - `table` may be NULL where `table_bytes` is 0, and `list` where `list_bytes` is 0; no other pointer may be NULL;
- * - `table` points to `table_bytes` bytes, `list` to `list_bytes` bytes, at any alignment; each result is an aligned uint32_t of its own;
- * - table, list and results must not overlap one another.
+ * - `table` may be NULL where `table_bytes` is 0, `list` where `list_bytes` is 0, and `page` where `page_bytes` is 0; no other pointer may
+ *   be NULL;
+ * - `table` points to `table_bytes` bytes, `list` to `list_bytes` bytes, `page` to `page_bytes` bytes, at any alignment; each result is an
+ *   aligned uint32_t of its own;
+ * - table, list, page and results must not overlap one another.
  *
  * STACK. A call needs less than JOBBOARD_STACK_BYTES bytes of stack. The greatest need is about 43,000 bytes, of a tight set on a table of
  * 500 benches and 4,000 jobs (x86-64; each run of the tests measures it again).
  *
  * THREADS. There is no state between calls. Any number of threads may work on different tables at once, and may ask questions (those
- * with a const table) of the same one at once, each with its own list and results. While a call changes a table, no other call may use
- * that table: the caller's lock sees to it.
+ * with a const table) of the same one at once, each with its own list, page and results. While a call changes a table, no other call may
+ * use that table: the caller's lock sees to it.
  *
  * FILES. A table is portable: its words have 16 bits, low byte first, on every machine. It may be written to a file as it is, and
  * read back anywhere; jobboard_check says whether what was read is a table still. Every call but jobboard_blank makes the same check,
@@ -60,6 +62,12 @@ extern "C" {
 /* A list of this length is long enough for every tight set: 1,000 bytes. */
 #define JOBBOARD_MOST_LIST_BYTES (2 * (size_t)JOBBOARD_MOST_BENCHES)
 
+/* A line of a wall sheet: 68 characters and a line feed. */
+#define JOBBOARD_SHEET_LINE_BYTES 69
+
+/* A page of this length is long enough for every wall sheet: 833 lines, 57,477 bytes. One bench with 4,000 jobs and 499 without need it. */
+#define JOBBOARD_MOST_PAGE_BYTES (833 * (size_t)JOBBOARD_SHEET_LINE_BYTES)
+
 /* More than the stack that any call needs. */
 #define JOBBOARD_STACK_BYTES 65536
 
@@ -78,7 +86,8 @@ enum jobboard_refusal {
     JOBBOARD_HEIGHT = 7,           /* height 0, or above the heaviest load */
     JOBBOARD_LIST_TOO_SHORT = 8,   /* list shorter than the set's words */
     JOBBOARD_COUNT_FULL = 9,       /* a tally's count would pass 4,294,967,295; no call here returns it */
-    JOBBOARD_UNREADABLE = 10       /* the counter program's: line not readable; no call here returns it */
+    JOBBOARD_UNREADABLE = 10,      /* the counter program's: line not readable; no call here returns it */
+    JOBBOARD_PAGE_TOO_SHORT = 11   /* page shorter than the wall sheet */
 };
 
 /*
@@ -160,6 +169,31 @@ uint32_t jobboard_heaviest(const uint8_t *table, size_t table_bytes, uint32_t *l
  */
 uint32_t jobboard_tight_set(const uint8_t *table, size_t table_bytes, uint32_t height, uint8_t *list, size_t list_bytes,
                             uint32_t *benches, uint32_t *jobs);
+
+/*
+ * Wall sheet: the board as text to pin up, from which each job's bench can be read. It is written at the beginning of `page`; the page
+ * beyond it is untouched. Every line has 68 characters and a line feed, JOBBOARD_SHEET_LINE_BYTES bytes; the characters are digits and
+ * blanks. Its columns are, each number right-aligned:
+ *
+ *     1 to 3      the bench
+ *     4           blank
+ *     5 to 8      the bench's load
+ *     9 to 68     up to twelve of its jobs, rising, in 5 columns each; the remainder blanks
+ *
+ * Benches rise from 1 to B. A bench with more than twelve jobs goes on in the next line, whose first 8 columns are blank; a bench without
+ * jobs has one line. Bench 1 with 14 jobs, bench 2 without a job and bench 3 with two; the bars stand for the sheet's edges and are not
+ * written:
+ *
+ *     |  1   14    1    2    3    5    8   13   21   34   55   89  144  233|
+ *     |         377 4000                                                   |
+ *     |  2    0                                                            |
+ *     |  3    2    4    6                                                  |
+ *
+ * Result: *length is the sheet's length in bytes. The page must have at least so many; a page of JOBBOARD_MOST_PAGE_BYTES always has. A
+ * shorter page is refused, and a refused call gives no length. No zero byte is written behind the text: *length is where it ends.
+ * Refused: JOBBOARD_SIZES, JOBBOARD_UNSOUND, JOBBOARD_PAGE_TOO_SHORT.
+ */
+uint32_t jobboard_sheet(const uint8_t *table, size_t table_bytes, uint8_t *page, size_t page_bytes, uint32_t *length);
 
 #ifdef __cplusplus
 }

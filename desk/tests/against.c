@@ -1,6 +1,6 @@
 /*
- * Random calls through the archive and through reference.c, on copies of the same table and list: answers, tables and lists must be the
- * same, byte by byte. Boards are mostly small, now and then 500 benches and 4,000 jobs; level and not; chains in any order; some tables
+ * Random calls through the archive and through reference.c, on copies of the same table, list and page: answers, tables, lists and pages
+ * must be the same, byte by byte, and a page read by columns must name each job's holder. Boards are mostly small, now and then 500 benches and 4,000 jobs; level and not; chains in any order; some tables
  * are damaged, some lengths wrong, some numbers out of range.
  *
  * Arguments: the seed, the number of calls.
@@ -17,7 +17,7 @@
 
 static uint64_t seed;
 static uint32_t calls_made;
-static uint32_t returned[11];     /* how often each number was */
+static uint32_t returned[12];     /* how often each number was */
 static uint32_t accepted[KINDS];  /* how often each call was accepted */
 static uint32_t handed;           /* arrivals and closings that handed jobs along */
 
@@ -115,13 +115,34 @@ static uint32_t random_bench(struct random *r, const struct table *t)
     return best;
 }
 
+/* Picks a page's length: that of the sheet, one less, none, a longer one or any. */
+static size_t random_page(struct random *r, const struct table *t)
+{
+    static uint8_t page[JOBBOARD_MOST_PAGE_BYTES];
+    static struct table copy;
+    copy = *t;
+    struct answer a = reference_call(&(struct call){SHEET, {0, 0, 0}, page, sizeof page}, copy.bytes, copy.length);
+    switch (random_below(r, 6)) {
+    case 0:
+        return a.values[0] - 1;
+    case 1:
+        return 0;
+    case 2:
+        return a.values[0] + random_within(r, 1, 200);
+    case 3:
+        return random_below(r, JOBBOARD_MOST_PAGE_BYTES + 1);
+    default:
+        return a.values[0];
+    }
+}
+
 static struct call random_call(struct random *r, const struct table *t)
 {
     /* Arrivals and closings are what boards are for. */
-    static const enum kind often[] = {ARRIVAL,     ARRIVAL, ARRIVAL,  CLOSING,   CLOSING,   CLOSING,
-                                      LEVEL_CHECK, LOAD,    HEAVIEST, TIGHT_SET, TIGHT_SET, CHECK};
+    static const enum kind often[] = {ARRIVAL, ARRIVAL,  ARRIVAL,   CLOSING,   CLOSING, CLOSING, LEVEL_CHECK,
+                                      LOAD,    HEAVIEST, TIGHT_SET, TIGHT_SET, CHECK,   SHEET};
     uint32_t benches = word_at(t->bytes, 0), jobs = word_at(t->bytes, 1);
-    struct call call = {often[random_below(r, 12)], {0, 0, 0}, NULL, 0};
+    struct call call = {often[random_below(r, 13)], {0, 0, 0}, NULL, 0};
     if (random_below(r, 20) == 0)
         call.kind = random_below(r, 4) == 0 ? BLANK : LEVELLING;
     if (call.kind == BLANK) {
@@ -133,7 +154,9 @@ static struct call random_call(struct random *r, const struct table *t)
         call.numbers[0] = random_number(r, benches);
     } else if (call.kind == TIGHT_SET) {
         call.numbers[0] = random_number(r, 1 + jobs / benches);
-        call.list_bytes = random_below(r, 3) == 0 ? random_below(r, 2 * benches + 2) : 2 * benches + random_below(r, 4);
+        call.lent_bytes = random_below(r, 3) == 0 ? random_below(r, 2 * benches + 2) : 2 * benches + random_below(r, 4);
+    } else if (call.kind == SHEET) {
+        call.lent_bytes = random_page(r, t);
     } else if (call.kind == ARRIVAL || call.kind == CLOSING) {
         call.numbers[0] = random_job(r, t, call.kind == CLOSING);
         call.numbers[1] = random_bench(r, t);
@@ -186,33 +209,42 @@ static void stop(const struct call *call, struct answer a, struct answer b, cons
     fail("against: seed %" PRIu64 ", call %u: %s: %s: archive %s, reference %s", seed, (unsigned)calls_made, text, what, first, second);
 }
 
+static void count(const struct call *call, struct answer a)
+{
+    returned[a.returned]++;
+    if (a.returned != JOBBOARD_OK)
+        return;
+    accepted[call->kind]++;
+    handed += (call->kind == ARRIVAL && a.values[2] > 0) || (call->kind == CLOSING && a.values[1] > 0);
+}
+
 /* Makes one call through both, on copies of exactly the lent length; t is what the archive left. */
 static void compare(struct call call, struct table *t)
 {
-    uint8_t *lists[2], *table = copy_of(t->bytes, t->length), *other = copy_of(t->bytes, t->length);
+    uint8_t *lent[2], *table = copy_of(t->bytes, t->length), *other = copy_of(t->bytes, t->length);
     for (int i = 0; i < 2; i++) {
-        lists[i] = memory(call.list_bytes);
-        memset(lists[i], 0xa5, call.list_bytes);
+        lent[i] = memory(call.lent_bytes);
+        memset(lent[i], 0xa5, call.lent_bytes);
     }
     calls_made++;
-    call.list = lists[0];
+    call.lent = lent[0];
     struct answer a = make_call(&call, table, t->length);
-    call.list = lists[1];
+    call.lent = lent[1];
     struct answer b = reference_call(&call, other, t->length);
     if (!same_answer(a, b))
         stop(&call, a, b, "other answer");
     if (memcmp(table, other, t->length) != 0)
         stop(&call, a, b, "other table");
-    if (memcmp(lists[0], lists[1], call.list_bytes) != 0)
-        stop(&call, a, b, "other list");
+    if (memcmp(lent[0], lent[1], call.lent_bytes) != 0)
+        stop(&call, a, b, call.kind == SHEET ? "other page" : "other list");
+    if (call.kind == SHEET && a.returned == JOBBOARD_OK && !sheet_names_holders(lent[0], a.values[0], table))
+        stop(&call, a, b, "the page read back has other holders than the table");
     memcpy(t->bytes, table, t->length);
-    returned[a.returned]++;
-    accepted[call.kind] += a.returned == JOBBOARD_OK;
-    handed += a.returned == JOBBOARD_OK && ((call.kind == ARRIVAL && a.values[2] > 0) || (call.kind == CLOSING && a.values[1] > 0));
+    count(&call, a);
     free(table);
     free(other);
-    free(lists[0]);
-    free(lists[1]);
+    free(lent[0]);
+    free(lent[1]);
 }
 
 /* Makes calls on a board, one after the other, some on a damaged copy. */
@@ -256,8 +288,11 @@ int main(int argc, char **argv)
     while (calls_made + 1 < calls)
         run_board(&r, random_within(&r, 5, 60));
     level_largest(&r);
-    printf("against: %u calls, same answers, tables and lists; %u handed jobs along; refused", (unsigned)calls_made, (unsigned)handed);
-    for (int n = 1; n <= 8; n++) {
+    printf("against: %u calls, same answers, tables, lists and pages; %u handed jobs along; %u pages read back; refused",
+           (unsigned)calls_made, (unsigned)handed, (unsigned)accepted[SHEET]);
+    for (int n = 1; n <= 11; n++) {
+        if (n == JOBBOARD_COUNT_FULL || n == JOBBOARD_UNREADABLE)
+            continue;
         printf("%s %u with %d", n == 1 ? "" : ",", (unsigned)returned[n], n);
         if (returned[n] == 0)
             fail("against: no call was refused with %d", n);

@@ -96,7 +96,7 @@ static void expect_set(struct table *t, uint32_t height, const uint32_t *set, ui
     expect(t, call, refused(JOBBOARD_LIST_TOO_SHORT));
     if (list[0] != 0xa5)
         fail("boards: %s: a refused tight set wrote its list", board);
-    call.list_bytes++;
+    call.lent_bytes++;
     expect(t, call, two(benches, jobs));
     for (uint32_t i = 0; i < benches; i++)
         if (word_at(list, i) != set[i])

@@ -24,6 +24,7 @@ static const struct {
     [LOAD] = {"load", 1, 1, false, {JOBBOARD_SIZES, JOBBOARD_UNSOUND, JOBBOARD_BENCH_NUMBER}},
     [HEAVIEST] = {"heaviest", 0, 1, false, {JOBBOARD_SIZES, JOBBOARD_UNSOUND}},
     [TIGHT_SET] = {"tight_set", 1, 2, false, {JOBBOARD_SIZES, JOBBOARD_UNSOUND, JOBBOARD_HEIGHT, JOBBOARD_LIST_TOO_SHORT}},
+    [SHEET] = {"sheet", 0, 1, false, {JOBBOARD_SIZES, JOBBOARD_UNSOUND, JOBBOARD_PAGE_TOO_SHORT}},
 };
 
 static uint32_t pass_on(const struct call *call, uint8_t *table, size_t bytes, uint32_t *v)
@@ -47,7 +48,9 @@ static uint32_t pass_on(const struct call *call, uint8_t *table, size_t bytes, u
     case HEAVIEST:
         return jobboard_heaviest(table, bytes, &v[0]);
     case TIGHT_SET:
-        return jobboard_tight_set(table, bytes, n[0], call->list, call->list_bytes, &v[0], &v[1]);
+        return jobboard_tight_set(table, bytes, n[0], call->lent, call->lent_bytes, &v[0], &v[1]);
+    case SHEET:
+        return jobboard_sheet(table, bytes, call->lent, call->lent_bytes, &v[0]);
     default:
         fail("no such call: %d", (int)call->kind);
     }
@@ -78,6 +81,13 @@ bool changes_table(enum kind kind)
     return shapes[kind].changes;
 }
 
+size_t bytes_written(enum kind kind, struct answer a)
+{
+    if (a.returned != JOBBOARD_OK)
+        return 0;
+    return kind == TIGHT_SET ? 2 * (size_t)a.values[0] : kind == SHEET ? a.values[0] : 0;
+}
+
 bool may_refuse(enum kind kind, uint32_t number)
 {
     for (int i = 0; i < 5; i++)
@@ -91,8 +101,8 @@ void describe_call(const struct call *call, char text[DESCRIPTION])
     int used = snprintf(text, DESCRIPTION, "%s", shapes[call->kind].name);
     for (int i = 0; i < shapes[call->kind].numbers; i++)
         used += snprintf(text + used, DESCRIPTION - (size_t)used, " %u", (unsigned)call->numbers[i]);
-    if (call->kind == TIGHT_SET)
-        snprintf(text + used, DESCRIPTION - (size_t)used, " (list of %zu bytes)", call->list_bytes);
+    if (call->kind == TIGHT_SET || call->kind == SHEET)
+        snprintf(text + used, DESCRIPTION - (size_t)used, " (%s of %zu bytes)", call->kind == SHEET ? "page" : "list", call->lent_bytes);
 }
 
 void describe_answer(struct answer a, char text[DESCRIPTION])

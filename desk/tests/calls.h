@@ -1,4 +1,4 @@
-/* One shape for the nine calls, so that a test can make any of them, compare its answer and look at what it left. */
+/* One shape for the ten calls, so that a test can make any of them, compare its answer and look at what it left. */
 #ifndef CALLS_H
 #define CALLS_H
 
@@ -9,13 +9,13 @@
 /* Stands in a result before the call; no call gives it. */
 #define UNSET 0xa5a5a5a5u
 
-enum kind { BLANK, CHECK, ARRIVAL, CLOSING, LEVELLING, LEVEL_CHECK, LOAD, HEAVIEST, TIGHT_SET, KINDS };
+enum kind { BLANK, CHECK, ARRIVAL, CLOSING, LEVELLING, LEVEL_CHECK, LOAD, HEAVIEST, TIGHT_SET, SHEET, KINDS };
 
 struct call {
     enum kind kind;
     uint32_t numbers[3]; /* in the order of the call's own */
-    uint8_t *list;       /* lent to a tight set, else not looked at */
-    size_t list_bytes;
+    uint8_t *lent;       /* a tight set's list, a sheet's page; else not looked at */
+    size_t lent_bytes;
 };
 
 struct answer {
@@ -30,6 +30,9 @@ bool same_answer(struct answer a, struct answer b);
 
 /* Tells whether this call changes tables; the others ask. */
 bool changes_table(enum kind kind);
+
+/* Tells how many bytes of what it was lent the call has written, by its answer. */
+size_t bytes_written(enum kind kind, struct answer a);
 
 /* Tells whether this number is among the refusals that the header lists for the call. */
 bool may_refuse(enum kind kind, uint32_t number);

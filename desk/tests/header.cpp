@@ -6,7 +6,7 @@
 
 int main()
 {
-    std::vector<uint8_t> table(JOBBOARD_TABLE_BYTES(2, 3)), list(JOBBOARD_MOST_LIST_BYTES);
+    std::vector<uint8_t> table(JOBBOARD_TABLE_BYTES(2, 3)), list(JOBBOARD_MOST_LIST_BYTES), page(JOBBOARD_MOST_PAGE_BYTES);
     uint32_t a = 0, b = 0, c = 0;
     bool good = jobboard_blank(table.data(), table.size(), 2, 3) == JOBBOARD_OK;
     good = good && jobboard_check(table.data(), table.size()) == JOBBOARD_OK;
@@ -14,10 +14,11 @@ int main()
     good = good && jobboard_load(table.data(), table.size(), 1, &a) == JOBBOARD_OK && a == 1;
     good = good && jobboard_heaviest(table.data(), table.size(), &a) == JOBBOARD_OK && a == 1;
     good = good && jobboard_tight_set(table.data(), table.size(), 1, list.data(), list.size(), &a, &b) == JOBBOARD_OK && a == 2 && b == 1;
+    good = good && jobboard_sheet(table.data(), table.size(), page.data(), page.size(), &a) == JOBBOARD_OK && a == 2 * JOBBOARD_SHEET_LINE_BYTES;
     good = good && jobboard_level_check(table.data(), table.size(), &a) == JOBBOARD_OK && a == 1;
     good = good && jobboard_levelling(table.data(), table.size(), 0, &a, &b) == JOBBOARD_OK && a == 0 && b == 1;
     good = good && jobboard_closing(table.data(), table.size(), 1, &a, &b) == JOBBOARD_OK && a == 1 && b == 0;
     good = good && jobboard_closing(table.data(), table.size(), 1, &a, &b) == JOBBOARD_NOT_STANDING;
-    std::puts(good ? "header: as C99 and as C++, the nine calls from C++" : "FAILED: header: a call from C++ gives another answer");
+    std::puts(good ? "header: as C99 and as C++, the ten calls from C++" : "FAILED: header: a call from C++ gives another answer");
     return good ? 0 : 1;
 }

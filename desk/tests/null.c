@@ -1,4 +1,4 @@
-/* NULL where a length is 0: a table of each of the nine calls, and a tight set's list. Each is refused as a length of 0 is. */
+/* NULL where a length is 0: a table of each of the ten calls, a tight set's list and a sheet's page. Each is refused as a length of 0 is. */
 #include "calls.h"
 #include "jobboard.h"
 #include "support.h"
@@ -21,28 +21,37 @@ static void expect(const struct call *call, uint8_t *table, size_t bytes, uint32
     calls++;
 }
 
-/* Lends no table to a call, and to a tight set a list, or none. */
+/* Lends no table to a call, and to a tight set or a sheet four bytes, or none. */
 static void without_table(enum kind kind, uint32_t number)
 {
-    uint8_t list[4] = {0xa5, 0xa5, 0xa5, 0xa5};
+    uint8_t lent[4] = {0xa5, 0xa5, 0xa5, 0xa5};
     struct call call = {kind, {number, number, number}, NULL, 0};
     expect(&call, NULL, 0, JOBBOARD_SIZES);
-    call.list = list;
-    call.list_bytes = sizeof list;
+    call.lent = lent;
+    call.lent_bytes = sizeof lent;
     expect(&call, NULL, 0, JOBBOARD_SIZES);
-    if (word_at(list, 0) != 0xa5a5 || word_at(list, 1) != 0xa5a5)
-        fail("null: a refused call wrote its list");
+    if (word_at(lent, 0) != 0xa5a5 || word_at(lent, 1) != 0xa5a5)
+        fail("null: a refused call wrote its list or its page");
 }
 
-/* Asks for a tight set without a list; the table must stay as it is. */
-static void without_list(struct table *t, uint32_t height, uint32_t number)
+/* Lends a table and nothing else; it must stay as it is. */
+static void with_table_alone(struct table *t, struct call call, uint32_t number)
 {
     static struct table before;
-    struct call call = {TIGHT_SET, {height, 0, 0}, NULL, 0};
     before = *t;
     expect(&call, t->bytes, t->length, number);
     if (memcmp(before.bytes, t->bytes, sizeof before.bytes) != 0)
-        fail("null: a refused tight set changed the table");
+        fail("null: a refused call changed the table");
+}
+
+static void without_list(struct table *t, uint32_t height, uint32_t number)
+{
+    with_table_alone(t, (struct call){TIGHT_SET, {height, 0, 0}, NULL, 0}, number);
+}
+
+static void without_page(struct table *t, uint32_t number)
+{
+    with_table_alone(t, (struct call){SHEET, {0, 0, 0}, NULL, 0}, number);
 }
 
 /* Tries every refusal of a tight set. None is accepted without a list, as a set has at least one bench. */
@@ -64,6 +73,17 @@ static void lists(struct table *t)
     without_list(t, 1, JOBBOARD_SIZES);
 }
 
+/* Tries every refusal of a sheet. None is accepted without a page, as a sheet has at least one line. */
+static void pages(struct table *t)
+{
+    make_empty(t, 1, 1);
+    without_page(t, JOBBOARD_PAGE_TOO_SHORT);
+    put_word(t->bytes, 3, 1);
+    without_page(t, JOBBOARD_UNSOUND);
+    t->length--;
+    without_page(t, JOBBOARD_SIZES);
+}
+
 int main(void)
 {
     static struct table t;
@@ -72,6 +92,7 @@ int main(void)
         for (int i = 0; i < 3; i++)
             without_table((enum kind)kind, numbers[i]);
     lists(&t);
-    printf("null: no table for the nine calls, no list for a tight set: %u calls, all refused as expected\n", calls);
+    pages(&t);
+    printf("null: no table for the ten calls, no list for a tight set, no page for a sheet: %u calls, all refused as expected\n", calls);
     return 0;
 }

@@ -1,8 +1,8 @@
 /*
- * Random calls on random bytes and lengths. The lent table and list end at a page that may not be touched, or begin right behind one, or
- * are allocated at exactly their length for the sanitizer; bytes beside them are watched. After each call: what it returned is 0 or
- * one of its own refusals; a refused call changed no lent byte and no result; a question changed no byte of the table; nothing was
- * touched beside what was lent.
+ * Random calls on random bytes and lengths. The lent table, and the list or a sheet's page, end at closed memory, which may not be touched,
+ * or begin right behind it, or are allocated at exactly their length for the sanitizer; bytes beside them are watched. After each call:
+ * what it returned is 0 or one of its own refusals; a refused call changed no lent byte and no result; a question changed no byte of the
+ * table; nothing was touched beside what was lent.
  *
  * Arguments: the seed, the number of calls.
  */
@@ -22,6 +22,8 @@
 
 #define BESIDE 0x5c
 #define WATCHED 64
+#define LONGEST_LIST 1002
+#define LONGEST_PAGE (JOBBOARD_MOST_PAGE_BYTES + 3)
 
 static uint64_t seed;
 static volatile uint32_t calls_made;
@@ -36,7 +38,7 @@ static void say_where(void)
         _exit(2);
 }
 
-/* Ends the test where the processor stops at a page that may not be touched. */
+/* Ends the test where the processor stops at closed memory. */
 static void on_fault(int number)
 {
     (void)number;
@@ -51,7 +53,7 @@ void __asan_on_error(void)
     say_where();
 }
 
-/* Room for the longest loan between two pages that may not be touched. */
+/* Room for the longest loan, with closed memory on both sides. */
 struct room {
     uint8_t *begin;
     size_t length;
@@ -59,20 +61,20 @@ struct room {
 
 static struct room make_room(size_t longest)
 {
-    size_t page = (size_t)sysconf(_SC_PAGESIZE);
-    struct room room = {NULL, (longest + 2 * WATCHED + page - 1) / page * page};
-    void *all = mmap(NULL, room.length + 2 * page, PROT_READ | PROT_WRITE, MAP_PRIVATE | MAP_ANONYMOUS, -1, 0);
+    size_t closed = (size_t)sysconf(_SC_PAGESIZE);
+    struct room room = {NULL, (longest + 2 * WATCHED + closed - 1) / closed * closed};
+    void *all = mmap(NULL, room.length + 2 * closed, PROT_READ | PROT_WRITE, MAP_PRIVATE | MAP_ANONYMOUS, -1, 0);
     if (all == MAP_FAILED)
         fail("random_bytes: no memory");
-    room.begin = (uint8_t *)all + page;
-    if (mprotect(all, page, PROT_NONE) != 0 || mprotect(room.begin + room.length, page, PROT_NONE) != 0)
-        fail("random_bytes: pages cannot be closed");
+    room.begin = (uint8_t *)all + closed;
+    if (mprotect(all, closed, PROT_NONE) != 0 || mprotect(room.begin + room.length, closed, PROT_NONE) != 0)
+        fail("random_bytes: memory cannot be closed");
     return room;
 }
 
 /* Bytes lent to a call: where they are, and what they were. */
 struct loan {
-    enum { ENDS_AT_PAGE, BEGINS_AT_PAGE, ALLOCATED } place;
+    enum { ENDS_AT_CLOSED, BEGINS_BEHIND_CLOSED, ALLOCATED } place;
     const struct room *room;
     uint8_t *bytes, *before;
     size_t length;
@@ -86,9 +88,9 @@ static struct loan lend(struct random *r, const struct room *room, uint8_t *befo
         loan.bytes = copy_of(before, length);
         return loan;
     }
-    loan.bytes = loan.place == ENDS_AT_PAGE ? room->begin + room->length - length : room->begin;
+    loan.bytes = loan.place == ENDS_AT_CLOSED ? room->begin + room->length - length : room->begin;
     memcpy(loan.bytes, before, length);
-    if (loan.place == ENDS_AT_PAGE)
+    if (loan.place == ENDS_AT_CLOSED)
         memset(loan.bytes - WATCHED, BESIDE, WATCHED);
     else
         memset(loan.bytes + length, BESIDE, WATCHED);
@@ -97,7 +99,7 @@ static struct loan lend(struct random *r, const struct room *room, uint8_t *befo
 
 static bool beside_untouched(const struct loan *loan)
 {
-    const uint8_t *watched = loan->place == ENDS_AT_PAGE ? loan->bytes - WATCHED : loan->bytes + loan->length;
+    const uint8_t *watched = loan->place == ENDS_AT_CLOSED ? loan->bytes - WATCHED : loan->bytes + loan->length;
     for (int i = 0; loan->place != ALLOCATED && i < WATCHED; i++)
         if (watched[i] != BESIDE)
             return false;
@@ -184,6 +186,15 @@ static uint8_t *random_table(struct random *r, size_t *length)
     return cut;
 }
 
+/* Picks the length of a page: often about a line for each bench that the table names, as most sheets have. */
+static size_t random_page(struct random *r, const uint8_t *table, size_t length)
+{
+    size_t lines = length >= 2 ? word_at(table, 0) + random_below(r, 3) : 0;
+    if (lines == 0 || lines > JOBBOARD_MOST_BENCHES || random_below(r, 4) == 0)
+        return random_below(r, LONGEST_PAGE + 1);
+    return JOBBOARD_SHEET_LINE_BYTES * lines + random_below(r, 3) - 1;
+}
+
 static uint32_t random_number(struct random *r)
 {
     static const uint32_t edges[] = {0,    1,     2,     499,   500,        501,        3999,           4000,
@@ -204,32 +215,43 @@ static void stop(const struct call *call, struct answer a, const char *what)
     fail("random_bytes: seed %" PRIu64 ", call %u: %s gives %s and %s", seed, (unsigned)calls_made, text, got, what);
 }
 
-static void examine(const struct call *call, struct answer a, const struct loan *table, const struct loan *list)
+static void examine(const struct call *call, struct answer a, const struct loan *table, const struct loan *lent)
 {
     bool refused = a.returned != JOBBOARD_OK;
     if (refused && !may_refuse(call->kind, a.returned))
         stop(call, a, "that is not one of its refusals");
     if ((refused || !changes_table(call->kind)) && !unchanged(table))
         stop(call, a, "changed the table");
-    size_t written = !refused && call->kind == TIGHT_SET ? 2 * (size_t)a.values[0] : 0;
-    if (written > list->length || memcmp(list->bytes + written, list->before + written, list->length - written) != 0)
-        stop(call, a, "changed the list beyond what it may");
+    size_t written = bytes_written(call->kind, a);
+    if (written > lent->length || memcmp(lent->bytes + written, lent->before + written, lent->length - written) != 0)
+        stop(call, a, "changed the list or the page beyond what it may");
     if (!refused && changes_table(call->kind) && jobboard_check(table->bytes, table->length) != JOBBOARD_OK)
         stop(call, a, "left a table that is not sound");
-    if (!beside_untouched(table) || !beside_untouched(list))
+    if (!beside_untouched(table) || !beside_untouched(lent))
         stop(call, a, "wrote beside what was lent");
     accepted += !refused;
 }
 
-static void run_call(struct random *r, const struct room *table_room, const struct room *list_room)
+/* Lends a list, or the page of a sheet. */
+static struct loan lend_beside(struct random *r, const struct room *room, enum kind kind, const struct loan *table)
 {
-    size_t table_bytes, list_bytes = random_below(r, 3) == 0 ? random_below(r, 8) : random_below(r, 1003);
+    size_t length = random_below(r, 3) == 0 ? random_below(r, 8) : random_below(r, LONGEST_LIST + 1);
+    if (kind == SHEET && random_below(r, 8) > 0)
+        length = random_page(r, table->bytes, table->length);
+    uint8_t *before = memory(length);
+    fill(r, before, length);
+    return lend(r, room, before, length);
+}
+
+static void run_call(struct random *r, const struct room *table_room, const struct room *lent_room)
+{
+    size_t table_bytes;
     uint8_t *before = random_table(r, &table_bytes);
+    struct call call = {random_below(r, KINDS), {0, 0, 0}, NULL, 0};
     struct loan table = lend(r, table_room, before, table_bytes);
-    before = memory(list_bytes);
-    fill(r, before, list_bytes);
-    struct loan list = lend(r, list_room, before, list_bytes);
-    struct call call = {random_below(r, KINDS), {0, 0, 0}, list.bytes, list_bytes};
+    struct loan lent = lend_beside(r, lent_room, call.kind, &table);
+    call.lent = lent.bytes;
+    call.lent_bytes = lent.length;
     for (int i = 0; i < 3; i++)
         call.numbers[i] = random_number(r);
     if (call.kind == BLANK && table_bytes >= 4 && random_below(r, 2) == 0) {
@@ -237,9 +259,9 @@ static void run_call(struct random *r, const struct room *table_room, const stru
         call.numbers[1] = word_at(table.bytes, 1);
     }
     calls_made++;
-    examine(&call, make_call(&call, table.bytes, table_bytes), &table, &list);
+    examine(&call, make_call(&call, table.bytes, table_bytes), &table, &lent);
     give_back(&table);
-    give_back(&list);
+    give_back(&lent);
 }
 
 int main(int argc, char **argv)
@@ -247,11 +269,11 @@ int main(int argc, char **argv)
     seed = seed_of(argc, argv, 20260102);
     uint32_t calls = argc > 2 ? (uint32_t)strtoul(argv[2], NULL, 10) : 100000;
     struct random r = {seed};
-    struct room table_room = make_room(JOBBOARD_MOST_TABLE_BYTES), list_room = make_room(1003);
+    struct room table_room = make_room(JOBBOARD_MOST_TABLE_BYTES), lent_room = make_room(LONGEST_PAGE);
     signal(SIGSEGV, on_fault);
     signal(SIGBUS, on_fault);
     while (calls_made < calls)
-        run_call(&r, &table_room, &list_room);
+        run_call(&r, &table_room, &lent_room);
     if (accepted < calls / 10)
         fail("random_bytes: only %u calls were accepted", (unsigned)accepted);
     printf("random_bytes: %u calls on random bytes and lengths, %u accepted; only what was lent was touched, and only by accepted changes\n",

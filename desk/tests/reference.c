@@ -4,12 +4,16 @@
  */
 #include "reference.h"
 
+#include <stdio.h>
 #include <string.h>
 
 enum { MOST_BENCHES = 500, MOST_JOBS = 4000 };
 
 /* Boards up to these sizes are small. */
 enum { FEW_BENCHES = 6, FEW_JOBS = 12 };
+
+/* "each line 68 characters and a line feed", with "up to twelve jobs" */
+enum { LINE_BYTES = 69, JOBS_A_LINE = 12 };
 
 struct board {
     uint32_t benches, jobs;
@@ -493,14 +497,55 @@ static struct answer tight_set(const struct board *s, const struct call *call)
     tight_benches(s, height, in);
     for (uint32_t b = 1; b <= s->benches; b++)
         benches += in[b];
-    if (call->list_bytes < 2 * (size_t)benches)
+    if (call->lent_bytes < 2 * (size_t)benches)
         return refused(8);
     for (uint32_t b = 1, i = 0; b <= s->benches; b++)
         if (in[b])
-            set_word(call->list, i++, b);
+            set_word(call->lent, i++, b);
     for (uint32_t j = 1; j <= s->jobs; j++)
         inside += s->holder[j] != 0 && in[s->first[j]] && in[s->second[j]];
     return (struct answer){0, {benches, inside, UNSET}};
+}
+
+/* Puts a number into columns, "right-aligned". */
+static void put_number(uint8_t *columns, int width, uint32_t number)
+{
+    char text[16];
+    snprintf(text, sizeof text, "%*u", width, (unsigned)number);
+    memcpy(columns, text, (size_t)width);
+}
+
+/* Writes a sheet whose bench b begins in line lines[b]. Jobs come rising, each into the next place of its holder. */
+static void write_sheet(const struct board *s, const size_t *lines, uint8_t *page)
+{
+    uint32_t written[MOST_BENCHES + 1] = {0};
+    size_t length = LINE_BYTES * lines[s->benches + 1];
+    for (size_t i = 0; i < length; i++)
+        page[i] = i % LINE_BYTES == LINE_BYTES - 1 ? '\n' : ' ';
+    for (uint32_t b = 1; b <= s->benches; b++) {
+        put_number(page + LINE_BYTES * lines[b], 3, b);
+        put_number(page + LINE_BYTES * lines[b] + 4, 4, s->loads[b]);
+    }
+    for (uint32_t j = 1; j <= s->jobs; j++) {
+        if (s->holder[j] == 0)
+            continue;
+        uint32_t place = written[s->holder[j]]++;
+        size_t line = lines[s->holder[j]] + place / JOBS_A_LINE;
+        put_number(page + LINE_BYTES * line + 8 + 5 * (place % JOBS_A_LINE), 5, j);
+    }
+}
+
+/* Gives each bench as many lines as it needs for "up to twelve jobs"; "A bench without jobs has one line." */
+static struct answer sheet(const struct board *s, const struct call *call)
+{
+    size_t lines[MOST_BENCHES + 2] = {0};
+    for (uint32_t b = 1; b <= s->benches; b++)
+        lines[b + 1] = lines[b] + (s->loads[b] == 0 ? 1 : (s->loads[b] + JOBS_A_LINE - 1) / JOBS_A_LINE);
+    size_t length = LINE_BYTES * lines[s->benches + 1];
+    if (call->lent_bytes < length)
+        return refused(11);
+    write_sheet(s, lines, call->lent);
+    return (struct answer){0, {(uint32_t)length, UNSET, UNSET}};
 }
 
 static struct answer load(const struct board *s, uint32_t bench)
@@ -527,6 +572,8 @@ static struct answer on_board(struct board *s, const struct call *call)
         return (struct answer){0, {heaviest(s), UNSET, UNSET}};
     case TIGHT_SET:
         return tight_set(s, call);
+    case SHEET:
+        return sheet(s, call);
     default:
         return refused(0);
     }

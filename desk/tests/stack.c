@@ -177,7 +177,7 @@ static void measure_changes(const struct table *t, uint8_t *stack)
 
 static void measure_board(const struct table *t, uint8_t *stack)
 {
-    uint8_t list[JOBBOARD_MOST_LIST_BYTES];
+    static uint8_t list[JOBBOARD_MOST_LIST_BYTES], page[JOBBOARD_MOST_PAGE_BYTES];
     uint32_t most = 0;
     measure("form check", (struct call){CHECK, {0, 0, 0}, NULL, 0}, t, stack);
     measure("level check", (struct call){LEVEL_CHECK, {0, 0, 0}, NULL, 0}, t, stack);
@@ -185,6 +185,7 @@ static void measure_board(const struct table *t, uint8_t *stack)
     measure("heaviest load", (struct call){HEAVIEST, {0, 0, 0}, NULL, 0}, t, stack);
     measure("blanking", (struct call){BLANK, {B, J, 0}, NULL, 0}, t, stack);
     measure("levelling", (struct call){LEVELLING, {JOBBOARD_ENOUGH_PATHS, 0, 0}, NULL, 0}, t, stack);
+    measure("sheet", (struct call){SHEET, {0, 0, 0}, page, sizeof page}, t, stack);
     measure_changes(t, stack);
     if (jobboard_heaviest(t->bytes, t->length, &most) != JOBBOARD_OK)
         fail("stack: a board is not sound");

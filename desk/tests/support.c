@@ -130,3 +130,52 @@ void make_chains(struct table *t, struct random *r)
     }
     put_word(t->bytes, 2, standing);
 }
+
+/* Reads the number in some columns, blanks and then digits; 0 where all are blank. False for anything else. */
+static bool read_columns(const uint8_t *columns, int width, uint32_t *number)
+{
+    int i = 0;
+    *number = 0;
+    while (i < width && columns[i] == ' ')
+        i++;
+    for (; i < width; i++) {
+        if (columns[i] < '0' || columns[i] > '9')
+            return false;
+        *number = 10 * *number + (columns[i] - (uint32_t)'0');
+    }
+    return true;
+}
+
+/* Reads a line; holders[j] becomes the bench of each of its jobs. False where a job is on the page twice. */
+static bool read_line(const uint8_t *line, uint32_t *bench, uint32_t holders[4001])
+{
+    uint32_t named, job;
+    if (!read_columns(line, 3, &named) || line[68] != '\n')
+        return false;
+    if (named != 0)
+        *bench = named;
+    for (int column = 8; column < 68; column += 5) {
+        if (!read_columns(line + column, 5, &job) || job > 4000 || (job != 0 && holders[job] != 0))
+            return false;
+        if (job != 0)
+            holders[job] = *bench;
+    }
+    return true;
+}
+
+bool sheet_names_holders(const uint8_t *page, size_t length, const uint8_t *table)
+{
+    uint32_t holders[4001] = {0}, bench = 0, benches = word_at(table, 0), jobs = word_at(table, 1);
+    if (length % 69 != 0)
+        return false;
+    for (size_t line = 0; line < length / 69; line++)
+        if (!read_line(page + 69 * line, &bench, holders))
+            return false;
+    for (uint32_t job = 1; job <= 4000; job++) {
+        size_t record = 4 + benches + 4 * ((size_t)job - 1);
+        uint32_t holder = job <= jobs ? word_at(table, record + 2) : 0;
+        if (holders[job] != (holder == 0 ? 0 : word_at(table, record + holder - 1)))
+            return false;
+    }
+    return true;
+}

@@ -1,7 +1,8 @@
-/* What the tests share: failing, random numbers, words and tables made by hand. */
+/* What the tests share: failing, random numbers, words, tables made by hand, and a wall sheet read back. */
 #ifndef SUPPORT_H
 #define SUPPORT_H
 
+#include <stdbool.h>
 #include <stddef.h>
 #include <stdint.h>
 
@@ -53,5 +54,12 @@ void make_stand(struct table *t, uint32_t job, uint32_t first, uint32_t second, 
 
 /* Makes all chains and counts the standing jobs. Chains rise, or are in a random order if r is not NULL. */
 void make_chains(struct table *t, struct random *r);
+
+/*
+ * Reads a wall sheet by columns, as people do: the number in columns 1 to 3 is the bench of the line, or where they are blank the bench
+ * of the line before, and the numbers in columns 9 to 68 are jobs that it holds. Tells whether each job of the sound table is there
+ * exactly once where its record has it standing, with the record's holder, and nowhere else.
+ */
+bool sheet_names_holders(const uint8_t *page, size_t length, const uint8_t *table);
 
 #endif

@@ -1,10 +1,13 @@
 /*
- * The tables of crates/test_table_files/data and what another implementation of the scope answered on them: data/index has for each table
- * its form check, level check, heaviest load and a hash of its loads; data/calls has calls, each on a fresh copy, with the answer and two
- * hashes of what is left: of the table with rising chains (for a refused call and a load: of the bytes as they were), and of the
- * same with chain heads and next words zero. For a tight set both are of its list, filled with a5 before.
+ * Tables, and what another implementation of the papers answered on them: those of crates/test_table_files/data with data/index and
+ * data/calls, from before the change requests, and those of data/requests, from the newest request.
  *
- * Arguments: the folder of tables, the folder of `index` and `calls`.
+ * `index` has for each table its form check, level check, heaviest load and a hash of its loads; `calls` has calls, each on a fresh copy,
+ * with the answer and two hashes of what is left: of the table with rising chains (for a refused call and a load: of the bytes as they
+ * were), and of the same with chain heads and next words zero. For a tight set both are of its list; for a wall sheet they are of the
+ * table and of the page. List and page are filled with a5 before.
+ *
+ * Arguments: the folder of tables and the folder of index and calls; the folder of the newest request, which has all.
  */
 #include "calls.h"
 #include "jobboard.h"
@@ -110,21 +113,33 @@ static unsigned run_index(const char *tables, const char *data)
     return rows;
 }
 
+/* The words of `calls`, with how many numbers follow. */
+static const struct {
+    const char *word;
+    enum kind kind;
+    int numbers;
+    bool lends; /* the last number is the length of a list or a page */
+} forms[] = {
+    {"A", ARRIVAL, 3, false}, {"D", CLOSING, 1, false}, {"L", LEVELLING, 1, false},
+    {"S", TIGHT_SET, 2, true}, {"O", LOAD, 1, false},   {"sheet", SHEET, 1, true},
+};
+
 /* Reads a call, such as "A 27 19 2". */
 static struct call call_of(const char *text)
 {
-    static const char letters[] = "ADLSO";
-    static const enum kind kinds[] = {ARRIVAL, CLOSING, LEVELLING, TIGHT_SET, LOAD};
-    static const int numbers[] = {3, 1, 1, 2, 1};
+    char word[LINE];
     unsigned n[3] = {0, 0, 0};
-    const char *letter = strchr(letters, text[0]);
-    if (text[0] == 0 || letter == NULL || sscanf(text + 1, "%u %u %u", &n[0], &n[1], &n[2]) != numbers[letter - letters])
+    int numbers = sscanf(text, "%199s %u %u %u", word, &n[0], &n[1], &n[2]) - 1;
+    size_t i = 0, count = sizeof forms / sizeof forms[0];
+    while (i < count && (strcmp(forms[i].word, word) != 0 || forms[i].numbers != numbers))
+        i++;
+    if (i == count)
         fail("vectors: calls: call not understood: %s", text);
-    struct call call = {kinds[letter - letters], {n[0], n[1], n[2]}, NULL, 0};
-    if (call.kind == TIGHT_SET) {
-        call.list_bytes = n[1];
-        call.list = memory(call.list_bytes);
-        memset(call.list, 0xa5, call.list_bytes);
+    struct call call = {forms[i].kind, {n[0], n[1], n[2]}, NULL, 0};
+    if (forms[i].lends) {
+        call.lent_bytes = n[numbers - 1];
+        call.lent = memory(call.lent_bytes);
+        memset(call.lent, 0xa5, call.lent_bytes);
     }
     return call;
 }
@@ -139,7 +154,7 @@ static void answer_words(enum kind kind, struct answer a, char text[LINE])
         snprintf(text, LINE, "%u %u %u", (unsigned)v[0], (unsigned)v[1], (unsigned)v[2]);
     else if (kind == LEVELLING)
         snprintf(text, LINE, "%u %s", (unsigned)v[0], v[1] == 1 ? "level" : "stopped");
-    else if (kind == LOAD)
+    else if (kind == LOAD || kind == SHEET)
         snprintf(text, LINE, "%u", (unsigned)v[0]);
     else
         snprintf(text, LINE, "%u %u", (unsigned)v[0], (unsigned)v[1]);
@@ -167,12 +182,13 @@ static void run_call(const struct file *f, const char *text, char result[2 * LIN
     if (!changes_table(call.kind) && memcmp(left, f->bytes, f->length) != 0)
         fail("vectors: calls: %s %s changed the table", f->name, text);
     answer_words(call.kind, a, words);
-    uint64_t first = call.kind == TIGHT_SET ? hash_of(call.list, call.list_bytes) : hash_of(left, f->length);
+    uint64_t table = hash_of(left, f->length), lent = hash_of(call.lent, call.lent_bytes);
     forget_chains(left, f->length);
-    uint64_t second = call.kind == TIGHT_SET ? first : hash_of(left, f->length);
+    uint64_t first = call.kind == TIGHT_SET ? lent : table;
+    uint64_t second = call.kind == TIGHT_SET || call.kind == SHEET ? lent : hash_of(left, f->length);
     snprintf(result, 2 * LINE, "%s %016" PRIx64 " %016" PRIx64, words, first, second);
     free(left);
-    free(call.list);
+    free(call.lent);
 }
 
 static unsigned run_calls(const char *tables, const char *data)
@@ -201,14 +217,20 @@ static unsigned run_calls(const char *tables, const char *data)
     return calls;
 }
 
+/* Runs all of a folder; so many tables and calls must be there. */
+static void run_all(const char *tables, const char *data, unsigned want_tables, unsigned want_calls)
+{
+    unsigned rows = run_index(tables, data), calls = run_calls(tables, data);
+    if (rows != want_tables || calls != want_calls)
+        fail("vectors: %s: %u tables and %u calls, expected %u and %u", data, rows, calls, want_tables, want_calls);
+    printf("vectors: %u tables and %u calls, same answers, refusals and hashes\n", rows, calls);
+}
+
 int main(int argc, char **argv)
 {
-    if (argc != 3)
-        fail("vectors: two arguments: the folder of tables, the folder of index and calls");
-    unsigned tables = run_index(argv[1], argv[2]);
-    unsigned calls = run_calls(argv[1], argv[2]);
-    if (tables != 96 || calls != 720)
-        fail("vectors: %u tables and %u calls, expected 96 and 720", tables, calls);
-    printf("vectors: %u tables and %u calls, same answers, refusals and hashes\n", tables, calls);
+    if (argc != 4)
+        fail("vectors: three arguments: the folder of tables, the folder of index and calls, the folder of the newest request");
+    run_all(argv[1], argv[2], 96, 720);
+    run_all(argv[3], argv[3], 60, 564);
     return 0;
 }
