@@ -16,7 +16,7 @@ use Rattle.spec_sharing.specs.Sharing.{tightSet, inside}
 use Rattle.spec_table.specs.Table.{mostBenches, mostJobs, decode, bytesOf}
 use Rattle.spec_lists.proofs.Tests.{true→T, false→not, Compared, same, other, compared, within-both}
 use Rattle.spec_lists.proofs.Elements.{length-filter}
-use Rattle.spec_lists.proofs.NumberLists.{member-marked, length-range, range-last}
+use Rattle.spec_lists.proofs.NumberLists.{member-marked, length-range}
 use Rattle.spec_lists.proofs.Counting.{total-same, filter-counts}
 use Rattle.spec_table.proofs.Places.{two-more, two-more-high}
 use Rattle.spec_sharing.proofs.Certificate.{loadIn}
@@ -45,6 +45,11 @@ use Rattle.sharing_tight_set.specs.declared.Extent.{Extent}
 -- the numbers of 1 to n that pass the test
 abbrev pub passing : (ℕ → Bool) → ℕ → List ℕ
 passing p n = filter p (range 1 n)
+
+-- rising numbers end with the last
+range-last : (i n last : ℕ) → last ≡ i + n → range i (suc n) ≡ range i n ++ (last ∷ [])
+range-last i zero last e = ap (λ (x : ℕ). x ∷ []) (omega arith)
+range-last i (suc n) last e = ap (λ (l : List ℕ). i ∷ l) (range-last (suc i) n last (omega arith))
 
 -- of a list before another what passes comes first
 filter-append : (p : ℕ → Bool) (k l : List ℕ) → filter p (k ++ l) ≡ filter p k ++ filter p l

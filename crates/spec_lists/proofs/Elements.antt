@@ -4,7 +4,7 @@ use native.Mathlib.Omega.{arith}
 use mathlib.Core.Path.{_≡_, refl, sym, ap, subst, _∙_}
 use mathlib.Core.Logic.{_⊎_, inl, inr, _≢_}
 use mathlib.Core.Bool.{Bool, true, false, cond, not}
-use mathlib.Core.List.{List, [], _∷_, _++_, map, flatMap, append-assoc}
+use mathlib.Core.List.{List, [], _∷_, _++_, map, flatMap}
 use lib.Dec.{T}
 use lib.ListN.{length, getD, set, take, drop, replicate, length-set, List·getD-map}
 use lib.Seq.{getD-set-same, getD-set-other, set-set, set-getD}
@@ -278,10 +278,3 @@ module _ {A B : Type 0} where
       go : (In b (flatMap f l) → (a : A) × In a l × In b (f a)) → In b (f x) ⊎ In b (flatMap f l) → (a : A) × In a (x ∷ l) × In b (f a)
       go ih (inl j) = (x, inl refl, j)
       go ih (inr j) = let r = ih j in (r .0, inr (r .1), r .2)
-
-  -- the lists for two lists one after the other
-  pub flatMap-append : (f : A → List B) (k l : List A) → flatMap f (k ++ l) ≡ flatMap f k ++ flatMap f l
-  unfolding flatMap
-  flatMap-append f [] l = refl
-  flatMap-append f (x ∷ k) l =
-      ap (λ (m : List B). f x ++ m) (flatMap-append f k l) ∙ sym (append-assoc (f x) (flatMap f k) (flatMap f l))

@@ -4,13 +4,13 @@ use native.Mathlib.Omega.{arith}
 use mathlib.Core.Path.{_≡_, refl, sym, ap, _∙_}
 use mathlib.Core.Logic.{_⊎_, inl, inr, _≢_, _↔_}
 use mathlib.Core.Bool.{Bool, true, false, cond, not}
-use mathlib.Core.List.{List, [], _∷_, _++_, map, flatMap, append-nil}
+use mathlib.Core.List.{List, [], _∷_, _++_, map, flatMap, append-nil, append-assoc}
 use lib.Dec.{T, T-not, not-T, eqb}
 use lib.ListN.{length, getD, replicate, length-map}
 use lib.Seq.{ext-getD}
 use Rattle.spec_lists.specs.Lists.{within, member, distinct, range, filter, In, nth, update}
 use Rattle.spec_lists.proofs.Tests.{true→T, false→not, both, left, right, either, or-left, or-right, tests-same, same, Compared, other, compared, T-eqb, eqb-T, differ, within-low, within-high, within-both}
-use Rattle.spec_lists.proofs.Elements.{in-filter, filter-in, filter-same, nth-update-same, nth-update-other, length-update, flatMap-append}
+use Rattle.spec_lists.proofs.Elements.{in-filter, filter-in, filter-same, nth-update-same, nth-update-other, length-update}
 
 -- numbers in lists
 
@@ -56,17 +56,16 @@ pub length-range : (i n : ℕ) → length (range i n) ≡ n
 length-range i zero = refl
 length-range i (suc n) = ap suc (length-range (suc i) n)
 
--- rising numbers end with the last
-pub range-last : (i n last : ℕ) → last ≡ i + n → range i (suc n) ≡ range i n ++ (last ∷ [])
-range-last i zero last e = ap (λ (x : ℕ). x ∷ []) (omega arith)
-range-last i (suc n) last e = ap (λ (l : List ℕ). i ∷ l) (range-last (suc i) n last (omega arith))
-
--- lists for 1 to n, one after the other: the list for one number more comes last
-pub flatMap-next : {A : Type 0} (f : ℕ → List A) (n : ℕ) → flatMap f (range 1 (suc n)) ≡ flatMap f (range 1 n) ++ f (suc n)
+-- lists for rising numbers, one after the other: the list for one number more comes last ..
+flatMap-last : {A : Type 0} (f : ℕ → List A) (i n last : ℕ) → last ≡ i + n → flatMap f (range i (suc n)) ≡ flatMap f (range i n) ++ f last
 unfolding flatMap
-flatMap-next {A} f n =
-    ap (flatMap f) (range-last 1 n (suc n) (omega arith)) ∙ flatMap-append f (range 1 n) (suc n ∷ [])
-    ∙ ap (λ (l : List A). flatMap f (range 1 n) ++ l) (append-nil (f (suc n)))
+flatMap-last f i zero last e = append-nil (f i) ∙ ap f (omega arith)
+flatMap-last {A} f i (suc n) last e =
+    ap (λ (l : List A). f i ++ l) (flatMap-last f (suc i) n last (omega arith)) ∙ sym (append-assoc (f i) (flatMap f (range (suc i) n)) (f last))
+
+-- .. and for 1 to n that of n
+pub flatMap-next : {A : Type 0} (f : ℕ → List A) (n : ℕ) → flatMap f (range 1 (suc n)) ≡ flatMap f (range 1 n) ++ f (suc n)
+flatMap-next f n = flatMap-last f 1 n (suc n) (omega arith)
 
 -- values over rising numbers
 module _ {A : Type 0} (f : ℕ → A) where
