@@ -51,7 +51,7 @@ loop-less c = search needs
 loop-again : tie.Need-loop-again Inv-loop μ-loop
 loop-again c =
     let o = c .before .before .before in
-    listing-turn (o .before .before .before .pre .0) (c .before .before .loop-test .taken) (o .loop .inv) (c .before .holder .ensures)
+    listing-turn (o .before .before .before .pre .0) (search needs) (o .loop .inv) (c .before .holder .ensures)
 
 returns : tie.Need-returns Inv-loop μ-loop
 returns c =
