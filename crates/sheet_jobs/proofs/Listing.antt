@@ -13,7 +13,7 @@ use Rattle.spec_lists.proofs.Tests.{Compared, same, other, compared, within-hig
 use Rattle.spec_lists.proofs.Counting.{count-some}
 use Rattle.spec_table.specs.Board.{Board, jobsHeld}
 use Rattle.spec_table.specs.Table.{mostBenches, mostJobs, decode}
-use Rattle.spec_table.proofs.Layouts.{count-before}
+use Rattle.spec_table.proofs.Held.{count-before}
 use Rattle.table_size.specs.Sizes.{SoundTable}
 use Rattle.table_size.specs.declared.Size.{Size}
 use Rattle.table_board.specs.BoardView.{HolderOf}
