@@ -11,10 +11,13 @@
 /* What a command does to the board's file. */
 enum file_use { ASKS, CHANGES, CREATES, CREATES_ANEW };
 
-/* The answer, in whole lines. The longest one names 4,000 jobs on 500 benches. */
+/*
+ * The answer, in whole lines. The longest says of 4,000 jobs from which bench to which they move, a line of 44 bytes each; a sheet is
+ * shorter (JOBBOARD_MOST_PAGE_BYTES).
+ */
 struct report {
     size_t used;
-    char text[65536];
+    char text[262144];
 };
 
 struct numbers {

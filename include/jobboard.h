@@ -181,16 +181,17 @@ uint32_t jobboard_tight_set(const uint8_t *table, size_t table_bytes, uint32_t h
  *     9 to 68     up to twelve of its jobs, rising, in 5 columns each; the remainder blanks
  *
  * Benches rise from 1 to B. A bench with more than twelve jobs goes on in the next line, whose first 8 columns are blank; a bench without
- * jobs has one line. Bench 1 with 14 jobs, bench 2 without a job and bench 3 with two; the bars stand for the sheet's edges and are not
- * written:
+ * jobs has one line. A sheet of bench 1 with 14 jobs, bench 2 without a job and bench 3 with two; the bars stand for its edges and are
+ * not written:
  *
  *     |  1   14    1    2    3    5    8   13   21   34   55   89  144  233|
- *     |         377 4000                                                   |
+ *     |          377 4000                                                  |
  *     |  2    0                                                            |
  *     |  3    2    4    6                                                  |
  *
- * Result: *length is the sheet's length in bytes. The page must have at least so many; a page of JOBBOARD_MOST_PAGE_BYTES always has. A
- * shorter page is refused, and a refused call gives no length. No zero byte is written behind the text: *length is where it ends.
+ * Result: *length is the sheet's length in bytes. The page must have at least so many; a page of JOBBOARD_MOST_PAGE_BYTES always has.
+ * The length cannot be asked for with a page that is too short: a refused call gives no result. No zero byte is written behind the
+ * text, which ends after *length bytes.
  * Refused: JOBBOARD_SIZES, JOBBOARD_UNSOUND, JOBBOARD_PAGE_TOO_SHORT.
  */
 uint32_t jobboard_sheet(const uint8_t *table, size_t table_bytes, uint8_t *page, size_t page_bytes, uint32_t *length);

@@ -1,7 +1,7 @@
 /*
  * Random calls through the archive and through reference.c, on copies of the same table, list and page: answers, tables, lists and pages
- * must be the same, byte by byte, and a page read by columns must name each job's holder. Boards are mostly small, now and then 500 benches and 4,000 jobs; level and not; chains in any order; some tables
- * are damaged, some lengths wrong, some numbers out of range.
+ * must be the same, byte by byte, and a page read back by columns must name each job's holder. Boards are mostly small, now and then 500
+ * benches and 4,000 jobs; level and not; chains in any order; some tables are damaged, some lengths wrong, some numbers out of range.
  *
  * Arguments: the seed, the number of calls.
  */

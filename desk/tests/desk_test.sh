@@ -39,12 +39,26 @@ expect_kept() { # STATUS OUTPUT WORDS...
     fi
 }
 
+# Expects the wall sheet on standard output, byte for byte: these lines, each with blanks up to 68 characters and a line feed.
+expect_sheet() { # LINES...
+    commands=$((commands + 1))
+    cp room.board kept
+    printf '%-68s\n' "$@" >expected
+    "$program" room.board sheet >printed || fail "sheet: status $?"
+    cmp -s printed expected || fail "sheet: printed
+$(cat printed)
+expected
+$(cat expected)"
+    cmp -s room.board kept || fail "sheet: the file was changed"
+    rm printed expected
+}
+
 sizes="desk: room.board: refused (1): byte length odd or below 8, benches not 1 to 500, jobs not 1 to 4000, or length not that of so many benches and jobs"
 unsound="desk: room.board: refused (2): sizes fit, table not sound"
 missing="desk: room.board: cannot read the file: No such file or directory"
 
 # No file yet.
-for words in "take 1 1 2" "close 1" "load 1" heaviest "tight 1" show check level-check level; do
+for words in "take 1 1 2" "close 1" "load 1" heaviest "tight 1" show sheet check level-check level; do
     expect_kept 3 "$missing" room.board $words
 done
 expect_kept 1 "$sizes" room.board new 501 4000
@@ -67,7 +81,9 @@ However these jobs are shared, one of these benches holds 1 or more." room.board
 expect_kept 0 "Bench 1 holds 1 job: 3
 Bench 2 holds 1 job: 1
 Bench 3 holds 1 job: 2" room.board show
+expect_sheet "  1    1    3" "  2    1    1" "  3    1    2"
 expect 0 "Job 2 is closed. Bench 3 has one job less; no jobs move." room.board close 2
+expect_sheet "  1    1    3" "  2    1    1" "  3    0"
 expect_kept 0 "Bench 3 holds no jobs." room.board show 3
 expect_kept 0 "Bench 2 holds 1 job." room.board load 2
 expect_kept 0 "The heaviest bench holds 1 job." room.board heaviest
@@ -87,6 +103,7 @@ expect_kept 1 "desk: room.board: refused (7): height 0, or above the heaviest lo
 expect_kept 2 "desk: room.board: no such command: tke (help lists them)" room.board tke 4 1 2
 expect_kept 2 "desk: room.board: take: wrong number of numbers: take JOB BENCH BENCH  a job arrives that either bench can do" room.board take 4 1
 expect_kept 2 "desk: room.board: check: wrong number of numbers: check                 whether the board is sound" room.board check 1
+expect_kept 2 "desk: room.board: sheet: wrong number of numbers: sheet                 the wall sheet, to print and pin up: bench, load and jobs in columns" room.board sheet 1
 for number in -1 +1 1x 0x1 "" " 1" 1.0 4294967296 18446744073709551617; do
     expect_kept 2 "desk: room.board: close: not a number of 0 to 4294967295: $number" room.board close "$number"
 done
@@ -115,7 +132,7 @@ END
 
 # Expects every command but renew to refuse a damaged file, with the refusal's words, and never to write it.
 damaged() { # OUTPUT
-    for words in "take 1 1 2" "close 1" "load 1" heaviest "tight 1" show "show 1" check level-check level "level 0"; do
+    for words in "take 1 1 2" "close 1" "load 1" heaviest "tight 1" show "show 1" sheet check level-check level "level 0"; do
         expect_kept 1 "$1" room.board $words
     done
     expect_kept 3 "desk: room.board: cannot make the file: File exists (renew replaces it)" room.board new 3 4
@@ -137,12 +154,31 @@ printf '\002\000\003\000\003\000\000\000\002\000\000\000\001\000\002\000\001\000
 expect_kept 0 "The board is not level." room.board level-check
 expect_kept 0 "Bench 1 holds 3 jobs: 1 2 3
 Bench 2 holds no jobs." room.board show
+expect_sheet "  1    3    1    2    3" "  2    0"
 expect 0 "The board is not level yet; no paths turned." room.board level 0
 expect 0 "The board is level; 1 path turned.
 Job 1 moves from bench 1 to bench 2." room.board level
 expect 0 "Job 2 is closed. Bench 1 has one job less; no jobs move." room.board close 2
 expect_kept 0 "Tight at height 1: 2 benches with 2 jobs among themselves: 1 2
 However these jobs are shared, one of these benches holds 1 or more." room.board tight 1
+
+# The longest answers, whole: bench 1 of 500 holds 4,000 jobs, and all but eight of them leave it.
+printf "$(awk 'function word(n) { printf "\\%03o\\%03o", n % 256, int(n / 256) }
+BEGIN {
+    word(500); word(4000); word(4000); word(0); word(1)
+    for (b = 2; b <= 500; b++) word(0)
+    for (j = 1; j <= 4000; j++) { word(1); word(2 + j % 499); word(1); word(j < 4000 ? j + 1 : 0) }
+}')" >room.board
+expect_long() { # BYTES LAST-LINE WORD
+    commands=$((commands + 1))
+    "$program" room.board "$3" >printed || fail "$3: status $?"
+    [ "$(wc -c <printed)" -eq "$1" ] || fail "$3: printed $(wc -c <printed) bytes, expected $1"
+    [ "$(tail -n 1 printed)" = "$2" ] || fail "$3: the last line is
+$(tail -n 1 printed)"
+    rm printed
+}
+expect_long 57477 "$(printf '%-68s' "500    0")" sheet
+expect_long 165748 "Job 3992 moves from bench 1 to bench 2." level
 
 # A new board in place of the file; its permissions and a link to it stay.
 chmod 640 room.board

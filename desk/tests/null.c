@@ -1,4 +1,4 @@
-/* NULL where a length is 0: a table of each of the ten calls, a tight set's list and a sheet's page. Each is refused as a length of 0 is. */
+/* NULL where a length is 0: the table of each of the ten calls, a tight set's list, a sheet's page. Each is refused as a length of 0 is. */
 #include "calls.h"
 #include "jobboard.h"
 #include "support.h"

@@ -1,6 +1,8 @@
 /*
  * Wall sheets tried by hand: each page byte by byte, on pages of many lengths and with chains in any order, and read back by columns.
  * A refused call leaves every byte of the page, and every call every byte of the table.
+ *
+ * Argument: the header, which shows a sheet.
  */
 #include "calls.h"
 #include "jobboard.h"
@@ -138,7 +140,27 @@ static void twelve_and_thirteen(struct table *t)
     expect_sheet_in_any_order(t);
 }
 
-static void header_example(struct table *t)
+/* Adds the lines that the header shows between bars. */
+static void add_header_lines(const char *header)
+{
+    static const char before[] = " *     |";
+    char line[300];
+    FILE *file = fopen(header, "r");
+    if (file == NULL)
+        fail("sheets: cannot open %s", header);
+    while (fgets(line, sizeof line, file) != NULL) {
+        char *text = line + strlen(before), *end = strrchr(line, '|');
+        if (strncmp(line, before, strlen(before)) != 0)
+            continue;
+        if (end != text + JOBBOARD_SHEET_LINE_BYTES - 1)
+            fail("sheets: %s shows a line that has not 68 characters: %s", header, line);
+        *end = 0;
+        add_line(text);
+    }
+    fclose(file);
+}
+
+static void header_example(struct table *t, const char *header)
 {
     const uint32_t first[] = {1, 2, 3, 5, 8, 13, 21, 34, 55, 89, 144, 233, 377, 4000};
     begin_sheet("the header's example");
@@ -147,10 +169,7 @@ static void header_example(struct table *t)
         make_stand(t, first[i], 2, 1, 2);
     make_stand(t, 4, 3, 1, 1);
     make_stand(t, 6, 2, 3, 2);
-    add_line("  1   14    1    2    3    5    8   13   21   34   55   89  144  233");
-    add_line("          377 4000");
-    add_line("  2    0");
-    add_line("  3    2    4    6");
+    add_header_lines(header);
     expect_sheet_in_any_order(t);
 }
 
@@ -186,6 +205,29 @@ static void longest(struct table *t, uint32_t heavy)
     expect_sheet_in_any_order(t);
 }
 
+/* Writes `text` on the expected sheet of this table, and expects that reading it back tells the difference. */
+static void expect_misread(const struct table *t, size_t line, size_t column, const char *text)
+{
+    memcpy(page, sheet, length);
+    memcpy(page + JOBBOARD_SHEET_LINE_BYTES * (line - 1) + column - 1, text, strlen(text));
+    if (sheet_names_holders(page, length, t->bytes))
+        fail("sheets: %s: \"%s\" in line %zu is not noticed when the sheet is read back", board, text, line);
+}
+
+/* Reads wrong sheets of the header's example, which is the last one tried: the reader must not take them for right. */
+static void misread(const struct table *t)
+{
+    expect_misread(t, 4, 14, "     ");      /* job 6 is missing */
+    expect_misread(t, 4, 14, "    7");      /* another is there in its place */
+    expect_misread(t, 4, 14, "    4");      /* job 4 is there twice */
+    expect_misread(t, 4, 19, "    7");      /* a job that is not standing */
+    expect_misread(t, 4, 14, "   6 ");      /* not right-aligned */
+    expect_misread(t, 4, 3, " ");           /* bench 3 is not named: its jobs are read as bench 2's */
+    expect_misread(t, 2, 3, "2");           /* bench 1's second line is bench 2's */
+    expect_misread(t, 1, 69, " ");          /* no line feed */
+    expect_misread(t, 2, 9, "  378");       /* a wrong digit */
+}
+
 /* Expects the lower refusal where two apply, whatever the page. */
 static void refusals(struct table *t)
 {
@@ -203,12 +245,15 @@ static void refusals(struct table *t)
     expect_refused(t, 0, JOBBOARD_SIZES);
 }
 
-int main(void)
+int main(int argc, char **argv)
 {
     static struct table t;
+    if (argc != 2)
+        fail("sheets: one argument: the header");
     without_jobs(&t);
     twelve_and_thirteen(&t);
-    header_example(&t);
+    header_example(&t, argv[1]);
+    misread(&t);
     longest(&t, 1);
     longest(&t, 500);
     refusals(&t);
