@@ -217,15 +217,15 @@ static void expect_misread(const struct table *t, size_t line, size_t column, co
 /* Reads wrong sheets of the header's example, which is the last one tried: the reader must not take them for right. */
 static void misread(const struct table *t)
 {
-    expect_misread(t, 4, 14, "     ");      /* job 6 is missing */
-    expect_misread(t, 4, 14, "    7");      /* another is there in its place */
-    expect_misread(t, 4, 14, "    4");      /* job 4 is there twice */
-    expect_misread(t, 4, 19, "    7");      /* a job that is not standing */
-    expect_misread(t, 4, 14, "   6 ");      /* not right-aligned */
-    expect_misread(t, 4, 3, " ");           /* bench 3 is not named: its jobs are read as bench 2's */
-    expect_misread(t, 2, 3, "2");           /* bench 1's second line is bench 2's */
-    expect_misread(t, 1, 69, " ");          /* no line feed */
-    expect_misread(t, 2, 9, "  378");       /* a wrong digit */
+    expect_misread(t, 4, 14, "     "); /* job 6 is missing */
+    expect_misread(t, 4, 14, "    7"); /* another is there in its place */
+    expect_misread(t, 4, 14, "    4"); /* job 4 is there twice */
+    expect_misread(t, 4, 19, "    7"); /* a job that is not standing */
+    expect_misread(t, 4, 14, "   6 "); /* not right-aligned */
+    expect_misread(t, 4, 3, " ");      /* bench 3 is not named: its jobs are read as bench 2's */
+    expect_misread(t, 2, 3, "2");      /* bench 1's second line is bench 2's */
+    expect_misread(t, 1, 69, " ");     /* no line feed */
+    expect_misread(t, 2, 9, "  378");  /* a wrong digit */
 }
 
 /* Expects the lower refusal where two apply, whatever the page. */

@@ -113,15 +113,19 @@ static unsigned run_index(const char *tables, const char *data)
     return rows;
 }
 
-/* The words of `calls`, with how many numbers follow. */
+/* The words of `calls`, and how many numbers follow. */
 static const struct {
     const char *word;
     enum kind kind;
     int numbers;
     bool lends; /* the last number is the length of a list or a page */
 } forms[] = {
-    {"A", ARRIVAL, 3, false}, {"D", CLOSING, 1, false}, {"L", LEVELLING, 1, false},
-    {"S", TIGHT_SET, 2, true}, {"O", LOAD, 1, false},   {"sheet", SHEET, 1, true},
+    {"A", ARRIVAL, 3, false},
+    {"D", CLOSING, 1, false},
+    {"L", LEVELLING, 1, false},
+    {"S", TIGHT_SET, 2, true},
+    {"O", LOAD, 1, false},
+    {"sheet", SHEET, 1, true},
 };
 
 /* Reads a call, such as "A 27 19 2". */
