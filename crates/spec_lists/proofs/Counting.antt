@@ -3,7 +3,7 @@ use Prim.Native.Nat.{ℕ, zero, suc, _+_, _*_, _≤_, _<_}
 use native.Mathlib.Omega.{arith}
 use native.Mathlib.Nat.{mul-add}
 use native.Mathlib.Decide.{decLt, decLe}
-use mathlib.Core.Path.{_≡_, refl, sym, ap, _∙_}
+use mathlib.Core.Path.{_≡_, refl, sym, ap, subst, _∙_}
 use mathlib.Core.Logic.{inl, inr, _≢_, _↔_}
 use mathlib.Core.Bool.{Bool, true, false, cond, _||_}
 use mathlib.Core.List.{List, [], _∷_, _++_, flatMap}
@@ -11,7 +11,7 @@ use lib.Dec.{T, eqb}
 use lib.ListN.{length, getD, set, replicate}
 use borrow.Author.Tests.{eq-eqb, ne-eqb}
 use Rattle.spec_lists.specs.Lists.{bit, within, count, member, distinct, range, total, greatest, filter, Each, In, nth, update}
-use Rattle.spec_lists.proofs.Tests.{Compared, same, other, compared, within-low, within-high}
+use Rattle.spec_lists.proofs.Tests.{true→T, Compared, same, other, compared, within-low, within-high, within-both}
 use Rattle.spec_lists.proofs.Elements.{in-each}
 use Rattle.spec_lists.proofs.NumberLists.{member-in, in-member, distinct-head, distinct-tail, flatMap-next}
 
@@ -160,6 +160,18 @@ total-once (suc n) y = go (total-once n y) (compared y (suc n))
     go : total n (λ x. bit (eqb y x)) ≤ 1 → {b : Bool} → Compared y (suc n) b → total n (λ x. bit (eqb y x)) + bit (eqb y (suc n)) ≤ 1
     go ih (same e) = omega (arith, total-above n y (omega arith), bit-le (eqb y (suc n)))
     go ih (other d) = omega (arith, bit-other y (suc n) d)
+
+-- .. just at one if it is within
+pub total-within : (n y : ℕ) → total n (λ x. bit (eqb y x)) ≡ bit (within 1 n y)
+total-within n y = go (within 1 n y) refl
+  where
+    go : (z : Bool) → within 1 n y ≡ z → total n (λ x. bit (eqb y x)) ≡ bit z
+    go true e =
+        let t = true→T (within 1 n y) e in
+        omega (arith, total-once n y, total-at n (λ x. bit (eqb y x)) y (within-low 1 n y t) (within-high 1 n y t), bit-same y y refl)
+    go false e =
+        let outside = total-same n (λ x. bit (eqb y x)) (λ x. 0) (λ x l u. bit-other y x (λ d. subst T e (within-both 1 n y (omega arith) (omega arith)))) in
+        omega (arith, outside, total-each n 0)
 
 -- numbers outside 1 to n are not counted
 pub total-count-le : (n : ℕ) (l : List ℕ) → total n (λ x. count x l) ≤ length l

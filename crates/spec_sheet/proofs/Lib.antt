@@ -1,3 +1,4 @@
 -- What is proved of the sheet.
 pub mod Lines
 pub mod Longest
+pub mod Reading
