@@ -2,15 +2,21 @@
 use Prim.Native.Nat.{ℕ, _≤_, _<_}
 use native.Mathlib.Omega.{arith}
 use mathlib.Core.Path.{_≡_, refl, sym, ap, _∙_}
+use mathlib.Core.Logic.{_↔_}
 use mathlib.Core.List.{List}
 use lib.Dec.{T}
 use lib.ListN.{length, take, drop, length-append, length-drop}
 use lib.Seq.{take-at, drop-at}
 use borrow.Author.Tests.{ltb-false, lt-ltb, le-ltb}
+use Rattle.spec_lists.specs.Lists.{In}
+use Rattle.spec_table.specs.Board.{stands, holderOf}
 use Rattle.spec_table.specs.Table.{sound, decode}
 use Rattle.spec_sheet.specs.Sheet.{sheet}
+use Rattle.spec_sheet.specs.Reading.{readSheet}
 use Rattle.spec_calls.specs.Answers.{isRefused, refused, said, pageTooShort, sheetIs}
 use Rattle.spec_calls.specs.Calls.{ask, wallSheet, questionConditions, refusals, answering, asked, accepted, outcome, sheetTold}
+use Rattle.spec_table.proofs.Sound.{sound-storable}
+use Rattle.spec_sheet.proofs.Reading.{sheet-read}
 use Rattle.spec_calls.proofs.Refusals.{accepted-by}
 use Rattle.spec_calls.proofs.ChainOrder.{sound-outcome}
 
@@ -44,3 +50,7 @@ module _ (t : List ℕ) (s : T (sound t)) (page : List ℕ) where
       let rest = drop (length text) page in
       rw (sym same, ap (λ o. o .lent) (a .1))
       (record { fits = h; text = take-at text rest (length text) refl; beyond = drop-at text rest (length text) refl; long = length-append text rest ∙ omega (arith, length-drop (length text) page) })
+
+  -- "The page read back by columns names each job's holder exactly": what the call wrote, cut at its answer
+  pub page-names-holders : (n : ℕ) → (outcome (ask wallSheet page) t) .answer ≡ said (sheetIs n) → (j x : ℕ) → In (j, x) (readSheet (take n ((outcome (ask wallSheet page) t) .lent))) ↔ (T (stands (decode t) j) × (holderOf (decode t) j ≡ x))
+  page-names-holders n e j x = rw ((sheet-says n e) .text) (sheet-read (decode t) (sound-storable t s) j x)
