@@ -111,11 +111,13 @@ module _ {A : Type 0} where
   each-replicate P zero a p = tt
   each-replicate P (suc n) a p = (p, each-replicate P n a p)
 
+  -- what every element has, the first n have ..
   pub each-take : (P : A → Type 0) (n : ℕ) (l : List A) → Each P l → Each P (take n l)
   each-take P zero l e = tt
   each-take P (suc n) [] e = tt
   each-take P (suc n) (x ∷ l) e = (e .0, each-take P n l (e .1))
 
+  -- .. and the others
   pub each-drop : (P : A → Type 0) (n : ℕ) (l : List A) → Each P l → Each P (drop n l)
   each-drop P zero l e = e
   each-drop P (suc n) [] e = tt

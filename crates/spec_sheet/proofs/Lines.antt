@@ -1,12 +1,12 @@
 -- How long fields, lines and the sheet are.
 use Prim.Native.Nat.{ℕ, zero, suc, _-_, _*_, _^_, _≤_, _<_}
 use native.Mathlib.Omega.{arith}
-use native.Mathlib.Decide.{decLe}
 use mathlib.Core.Path.{_≡_, refl, ap, _∙_}
+use mathlib.Core.Bool.{Bool, true, false, cond}
 use mathlib.Core.List.{List, [], _∷_, _++_, flatMap}
-use lib.Dec.{T}
+use lib.Dec.{T, leb}
 use lib.ListN.{length, take, drop, replicate, length-append, length-replicate, length-take, length-drop}
-use borrow.Author.Tests.{le-leb, lt-leb}
+use borrow.Author.Tests.{leb-true, leb-false}
 use Rattle.spec_lists.specs.Lists.{within, Each, In}
 use Rattle.spec_text.specs.Numbers.{lineFeed, space, digits}
 use Rattle.spec_table.specs.Board.{Board, jobsHeld, load}
@@ -21,9 +21,7 @@ use Rattle.spec_table.proofs.Held.{held-length, held-within}
 
 -- a number whose digits fit fills its columns ..
 pub field-length : (w n : ℕ) → length (digits n n) ≤ w → length (field w n) ≡ w
-field-length w n h =
-    let blanks = w - length (digits n n) in
-    omega (arith, length-append (replicate blanks space) (digits n n), length-replicate blanks space)
+field-length w n h = simp (length-append, length-replicate) (omega arith)
 
 -- .. as those of a number below the power of ten do
 pub field-wide : (m n : ℕ) → n < 10 ^ suc m → length (field (suc m) n) ≡ suc m
@@ -34,7 +32,7 @@ pub head-length : (x n : ℕ) → x < 1000 → n < 10000 → length (benchHead x
 head-length x n h g = omega (arith, length-append (field 3 x) (space ∷ field 4 n), field-wide 2 x h, field-wide 3 n g)
 
 -- jobs "in 5 columns each"
-pub fields-length : (js : List ℕ) → Each (λ j. j < 100000) js → length (flatMap (field 5) js) ≡ 5 * length js
+fields-length : (js : List ℕ) → Each (λ j. j < 100000) js → length (flatMap (field 5) js) ≡ 5 * length js
 unfolding flatMap
 fields-length [] e = refl
 fields-length (j ∷ js) e =
@@ -58,10 +56,7 @@ line-length head js h e u =
 pub lines-length : (k : ℕ) (head js : List ℕ) → length head ≡ 8 → Each (λ j. j < 100000) js → length js ≤ k → length (linesOf k head js) ≡ 69 * lineCount (length js)
 lines-length zero head js h e u = omega (arith, line-length head js h e (omega arith))
 lines-length (suc k) head js h e u =
-    elim (decLe (length js) 12) [
-      | yes d ↦ rw (le-leb (length js) 12 d) (omega (arith, length-append first [], here))
-      | no d ↦ rw (lt-leb (length js) 12 (omega arith)) (omega (arith, length-append first more, here, length-drop 12 js, lines-length k moreHead (drop 12 js) (length-replicate 8 space) (each-drop (λ j. j < 100000) 12 js e) (omega (arith, length-drop 12 js))))
-    ]
+    go (leb (length js) 12) refl (lines-length k moreHead (drop 12 js) (length-replicate 8 space) (each-drop (λ j. j < 100000) 12 js e) (omega (arith, length-drop 12 js)))
   where
     first : List ℕ
     first = lineWith head (take 12 js)
@@ -71,6 +66,10 @@ lines-length (suc k) head js h e u =
 
     here : length first ≡ 69
     here = line-length head (take 12 js) h (each-take (λ j. j < 100000) 12 js e) (omega (arith, length-take 12 js))
+
+    go : (z : Bool) → leb (length js) 12 ≡ z → length more ≡ 69 * lineCount (length (drop 12 js)) → length (first ++ cond z [] more) ≡ 69 * lineCount (length js)
+    go true t ih = omega (arith, length-append first [], here, leb-true (length js) 12 t)
+    go false t ih = omega (arith, length-append first more, here, length-drop 12 js, leb-false (length js) 12 t)
 
 module _ (b : Board) (s : Storable b) where
   -- there are at most 4,000 job numbers ..
