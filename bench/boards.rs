@@ -38,6 +38,22 @@ pub fn stands(t: &[u8], benches: usize, j: usize) -> bool {
     (0..4).any(|k| get(t, benches + 4 * j + k) != 0)
 }
 
+/// Counts the jobs that each bench of a sound table holds, bench 1 first.
+pub fn loads(t: &[u8]) -> Vec<usize> {
+    let (benches, jobs) = sizes(t);
+    let mut loads = vec![0; benches];
+    for j in (1..=jobs).filter(|&j| stands(t, benches, j)) {
+        let holder = get(t, benches + 4 * j + 2);
+        loads[get(t, benches + 4 * j + holder - 1) - 1] += 1;
+    }
+    loads
+}
+
+/// Gives the length of a sound table's sheet: lines of 69 bytes, twelve jobs on each, and for each bench at least one.
+pub fn sheet_length(t: &[u8]) -> usize {
+    loads(t).iter().map(|load| 69 * load.div_ceil(12).max(1)).sum()
+}
+
 /// A job number, the two benches it names, and which of them holds it (1 or 2).
 pub type Job = (usize, [usize; 2], usize);
 

@@ -1,7 +1,8 @@
-//! Random calls, and a call's answer by an implementation: a module with one function for each call.
+//! Random calls, and a call's answer by an implementation: a module with one function for each call. Beside its table a call is lent
+//! room: bytes for the list of a tight set or the page of a sheet.
 use crate::boards::{self, Random};
 
-/// A call with its numbers; a tight set also with the length of its list.
+/// A call with its numbers; a tight set also with the length of its list, a sheet with that of its page.
 #[derive(Clone, Copy, Debug)]
 pub enum Call {
     Blank(u32, u32),
@@ -13,9 +14,11 @@ pub enum Call {
     Load(u32),
     Heaviest,
     TightSet(u32, usize),
+    Sheet(usize),
 }
 
-pub const NAMES: [&str; 9] = ["blanking", "form check", "arrival", "closing", "levelling", "level check", "load", "heaviest", "tight set"];
+pub const NAMES: [&str; 10] =
+    ["blanking", "form check", "arrival", "closing", "levelling", "level check", "load", "heaviest", "tight set", "sheet"];
 
 /// Gives a call's place in NAMES.
 pub fn kind(call: Call) -> usize {
@@ -29,6 +32,25 @@ pub fn kind(call: Call) -> usize {
         Call::Load(..) => 6,
         Call::Heaviest => 7,
         Call::TightSet(..) => 8,
+        Call::Sheet(..) => 9,
+    }
+}
+
+/// Gives the length of the list or the page that a call is lent.
+pub fn room(call: Call) -> usize {
+    match call {
+        Call::TightSet(_, list) => list,
+        Call::Sheet(page) => page,
+        _ => 0,
+    }
+}
+
+/// Gives how many bytes an accepted call writes to its list or its page, by its values.
+fn written(call: Call, values: [u32; 3]) -> usize {
+    match call {
+        Call::TightSet(..) => 2 * values[0] as usize,
+        Call::Sheet(..) => values[0] as usize,
+        _ => 0,
     }
 }
 
@@ -65,10 +87,10 @@ pub fn bare(number: u32) -> Answer {
     }
 }
 
-/// Gives the answer of a module's function for a call, on a table and a list.
+/// Gives the answer of a module's function for a call, on a table and as much of the room as the call is lent.
 #[macro_export]
 macro_rules! answer {
-    ($module:ident, $call:expr, $table:expr, $list:expr) => {
+    ($module:ident, $call:expr, $table:expr, $room:expr) => {
         match $call {
             $crate::calls::Call::Blank(b, j) => $crate::calls::bare($module::blank($table, b, j)),
             $crate::calls::Call::FormCheck => $crate::calls::bare($module::form_check($table)),
@@ -78,31 +100,30 @@ macro_rules! answer {
             $crate::calls::Call::LevelCheck => $module::level_check($table).map($crate::calls::padded),
             $crate::calls::Call::Load(x) => $module::load($table, x).map($crate::calls::padded),
             $crate::calls::Call::Heaviest => $module::heaviest($table).map($crate::calls::padded),
-            $crate::calls::Call::TightSet(h, _) => $module::tight_set($table, h, $list).map($crate::calls::padded),
+            $crate::calls::Call::TightSet(h, len) => $module::tight_set($table, h, &mut $room[..len]).map($crate::calls::padded),
+            $crate::calls::Call::Sheet(len) => $module::sheet($table, &mut $room[..len]).map($crate::calls::padded),
         }
     };
 }
 
-/// An implementation: the answer to a call on a table and a list.
+/// An implementation: the answer to a call on a table and with this room.
 pub type Perform = fn(Call, &mut [u8], &mut [u8]) -> Answer;
 
-/// Performs a call with all implementations, which must answer alike and leave the same bytes, in the table and in
-/// the list, and all bytes if they refuse. Gives the table that they leave and their answer.
+/// Performs a call with all implementations, which must answer alike and leave the same bytes in the table and in
+/// the list or the page. Bytes behind what they write there stay, and all if they refuse. Gives the table that they
+/// leave and their answer.
 pub fn same<const N: usize>(all: [Perform; N], call: Call, t: &[u8], random: &mut Random) -> (Vec<u8>, Answer) {
-    let list: Vec<u8> = match call {
-        Call::TightSet(_, len) => (0..len).map(|_| random.below(256) as u8).collect(),
-        _ => vec![],
-    };
+    let room: Vec<u8> = (0..room(call)).map(|_| random.below(256) as u8).collect();
     let outcomes = all.map(|perform| {
-        let (mut after, mut list) = (t.to_vec(), list.clone());
-        let answer = perform(call, &mut after, &mut list);
-        (answer, after, list)
+        let (mut after, mut room) = (t.to_vec(), room.clone());
+        let answer = perform(call, &mut after, &mut room);
+        (answer, after, room)
     });
     assert!(outcomes.iter().all(|o| *o == outcomes[0]), "the implementations differ: {call:?} on {t:?} gives {outcomes:?}");
-    let (answer, after, after_list) = outcomes.into_iter().next().unwrap();
-    if answer.is_err() {
-        assert!(after == t && after_list == list, "{call:?} on {t:?} is refused and changes bytes");
-    }
+    let (answer, after, after_room) = outcomes.into_iter().next().unwrap();
+    let end = answer.map_or(0, |values| written(call, values));
+    assert!(after_room[end..] == room[end..], "{call:?} on {t:?} changes bytes behind its list or page");
+    assert!(answer.is_ok() || after == t, "{call:?} on {t:?} is refused and changes bytes");
     (after, answer)
 }
 
@@ -130,10 +151,22 @@ fn job(t: &[u8], standing: bool, random: &mut Random) -> u32 {
     }
 }
 
+/// Picks the length of a page: that of the table's sheet, longer, one less, 0, or shorter.
+fn page(t: &[u8], random: &mut Random) -> usize {
+    let sheet = boards::sheet_length(t);
+    match random.below(8) {
+        0 => 0,
+        1 => sheet - 1,
+        2 => random.below(sheet),
+        3..=5 => sheet,
+        _ => sheet + 1 + random.below(200),
+    }
+}
+
 /// Makes a call for a sound table, with numbers in and out of range.
 pub fn random_call(t: &[u8], random: &mut Random) -> Call {
     let (benches, jobs) = boards::sizes(t);
-    match random.below(16) {
+    match random.below(18) {
         0 if random.below(2) == 0 => Call::Blank(benches as u32, jobs as u32),
         0 => Call::Blank(number(benches, random), number(jobs, random)),
         1 => Call::FormCheck,
@@ -147,6 +180,7 @@ pub fn random_call(t: &[u8], random: &mut Random) -> Call {
         11 => Call::LevelCheck,
         12 => Call::Load(number(benches, random)),
         13 => Call::Heaviest,
+        14 | 15 => Call::Sheet(page(t, random)),
         _ => {
             let most = if random.below(4) != 0 { 1 + jobs / benches } else { jobs };
             let list = if random.below(2) == 0 { 2 * benches + random.below(40) } else { random.below(2 * benches + 3) };

@@ -1,25 +1,27 @@
 //! That implementations answer alike.
 use crate::boards::{self, Random};
-use crate::calls::{self, Perform};
+use crate::calls::{self, Call, Perform};
 use crate::independent;
 
 const ROUNDS: usize = 200_000;
 
-/// Picks sizes of a board to compare on: mostly small, now and then large.
+/// Picks sizes of a board to compare on: mostly small, now and then large, or with so many jobs that a bench takes several lines of the
+/// sheet.
 fn some_sizes(random: &mut Random) -> (usize, usize) {
     match random.below(400) {
         0 => (2 + random.below(499), 1 + random.below(600)),
         1 => (2 + random.below(499), 1 + random.below(4000)),
         2..=9 => (1, 1 + random.below(12)),
+        10..=29 => (2 + random.below(3), 12 + random.below(60)),
         _ => (2 + random.below(8), 1 + random.below(14)),
     }
 }
 
-/// Makes all calls on sound and damaged tables, four on each board: the implementations must answer alike and leave
-/// the same bytes. Counts the answers: accepted, then refused with 1 to 8.
-fn compare<const N: usize>(all: [Perform; N]) -> [usize; 9] {
+/// Makes calls on sound and damaged tables, four on each board, but those alone that all have: the implementations must answer alike and
+/// leave the same bytes. Counts the answers: accepted, then refused with 1 to 11.
+fn compare<const N: usize>(all: [Perform; N], have: fn(Call) -> bool) -> [usize; 12] {
     let mut random = Random(1);
-    let mut answers = [0; 9];
+    let mut answers = [0; 12];
     for _ in 0..ROUNDS / 4 {
         let (benches, jobs) = some_sizes(&mut random);
         let mut t = calls::random_table(benches, jobs, &mut random, |t| {
@@ -27,6 +29,9 @@ fn compare<const N: usize>(all: [Perform; N]) -> [usize; 9] {
         });
         for _ in 0..4 {
             let call = calls::random_call(&t, &mut random);
+            if !have(call) {
+                continue;
+            }
             let mut tried = t.clone();
             let damaged = random.below(8) == 0;
             if damaged {
@@ -42,10 +47,13 @@ fn compare<const N: usize>(all: [Perform; N]) -> [usize; 9] {
     answers
 }
 
-/// Compares implementations, which are called by these names, and prints the outcome.
-pub fn print<const N: usize>(names: &str, all: [Perform; N]) {
-    let [accepted, refused @ ..] = compare(all);
-    let refused: Vec<_> = refused.iter().zip(1..).map(|(count, number)| format!("{count} with {number}")).collect();
-    println!("{names}, {ROUNDS} random calls: same answers, tables and lists.");
+/// Compares implementations, which are called by these names, by the calls that all of them have, and prints the outcome. No call is
+/// refused with 9 or 10.
+pub fn print<const N: usize>(names: &str, all: [Perform; N], have: fn(Call) -> bool) {
+    let answers = compare(all, have);
+    let [accepted, refused @ ..] = answers;
+    let some = refused.iter().zip(1..).filter(|(count, _)| **count != 0);
+    let refused: Vec<_> = some.map(|(count, number)| format!("{count} with {number}")).collect();
+    println!("{names}, {} random calls: same answers, tables, lists and pages.", answers.iter().sum::<usize>());
     println!("{accepted} accepted; refused {}.", refused.join(", "));
 }

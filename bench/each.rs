@@ -1,5 +1,5 @@
 //! Each call on each board, timed with all implementations.
-use crate::calls::{moved, Call};
+use crate::calls::{moved, room, Call};
 use crate::figures::{head, micros, print_line, rows, two_places, Row};
 use crate::targets;
 use crate::timing::{times, Task};
@@ -10,7 +10,7 @@ const TABLE: &str = "each call";
 
 /// Gives the mean number of jobs moved, or of paths turned, of calls of one kind. None for calls that move none, and for refused ones.
 fn mean_moved(t: &[u8], calls: &[Call]) -> Option<f64> {
-    let each = calls.iter().map(|&call| moved(call, PROVED(call, &mut t.to_vec(), &mut [0; 1000]).ok()?));
+    let each = calls.iter().map(|&call| moved(call, PROVED(call, &mut t.to_vec(), &mut vec![0; room(call)]).ok()?));
     Some(each.sum::<Option<u32>>()? as f64 / calls.len() as f64)
 }
 

@@ -1,4 +1,4 @@
-//! Holds the independent implementation against document 01 read word for word: all paths are listed, and the rule's key chooses among
+//! Holds the independent implementation against the documents read word for word: all paths are listed, and the rule's key chooses among
 //! them. A program of its own, for small boards, which bench/run builds; it takes a number of rounds and a seed.
 mod boards;
 #[macro_use]
@@ -10,15 +10,24 @@ mod rules;
 use boards::Random;
 use calls::{kind, moved, Perform, NAMES};
 
+/// Picks sizes of a board to compare on, now and then with so many jobs that a bench takes several lines of the sheet.
+fn some_sizes(random: &mut Random) -> (usize, usize) {
+    match random.below(30) {
+        0 => (1, 1 + random.below(10)),
+        1 => (2, 12 + random.below(40)),
+        _ => (2 + random.below(5), 1 + random.below(10)),
+    }
+}
+
 /// Counts, for each call, those refused, those accepted, and those that hand jobs along. Answers and bytes must be
 /// alike.
-fn compare(rounds: usize, seed: u64) -> [[usize; 3]; 9] {
+fn compare(rounds: usize, seed: u64) -> [[usize; 3]; NAMES.len()] {
     let mut random = Random(seed);
-    let mut counts = [[0; 3]; 9];
-    let both: [Perform; 2] = [|c, t, list| answer!(independent, c, t, list), |c, t, list| answer!(rules, c, t, list)];
+    let mut counts = [[0; 3]; NAMES.len()];
+    let both: [Perform; 2] = [|c, t, room| answer!(independent, c, t, room), |c, t, room| answer!(rules, c, t, room)];
     for _ in 0..rounds {
-        let benches = if random.below(30) == 0 { 1 } else { 2 + random.below(5) };
-        let mut t = calls::random_table(benches, 1 + random.below(10), &mut random, |t| {
+        let (benches, jobs) = some_sizes(&mut random);
+        let mut t = calls::random_table(benches, jobs, &mut random, |t| {
             independent::levelling(t, u32::MAX).unwrap();
         });
         for _ in 0..4 {

@@ -1,4 +1,4 @@
-//! Document 01, read word for word, however slow.
+//! Document 01 and the requests of 02, read word for word, however slow.
 use std::cmp::Reverse;
 
 /// A standing job: the two benches it names, and its holder, 0 for the first-named or 1.
@@ -241,4 +241,23 @@ pub fn tight_set(t: &[u8], height: u32, list: &mut [u8]) -> Result<[u32; 2], u32
     }
     let inside = board.jobs.iter().flatten().filter(|(names, _)| names.iter().all(|x| set.contains(x)));
     Ok([set.len() as u32, inside.count() as u32])
+}
+
+pub fn sheet(t: &[u8], page: &mut [u8]) -> Result<[u32; 1], u32> {
+    let board = read(t)?;
+    let mut sheet = String::new();
+    for x in 1..=board.benches {
+        let mut line = format!("{x:3} {:4}", board.load(x));
+        for (i, (j, _)) in board.chain(x).enumerate() {
+            if i > 0 && i % 12 == 0 {
+                sheet += &format!("{line:68}\n");
+                line = " ".repeat(8);
+            }
+            line += &format!("{j:5}");
+        }
+        sheet += &format!("{line:68}\n");
+    }
+    refusal(&[(11, page.len() < sheet.len())])?;
+    page[..sheet.len()].copy_from_slice(sheet.as_bytes());
+    Ok([sheet.len() as u32])
 }

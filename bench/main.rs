@@ -1,5 +1,5 @@
 //! The proved calls beside two other implementations: a plain one, which works as a straightforward program does, and an independent one,
-//! written from document 01 alone. First that all answer alike, then how long they take, in several processes. See bench/run.
+//! written from the documents alone. First that all answer alike, then how long they take, in several processes. See bench/run.
 mod boards;
 #[macro_use]
 mod calls;
@@ -17,9 +17,9 @@ mod trials;
 
 use calls::Perform;
 
-const PROVED: Perform = |c, t, list| answer!(proved, c, t, list);
-const PLAIN: Perform = |c, t, list| answer!(plain, c, t, list);
-const INDEPENDENT: Perform = |c, t, list| answer!(independent, c, t, list);
+const PROVED: Perform = |c, t, room| answer!(proved, c, t, room);
+const PLAIN: Perform = |c, t, room| answer!(plain, c, t, room);
+const INDEPENDENT: Perform = |c, t, room| answer!(independent, c, t, room);
 
 /// Prints the figures of this process, which has a number, as lines.
 fn measure(process: usize) {
@@ -39,7 +39,7 @@ fn report(files: &[String]) {
 fn main() {
     let arguments: Vec<_> = std::env::args().skip(1).collect();
     match arguments.first().map(String::as_str) {
-        Some("compare") => comparison::print("Proved, plain and independent", [PROVED, PLAIN, INDEPENDENT]),
+        Some("compare") => comparison::print("Proved, plain and independent", [PROVED, PLAIN, INDEPENDENT], |_| true),
         Some("measure") => measure(arguments[1].parse().unwrap()),
         Some("report") => report(&arguments[1..]),
         _ => panic!("compare, or measure and the process's number, or report and files"),

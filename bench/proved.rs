@@ -27,6 +27,7 @@ extern "C" {
         benches: *mut u32,
         jobs: *mut u32,
     ) -> u32;
+    fn jobboard_sheet(table: *const u8, len: usize, page: *mut u8, page_len: usize, length: *mut u32) -> u32;
 }
 
 /// What the results hold before a call: no call gives it, and a refused one leaves it.
@@ -97,4 +98,11 @@ pub fn tight_set(t: &[u8], height: u32, list: &mut [u8]) -> Result<[u32; 2], u32
     // SAFETY: as above; the list is lent with its own length.
     let number = unsafe { jobboard_tight_set(t.as_ptr(), t.len(), height, list.as_mut_ptr(), list.len(), &mut benches, &mut jobs) };
     values(number, [benches, jobs])
+}
+
+pub fn sheet(t: &[u8], page: &mut [u8]) -> Result<[u32; 1], u32> {
+    let mut length = UNSET;
+    // SAFETY: as above; the page is lent with its own length.
+    let number = unsafe { jobboard_sheet(t.as_ptr(), t.len(), page.as_mut_ptr(), page.len(), &mut length) };
+    values(number, [length])
 }

@@ -20,10 +20,7 @@ fn after(call: Call, t: &[u8]) -> (Vec<u8>, u32) {
 }
 
 fn sorted_loads(t: &[u8]) -> Vec<usize> {
-    let mut loads = vec![0; boards::sizes(t).0];
-    for (_, names, holder) in trials::standing(t) {
-        loads[names[holder - 1] - 1] += 1;
-    }
+    let mut loads = boards::loads(t);
     loads.sort();
     loads
 }

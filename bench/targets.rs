@@ -28,7 +28,7 @@ const NAMES: [&str; 4] = ["", "of the plain one's time", "of the independent one
 /// The calls whose name begins so, on which boards, at which sizes, against what, the most their ratio may be on any of these boards.
 struct Target(&'static str, Boards, From, Against, f64);
 
-const TARGETS: [Target; 27] = [
+const TARGETS: [Target; 28] = [
     Target("form check", RISING, ALL, INDEPENDENT, 1.0),
     Target("load", RISING, ALL, INDEPENDENT, 1.0),
     Target("heaviest", RISING, ALL, INDEPENDENT, 1.0),
@@ -56,6 +56,7 @@ const TARGETS: [Target; 27] = [
     Target("arrival", EVERY, LARGEST, CHECKS, 4.0),
     Target("closing", EVERY, LARGEST, CHECKS, 4.0),
     Target("levelling", EVERY, LARGEST, CHECKS, 4.0),
+    Target("sheet", EVERY, LARGEST, CHECKS, 5.0),
 ];
 
 /// What is hoped for beyond the targets.

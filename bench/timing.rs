@@ -1,5 +1,5 @@
 //! Least times of calls, taken in turn.
-use crate::calls::{Call, Perform, ACCEPTED};
+use crate::calls::{self, Call, Perform, ACCEPTED};
 use std::hint::black_box;
 use std::time::{Duration, Instant};
 
@@ -12,13 +12,16 @@ const WHOLE: Duration = Duration::from_millis(1000);
 /// is answered with: ACCEPTED or a refusal.
 pub struct Task<'a>(pub Perform, pub &'a [u8], pub &'a [Call], pub u32);
 
-/// A table, and what performs a task's calls as many times as it is told, on bytes that hold the table, and a list.
+/// A table, and what performs a task's calls as many times as it is told, on bytes that hold the table, and with room.
 struct Run<'a>(&'a [u8], Box<dyn Fn(usize, &mut [u8], &mut [u8]) + 'a>);
 
-/// The bytes that all runs are lent, so that none is better off by where its table and its list lie.
+/// The room that is enough for every call: that of the longest sheet, 833 lines, of 500 benches one of which holds 4,000 jobs.
+pub const ROOM: usize = 69 * 833;
+
+/// The bytes that all runs are lent, so that none is better off by where its table and its list or page lie.
 struct Lent {
     table: Vec<u8>,
-    list: [u8; 1000],
+    room: Vec<u8>,
 }
 
 impl Run<'_> {
@@ -27,7 +30,7 @@ impl Run<'_> {
         let t = &mut lent.table[..self.0.len()];
         t.copy_from_slice(self.0);
         let start = Instant::now();
-        self.1(size, t, &mut lent.list);
+        self.1(size, t, &mut lent.room);
         start.elapsed()
     }
 
@@ -45,7 +48,7 @@ impl Run<'_> {
 fn least(runs: &[Run]) -> Vec<f64> {
     let begin = Instant::now();
     let longest = runs.iter().map(|run| run.0.len()).max().unwrap();
-    let mut lent = Lent { table: vec![0; longest], list: [0; 1000] };
+    let mut lent = Lent { table: vec![0; longest], room: vec![0; ROOM] };
     let sizes: Vec<_> = runs.iter().map(|run| run.long_enough(&mut lent)).collect();
     let mut times = vec![f64::MAX; runs.len()];
     for round in 0..ROUNDS {
@@ -68,13 +71,13 @@ impl<'a> Task<'a> {
     /// Makes whole rounds of the calls, so that every implementation performs each of them equally often.
     fn run(&self) -> Run<'a> {
         let (&Task(perform, table, calls, _), changes) = (self, self.changes());
-        let performed = move |n, t: &mut [u8], list: &mut [u8]| {
+        let performed = move |n, t: &mut [u8], room: &mut [u8]| {
             for _ in 0..n {
                 for &call in calls {
                     if changes {
                         t.copy_from_slice(black_box(table));
                     }
-                    let _ = black_box(perform(black_box(call), black_box(&mut *t), list));
+                    let _ = black_box(perform(black_box(call), black_box(&mut *t), room));
                 }
             }
         };
@@ -104,7 +107,7 @@ pub fn shift(process: usize) {
 pub fn times<const N: usize>(tasks: [Task; N]) -> [f64; N] {
     for Task(perform, table, calls, number) in &tasks {
         for &call in *calls {
-            let answer = perform(call, &mut table.to_vec(), &mut [0; 1000]);
+            let answer = perform(call, &mut table.to_vec(), &mut vec![0; calls::room(call)]);
             assert_eq!(answer.err().unwrap_or(ACCEPTED), *number, "{call:?} is answered otherwise than expected");
         }
     }

@@ -1,6 +1,7 @@
 //! The boards that are timed, and the calls on each.
 use crate::boards::{self, Job, Random};
 use crate::calls::{kind, Call, ACCEPTED, NAMES};
+use crate::timing::ROOM;
 use crate::{independent, INDEPENDENT};
 
 /// The sizes that are timed, B and J.
@@ -128,9 +129,9 @@ fn changes(t: &[u8], names: Names, random: &mut Random) -> Vec<Vec<Call>> {
 /// calls are answered with.
 struct Trial(String, Vec<u8>, Vec<Vec<Call>>, u32);
 
-/// Makes the trial of a sound table, whose calls are accepted.
+/// Makes the trial of a sound table with jobs, whose calls are accepted; last comes the sheet, on a page long enough for every one.
 fn sound(board: impl Into<String>, t: Vec<u8>, lists: Vec<Vec<Call>>) -> Trial {
-    Trial(board.into(), t, lists, ACCEPTED)
+    Trial(board.into(), t, [lists, vec![vec![Call::Sheet(ROOM)]]].concat(), ACCEPTED)
 }
 
 /// Makes the trial of the form check of a board whose word 2, the number of the standing jobs, is one too high: known only when
@@ -180,9 +181,10 @@ fn special(benches: usize, jobs: usize) -> [Trial; 3] {
 /// Makes all boards of a size.
 fn trials(benches: usize, jobs: usize) -> Vec<Trial> {
     let random = &mut Random(11);
-    let blanking = vec![vec![Call::Blank(benches as u32, jobs as u32)]];
+    let blanking = Call::Blank(benches as u32, jobs as u32);
+    let any = Trial("any".into(), boards::blank(benches, jobs), vec![vec![blanking]], ACCEPTED);
     let [pairs, ring] = KINDS.map(|kind| nearly_full(kind, benches, jobs, random));
-    let mut trials = vec![sound("any", boards::blank(benches, jobs), blanking), miscounted(&pairs[0])];
+    let mut trials = vec![any, miscounted(&pairs[0])];
     trials.extend(pairs);
     trials.extend(ring);
     trials.extend(out_of_order(benches, jobs, random));

@@ -1,4 +1,5 @@
-//! The calls of document 01, written from the document alone and without bounds checks: what the proved ones are measured against.
+//! The calls of document 01, and the sheet of 02, written from the documents alone and without bounds checks: what the proved ones are
+//! measured against.
 //!
 //! Each call makes the form check first and then tests its refusals in rising order, so that the lowest number is returned, and writes
 //! nothing before the last of them. It gives its values, or the number of the refusal.
@@ -6,6 +7,7 @@ mod chains;
 mod form;
 mod level;
 mod search;
+mod sheet;
 mod words;
 
 use chains::Step;
@@ -193,4 +195,15 @@ pub fn tight_set(t: &[u8], height: u32, list: &mut [u8]) -> Result<[u32; 2], u32
         }
     }
     Ok([benches as u32, inside])
+}
+
+/// Writes the sheet on the page and gives its length.
+pub fn sheet(t: &[u8], page: &mut [u8]) -> Result<[u32; 1], u32> {
+    let mut board = Board::new();
+    form::read(t, &mut board)?;
+    let length = sheet::length(&board);
+    refuse_if(page.len() < length, 11)?;
+    // SAFETY: the table is sound and this part of the page as long as the sheet.
+    unsafe { sheet::write(t, &board, page.get_unchecked_mut(..length)) };
+    Ok([length as u32])
 }

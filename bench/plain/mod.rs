@@ -1,10 +1,12 @@
-//! The calls of document 01 as a straightforward program makes them, without bounds checks: passes over the records, lists in arrays,
-//! searches of all that is reached, and chains made anew. Chains are read by the form check, by load and by heaviest alone.
+//! The calls of document 01, and the sheet of 02, as a straightforward program makes them, without bounds checks: passes over the
+//! records, lists in arrays, searches of all that is reached, and chains made anew. Chains are read by the form check, by load and by
+//! heaviest alone.
 //!
 //! Each call makes the form check first and then tests its refusals in rising order. It gives its values, or the number of the refusal.
 mod form;
 mod rows;
 mod search;
+mod sheet;
 mod work;
 
 pub use form::form_check;
@@ -225,5 +227,21 @@ pub fn tight_set(t: &[u8], height: u32, list: &mut [u8]) -> Result<[u32; 2], u32
             }
         }
         Ok([benches as u32, inside as u32])
+    }
+}
+
+/// Writes the sheet on the page and gives its length.
+pub fn sheet(t: &[u8], page: &mut [u8]) -> Result<[u32; 1], u32> {
+    let s = sound(t)?;
+    let mut work = Work::new(s);
+    // SAFETY: the table is sound; the page has room for the sheet once its length is tested.
+    unsafe {
+        work.read_loads(t);
+        let length = sheet::length(s, &work);
+        refuse_if(page.len() < length, 11)?;
+        work.read_arcs(t);
+        work.list_out();
+        sheet::write(s, &work, page);
+        Ok([length as u32])
     }
 }
