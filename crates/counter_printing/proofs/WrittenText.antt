@@ -9,7 +9,7 @@ use lib.ListN.{length, set, take, length-append, length-set}
 use lib.Seq.{take-all, take-suc, take-suc-set}
 use Rattle.spec_text.specs.Numbers.{lineFeed, space, digits}
 use Rattle.spec_counter.specs.Counter.{printed}
-use Rattle.spec_text.proofs.Numbers.{digits-one, digits-next, digits-short}
+use Rattle.spec_text.proofs.Numbers.{digits-one, digits-last, digits-short}
 use Rattle.spec_table.specs.Table.{words}
 use Rattle.spec_table.proofs.Places.{length-words}
 use Rattle.table_words.specs.Bytes.{IsWord}
@@ -33,12 +33,6 @@ wrote-then {a} {b} {c} {s} {t} {i} {j} {k} v w =
 -- a byte
 pub wrote-byte : (a : List ℕ) (i x : ℕ) → i < length a → Wrote a (set a i x) i (i + 1) (x ∷ [])
 wrote-byte a i x h = record { long = length-set a i x; next-is = refl; written = rw add-one (take-suc-set a i x h) }
-
--- the last digit stands behind the others
-digits-last : (n : ℕ) → 10 ≤ n → digits n n ≡ digits (n / 10) (n / 10) ++ ((code "0" + n % 10) ∷ [])
-digits-last n h =
-    let e : 10 * (n / 10) + n % 10 ≡ n = omega arith in
-    ap (λ (m : ℕ). digits m m) (sym e) ∙ digits-next (n / 10) (n % 10) (omega arith) (omega arith)
 
 -- one digit takes one byte ..
 pub digit-room : (n : ℕ) → n < 10 → length (digits n n) ≡ 1

@@ -64,6 +64,12 @@ digits-next n d h g =
     ∙ ap (λ (i : ℕ). digits k n ++ ((code "0" + i) ∷ [])) back
     ∙ ap (λ (l : List ℕ). l ++ ((code "0" + d) ∷ [])) (digits-fuel k n n (omega arith) (omega arith))
 
+-- the last digit stands behind the others
+pub digits-last : (n : ℕ) → 10 ≤ n → digits n n ≡ digits (n / 10) (n / 10) ++ ((code "0" + n % 10) ∷ [])
+digits-last n h =
+    let e : 10 * (n / 10) + n % 10 ≡ n = omega arith in
+    ap (λ (m : ℕ). digits m m) (sym e) ∙ digits-next (n / 10) (n % 10) (omega arith) (omega arith)
+
 -- what is read after a number is written behind it
 digits-value : (n : ℕ) (l : List ℕ) → 1 ≤ n → T (all digit l) → digits (value n l) (value n l) ≡ digits n n ++ l
 digits-value n [] h t = sym (append-nil (digits n n))

@@ -1,0 +1,3 @@
+-- What is proved of text on a page and of numbers in columns.
+pub mod Page
+pub mod Columns

@@ -1,0 +1,63 @@
+-- Three stores are the text: the number's columns.
+use borrow.Author.Needs.{needs}
+use native.Mathlib.Omega.{arith}
+use lib.ListN.{length-set}
+use Prim.Native.Nat.{_+_, _%_}
+use Rattle.sheet_fields.specs.Page.{columnOf}
+use Rattle.sheet_fields.proofs.Page.{text-three}
+use Rattle.sheet_fields.proofs.Columns.{field-3}
+use Rattle.sheet_fields.proofs.write_bench.Statement.{statement}
+use Rattle.sheet_fields.proofs.write_bench.Tie as tie
+
+column-requires : tie.Need-column-requires
+column-requires c κs = search needs
+
+slice-write-page : tie.Need-slice-write-page
+slice-write-page c = search needs
+
+column-requires-2 : tie.Need-column-requires-2
+column-requires-2 c κs = search needs
+
+add-page : tie.Need-add-page
+add-page c = search needs
+
+slice-write-page-2 : tie.Need-slice-write-page-2
+slice-write-page-2 c = simp length-set (omega arith)
+
+cast-page : tie.Need-cast-page
+cast-page c = search needs
+
+add-page-2 : tie.Need-add-page-2
+add-page-2 c = search needs
+
+add-page-3 : tie.Need-add-page-3
+add-page-3 c = search needs
+
+slice-write-page-3 : tie.Need-slice-write-page-3
+slice-write-page-3 c = simp length-set (omega arith)
+
+same-length : tie.Need-same-length
+same-length c = search needs
+
+returns : tie.Need-returns
+returns c =
+    let start = c .before .before .before in
+    let args = start .args in
+    rw (c .before .column .ensures, c .column2 .ensures, field-3 (args .x) (start .pre .0))
+    (text-three (args .page .now) (args .at) (columnOf (args .x) 100) (columnOf (args .x) 10) (48 + args .x % 10) (start .pre .1))
+
+pub write-bench-spec : {M : Type 1} → statement M
+write-bench-spec =
+    tie.close
+    (tie.spec
+    column-requires
+    slice-write-page
+    column-requires-2
+    add-page
+    slice-write-page-2
+    cast-page
+    add-page-2
+    add-page-3
+    slice-write-page-3
+    same-length
+    returns)

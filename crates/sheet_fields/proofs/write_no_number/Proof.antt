@@ -1,0 +1,56 @@
+-- Five stores are the text.
+use borrow.Author.Needs.{needs}
+use native.Mathlib.Omega.{arith}
+use lib.ListN.{length-set}
+use Rattle.sheet_fields.proofs.Page.{text-five}
+use Rattle.sheet_fields.proofs.write_no_number.Statement.{statement}
+use Rattle.sheet_fields.proofs.write_no_number.Tie as tie
+
+slice-write-page : tie.Need-slice-write-page
+slice-write-page c = search needs
+
+add-page : tie.Need-add-page
+add-page c = search needs
+
+slice-write-page-2 : tie.Need-slice-write-page-2
+slice-write-page-2 c = simp length-set (omega arith)
+
+add-page-2 : tie.Need-add-page-2
+add-page-2 c = search needs
+
+slice-write-page-3 : tie.Need-slice-write-page-3
+slice-write-page-3 c = simp length-set (omega arith)
+
+add-page-3 : tie.Need-add-page-3
+add-page-3 c = search needs
+
+slice-write-page-4 : tie.Need-slice-write-page-4
+slice-write-page-4 c = simp length-set (omega arith)
+
+add-page-4 : tie.Need-add-page-4
+add-page-4 c = search needs
+
+slice-write-page-5 : tie.Need-slice-write-page-5
+slice-write-page-5 c = simp length-set (omega arith)
+
+same-length : tie.Need-same-length
+same-length c = search needs
+
+returns : tie.Need-returns
+returns c = text-five (c .args .page .now) (c .args .at) 32 32 32 32 32 (c .pre)
+
+pub write-no-number-spec : {M : Type 1} → statement M
+write-no-number-spec =
+    tie.close
+    (tie.spec
+    slice-write-page
+    add-page
+    slice-write-page-2
+    add-page-2
+    slice-write-page-3
+    add-page-3
+    slice-write-page-4
+    add-page-4
+    slice-write-page-5
+    same-length
+    returns)
