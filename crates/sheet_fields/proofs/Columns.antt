@@ -66,9 +66,9 @@ field-columns (suc w) n h =
     elim (decLt n (10 ^ suc w)) [
       | yes d ↦ field-blank w n d ∙ ap (λ (l : List ℕ). space ∷ l) (field-columns w n d) ∙ ap (λ (c : ℕ). c ∷ columns w n) (sym (column-blank n (10 ^ suc w) d))
       | no d ↦
-        let ten : 10 ≤ n = omega (arith, pow-succ' 10 w, one-le-pow w 10 (omega arith)) in
-        let front = field-columns w (n / 10) (omega (arith, pow-succ' 10 (suc w))) in
-        field-last (suc w) n ten ∙ ap (λ (l : List ℕ). l ++ ((code "0" + n % 10) ∷ [])) front ∙ columns-last w n ten
+          let ten : 10 ≤ n = omega (arith, pow-succ' 10 w, one-le-pow w 10 (omega arith)) in
+          let front = field-columns w (n / 10) (omega (arith, pow-succ' 10 (suc w))) in
+          field-last (suc w) n ten ∙ ap (λ (l : List ℕ). l ++ ((code "0" + n % 10) ∷ [])) front ∙ columns-last w n ten
     ]
 
 -- a number below 1,000 in 3 columns ..

@@ -30,8 +30,8 @@ text-then page at s t h =
     let long = before-end page at s h in
     let e : at + length s + length t ≡ at + length (s ++ t) = omega (arith, length-append s t) in
     let behind : drop (at + length s + length t) (front ++ rest) ≡ drop (at + length (s ++ t)) page =
-      sym (drop-drop (length t) (at + length s) (front ++ rest)) ∙ ap (drop (length t)) (drop-at front rest (at + length s) long)
-      ∙ drop-drop (length t) (at + length s) page ∙ ap (λ (n : ℕ). drop n page) e in
+    sym (drop-drop (length t) (at + length s) (front ++ rest)) ∙ ap (drop (length t)) (drop-at front rest (at + length s) long)
+    ∙ drop-drop (length t) (at + length s) page ∙ ap (λ (n : ℕ). drop n page) e in
     ap (λ (l : List ℕ). l ++ t ++ drop (at + length s + length t) (front ++ rest)) (take-at front rest (at + length s) long)
     ∙ ap (λ (l : List ℕ). front ++ t ++ l) behind
     ∙ ap (λ (l : List ℕ). l ++ drop (at + length (s ++ t)) page) (append-assoc (take at page) s t)

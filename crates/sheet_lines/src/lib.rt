@@ -5,8 +5,17 @@ ghost use lib.ListN.{length};
 ghost use Rattle.spec_sheet.specs.Sheet.{lineCount};
 ghost use Rattle.table_size.specs.Sizes.{Limits};
 ghost use Rattle.sheet_fields.specs.Page.{withText};
-ghost use Rattle.sheet_lines.specs.Lines.{cellText, after, Listed, LineWritten, Room, BenchWritten, Measured,
-    RoomForAll, SheetWritten};
+ghost use Rattle.sheet_lines.specs.Lines.{
+  cellText,
+  after,
+  Listed,
+  LineWritten,
+  Room,
+  BenchWritten,
+  Measured,
+  RoomForAll,
+  SheetWritten,
+};
 use table_size::Size;
 
 // Counts the characters of a line, the line feed included.
