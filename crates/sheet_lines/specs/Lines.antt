@@ -36,8 +36,10 @@ pub record LineWritten (next page page' : List ℕ) (at j r : ℕ) : Type 0 wher
   pub rest : (js : List ℕ) → ListFrom next j js → ListFrom next r (drop 12 js)
 
 -- the page has room for the lines of the list from job j on
-abbrev pub Room : List ℕ → List ℕ → ℕ → ℕ → Type 0
-Room next page at j = (js : List ℕ) × ListFrom next j js × (at + 69 * lineCount (length js) ≤ length page)
+pub record Room (next page : List ℕ) (at j : ℕ) : Type 0 where
+  pub jobs : List ℕ
+  pub from : ListFrom next j jobs
+  pub fits : at + 69 * lineCount (length jobs) ≤ length page
 
 -- all lines of the list were written, behind the bench and its load; r is the place after them
 pub record BenchWritten (next page page' : List ℕ) (at x load j r : ℕ) : Type 0 where
@@ -61,6 +63,13 @@ RoomForAll s loads head next page =
 abbrev pub SheetWritten : Size → List ℕ → List ℕ → List ℕ → List ℕ → List ℕ → Type 0
 SheetWritten s loads head next page page' =
     (b : Board) → Sheeted b s loads head next → page' ≡ withText page 0 (sheet b)
+
+-- the loads are those of a board that a table of size s can hold
+pub record LoadsOf (s : Size) (loads : List ℕ) : Type 0 where
+  pub board : Board
+  pub storable : Storable board
+  pub benches : board .benches ≡ s .benches
+  pub loaded : Loaded board loads
 
 -- r is the length of the sheet of every board of this size with these loads
 pub record Measured (s : Size) (loads : List ℕ) (r : ℕ) : Type 0 where

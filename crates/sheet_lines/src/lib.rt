@@ -3,7 +3,6 @@ ghost use mathlib.Core.Path.{_≡_};
 ghost use Prim.Native.Nat.{_+_, _*_, _≤_, _<_};
 ghost use lib.ListN.{length};
 ghost use Rattle.spec_sheet.specs.Sheet.{lineCount};
-ghost use Rattle.table_size.specs.Sizes.{Limits};
 ghost use Rattle.sheet_fields.specs.Page.{withText};
 ghost use Rattle.sheet_lines.specs.Lines.{
   cellText,
@@ -12,6 +11,7 @@ ghost use Rattle.sheet_lines.specs.Lines.{
   LineWritten,
   Room,
   BenchWritten,
+  LoadsOf,
   Measured,
   RoomForAll,
   SheetWritten,
@@ -115,7 +115,7 @@ fn line_count(load: usize) -> usize
 
 // Computes how long the sheet is.
 pub fn length(s: Size, loads: &[u16; Size::MOST_BENCHES + 1]) -> usize
-    requires { ⌜ Limits s ⌝ }
+    requires { ⌜ LoadsOf s (now loads) ⌝ }
     ensures { λ r. ⌜ Measured s (now (loads .entry)) r ⌝ }
 {
     let benches = s.benches();

@@ -1,0 +1,137 @@
+-- The lines of all benches: how long they are, and written one bench after the other.
+use Prim.Native.Nat.{ℕ, suc, _+_, _-_, _*_, _≤_, _<_}
+use native.Mathlib.Omega.{arith}
+use native.Mathlib.Numerals.{add-one}
+use native.Mathlib.Nat.{sub-zero}
+use mathlib.Core.Path.{_≡_, sym, ap, _∙_}
+use mathlib.Core.List.{List, [], _++_, flatMap}
+use lib.Dec.{T}
+use lib.ListN.{length, getD, length-append}
+use Rattle.spec_lists.specs.Lists.{within, range, total}
+use Rattle.spec_lists.proofs.Tests.{within-high, within-both}
+use Rattle.spec_lists.proofs.Counting.{total-same}
+use Rattle.spec_table.specs.Board.{Board, jobsHeld, load}
+use Rattle.spec_table.specs.Table.{mostBenches, mostJobs, Storable}
+use Rattle.spec_table.proofs.Held.{held-length}
+use Rattle.spec_sheet.specs.Sheet.{benchHead, linesOf, benchLines, sheet, lineCount, sheetLines}
+use Rattle.spec_sheet.proofs.Lines.{load-most, bench-length, sheet-lines}
+use Rattle.table_size.specs.declared.Size.{Size}
+use Rattle.table_board.specs.BoardView.{Loaded}
+use Rattle.sheet_fields.specs.Page.{withText}
+use Rattle.sheet_fields.proofs.Page.{text-none, text-then}
+use Rattle.sheet_lines.specs.Lines.{Room, BenchWritten, Sheeted, SheetWritten, LoadsOf, Measured}
+use Rattle.sheet_lines.proofs.Lists.{list-most}
+
+-- the lines of benches 1 to n by their loads
+abbrev pub linesTo : List ℕ → ℕ → ℕ
+linesTo loads n = total n (λ x. lineCount (getD loads x 0))
+
+module _ {s : Size} {loads : List ℕ} (z : LoadsOf s loads) where
+  -- there are at most 500 benches ..
+  pub benches-few : s .benches ≤ mostBenches
+  benches-few = omega (arith, z .benches, within-high 1 mostBenches (z .board .benches) (z .storable .benches))
+
+  -- .. and each has a load of at most 4,000
+  pub load-few : (x : ℕ) → 1 ≤ x → x ≤ s .benches → getD loads x 0 ≤ mostJobs
+  load-few x l u = omega (arith, z .loaded .bench x l (omega (arith, benches-few)), load-most (z .board) (z .storable) x)
+
+-- a line more for each bench, and for each further twelve jobs that it holds
+pub lines-next : (loads : List ℕ) (n lines r : ℕ) → lines ≡ linesTo loads n → r ≡ lineCount (getD loads (n + 1) 0) → lines + r ≡ linesTo loads (n + 1)
+lines-next loads n lines r e d = rw (add-one n) (omega (arith, e, rw (add-one n) at d))
+
+-- 69 characters a line
+pub measured : {s : Size} {loads : List ℕ} (lines : ℕ) → lines ≡ linesTo loads (s .benches) → Measured s loads (69 * lines)
+unfolding sheetLines
+measured {s} {loads} lines e = record { is = length-is }
+  where
+    length-is : (b : Board) → Storable b → b .benches ≡ s .benches → Loaded b loads → 69 * lines ≡ length (sheet b)
+    length-is b z d l =
+        let most = within-high 1 mostBenches (b .benches) (z .benches) in
+        let same = total-same (b .benches) (λ x. lineCount (getD loads x 0)) (λ x. lineCount (load (b .holders) x)) (λ x p q. ap lineCount (l .bench x p (omega arith))) in
+        omega (arith, sheet-lines b z, same, ap (linesTo loads) d)
+
+-- the lines of the benches behind bench n
+abbrev linesFrom : Board → ℕ → List ℕ
+linesFrom b n = flatMap (benchLines b) (range (suc n) (b .benches - n))
+
+-- those of the next bench, and of the benches behind it
+from-next : (b : Board) (n : ℕ) → n < b .benches → linesFrom b n ≡ benchLines b (n + 1) ++ linesFrom b (n + 1)
+unfolding flatMap
+from-next b n h = let e : b .benches - n ≡ suc (b .benches - suc n) = omega arith in rw (e, add-one n)
+
+-- none behind the last
+from-last : (b : Board) (n : ℕ) → b .benches ≤ n → linesFrom b n ≡ []
+unfolding flatMap
+from-last b n h = let e : b .benches - n ≡ 0 = omega arith in rw e
+
+-- the lines of some benches are written: with those of the others they make the sheet
+pub record BenchesLeft (b : Board) (page₀ page : List ℕ) (at done : ℕ) : Type 0 where
+  pub whole : withText page at (linesFrom b done) ≡ withText page₀ 0 (sheet b)
+  pub ends : at + length (linesFrom b done) ≡ length (sheet b)
+
+-- none
+pub sheet-start : (b : Board) (page : List ℕ) → BenchesLeft b page page 0 0
+unfolding sheet
+sheet-start b page =
+    let e : linesFrom b 0 ≡ sheet b = ap (λ (n : ℕ). flatMap (benchLines b) (range 1 n)) (sub-zero (b .benches)) in
+    record { whole = ap (withText page 0) e; ends = omega (arith, ap length e) }
+
+module _ {b : Board} {s : Size} {loads head next : List ℕ} (z : Sheeted b s loads head next) (done : ℕ) (h : done < s .benches) where
+  next-bench : T (within 1 (b .benches) (done + 1))
+  next-bench = within-both 1 (b .benches) (done + 1) (omega arith) (omega (arith, z .benches))
+
+  -- the next bench's number has 3 digits, its load 4 ..
+  pub bench-few : done + 1 ≤ mostBenches
+  bench-few = omega (arith, z .benches, within-high 1 mostBenches (b .benches) (z .storable .benches))
+
+  load-is : getD loads (done + 1) 0 ≡ load (b .holders) (done + 1)
+  load-is = z .loaded .bench (done + 1) (omega arith) bench-few
+
+  pub load-light : getD loads (done + 1) 0 ≤ mostJobs
+  load-light = omega (arith, load-is, load-most b (z .storable) (done + 1))
+
+  -- .. as every job's does
+  pub first-most : getD head (done + 1) 0 ≤ mostJobs
+  first-most = list-most (z .lists .held (done + 1) next-bench)
+
+  jobs : List ℕ
+  jobs = jobsHeld 1 (done + 1) (b .holders)
+
+  lines-long : length (benchLines b (done + 1)) ≡ 69 * lineCount (length jobs)
+  unfolding jobs
+  lines-long =
+      bench-length b (z .storable) (done + 1) (omega arith) (omega (arith, z .benches))
+      ∙ ap (λ (n : ℕ). 69 * lineCount n) (sym (held-length 1 (done + 1) (b .holders)))
+
+  module _ {page₀ page : List ℕ} {at : ℕ} (c : BenchesLeft b page₀ page at done) where
+    -- a page with room for the sheet has room for the next bench's lines
+    pub bench-room : length (sheet b) ≤ length page → Room next page at (getD head (done + 1) 0)
+    unfolding jobs
+    bench-room u =
+        record {
+          jobs = jobs;
+          from = z .lists .held (done + 1) next-bench;
+          fits = omega (arith, c .ends, ap length (from-next b done (omega (arith, z .benches))), length-append (benchLines b (done + 1)) (linesFrom b (done + 1)), lines-long);
+        }
+
+    -- one bench more
+    pub bench-turn : {page' : List ℕ} {r : ℕ} → at ≤ length page → BenchWritten next page page' at (done + 1) (getD loads (done + 1) 0) (getD head (done + 1) 0) r → BenchesLeft b page₀ page' r (done + 1)
+    unfolding jobs benchLines
+    bench-turn {page'} {r} u w =
+        let first : List ℕ = benchLines b (done + 1) in
+        let more : List ℕ = linesFrom b (done + 1) in
+        let from = z .lists .held (done + 1) next-bench in
+        let lines = from-next b done (omega (arith, z .benches)) in
+        let written : page' ≡ withText page at first = w .lines jobs from ∙ ap (λ (n : ℕ). withText page at (linesOf (length jobs) (benchHead (done + 1) n) jobs)) load-is in
+        let place : r ≡ at + length first = w .end jobs from ∙ ap (λ (n : ℕ). at + n) (sym lines-long) in
+        record {
+          whole =
+              ap (λ (p : List ℕ). withText p r more) written ∙ ap (λ (n : ℕ). withText (withText page at first) n more) place
+              ∙ text-then page at first more u ∙ ap (withText page at) (sym lines) ∙ c .whole;
+          ends = omega (arith, place, ap length lines, length-append first more, c .ends);
+        }
+
+-- all of them
+pub sheet-end : {s : Size} {loads head next page₀ page : List ℕ} {at done : ℕ} → s .benches ≤ done → ((b : Board) → Sheeted b s loads head next → BenchesLeft b page₀ page at done) → SheetWritten s loads head next page₀ page
+sheet-end {s} {loads} {head} {next} {page₀} {page} {at} {done} h c b z =
+    sym (text-none page at) ∙ ap (withText page at) (sym (from-last b done (omega (arith, z .benches)))) ∙ c b z .whole

@@ -1,0 +1,79 @@
+-- The loop's invariant: the lines of the benches that are done are counted. The measure is the benches that are left.
+use borrow.Author.Needs.{needs}
+use Prim.Native.Nat.{_+_, _-_, _*_, _≤_}
+use native.Mathlib.Omega.{arith}
+use mathlib.Core.Path.{_≡_, refl}
+use Rattle.sheet_lines.proofs.AllLines.{linesTo, benches-few, load-few, lines-next, measured}
+use Rattle.sheet_lines.proofs.length.Statement.{statement}
+use Rattle.sheet_lines.proofs.length.Tie as tie
+
+abbrev Inv-loop : tie.InvT-loop
+Inv-loop loads benches lines₀ done₀ lines done = (lines ≡ linesTo loads done) × (done ≤ benches) × (lines ≤ 334 * done)
+
+abbrev μ-loop : tie.MeasureT-loop
+μ-loop loads benches lines₀ done₀ lines done = benches - done
+
+benches-requires : tie.Need-benches-requires Inv-loop μ-loop
+benches-requires c κs = search needs
+
+loop-holds : tie.Need-loop-holds Inv-loop μ-loop
+loop-holds c = (refl, omega arith, omega arith)
+
+add-done : tie.Need-add-done Inv-loop μ-loop
+add-done c = search needs
+
+mul-line-count : tie.Need-mul-line-count Inv-loop μ-loop
+mul-line-count c = omega (arith, benches-few (c .before .before .before .pre))
+
+element-copy-out-line-count : tie.Need-element-copy-out-line-count Inv-loop μ-loop
+element-copy-out-line-count c = omega (arith, benches-few (c .before .before .before .pre))
+
+cast-line-count : tie.Need-cast-line-count Inv-loop μ-loop
+cast-line-count c = omega (arith, load-few (c .before .before .before .before .pre) (c .before .before .loop .done + 1) (omega arith) (omega arith))
+
+line-count-requires : tie.Need-line-count-requires Inv-loop μ-loop
+line-count-requires c κs = omega (arith, load-few (c .before .before .before .before .pre) (c .before .before .loop .done + 1) (omega arith) (omega arith))
+
+loop-again : tie.Need-loop-again Inv-loop μ-loop
+loop-again c =
+    let loop = c .before .before .before .loop in
+    let start = c .before .before .before .before .before in
+    let few = load-few (start .pre) (loop .done + 1) (omega arith) (omega arith) in (
+      lines-next (start .args .loads .now) (loop .done) (loop .lines) (c .line-count .result) (loop .inv .0) (c .line-count .ensures),
+      omega arith,
+      omega (arith, c .line-count .ensures, few),
+    )
+
+add-lines : tie.Need-add-lines Inv-loop μ-loop
+add-lines c = omega (arith, benches-few (c .before .before .before .before .before .pre), loop-again c .2)
+
+loop-less : tie.Need-loop-less Inv-loop μ-loop
+loop-less c = search needs
+
+mul-result : tie.Need-mul-result Inv-loop μ-loop
+mul-result c = omega (arith, benches-few (c .before .before .before .pre))
+
+returns : tie.Need-returns Inv-loop μ-loop
+returns c =
+    let loop = c .before .loop in
+    let last : loop .done ≡ c .before .before .benches .result = omega arith in
+    measured (loop .lines) (rw (last, c .before .before .benches .ensures) at (loop .inv .0))
+
+pub length-spec : {M : Type 1} → statement M
+length-spec =
+    tie.close
+    (tie.spec
+    Inv-loop
+    μ-loop
+    benches-requires
+    loop-holds
+    add-done
+    mul-line-count
+    element-copy-out-line-count
+    cast-line-count
+    line-count-requires
+    add-lines
+    loop-less
+    loop-again
+    mul-result
+    returns)
