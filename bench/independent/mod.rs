@@ -1,4 +1,4 @@
-//! The calls of document 01, and the sheet of 02, written from the documents alone and without bounds checks: what the proved ones are
+//! The calls of document 01, written from the document alone, and the sheet of 02, without bounds checks: what the proved ones are
 //! measured against.
 //!
 //! Each call makes the form check first and then tests its refusals in rising order, so that the lowest number is returned, and writes
