@@ -4,7 +4,7 @@ use native.Mathlib.Omega.{arith}
 use native.Mathlib.Numerals.{add-one, add-two, add-three, add-four}
 use mathlib.Core.Path.{_≡_, sym, ap, _∙_}
 use mathlib.Core.List.{List, [], _∷_, _++_, append-assoc}
-use lib.ListN.{length, take, drop, set, length-append, length-drop}
+use lib.ListN.{length, take, drop, set, length-append}
 use lib.Seq.{length-take-le, take-at, drop-at, drop-drop, sets-eq, paste-zero}
 use Rattle.sheet_fields.specs.Page.{withText}
 
@@ -16,15 +16,9 @@ text-none page at = sym (paste-zero page at [])
 before-end : (page : List ℕ) (at : ℕ) (s : List ℕ) → at ≤ length page → length (take at page ++ s) ≡ at + length s
 before-end page at s h = omega (arith, length-append (take at page) s, length-take-le at page h)
 
--- a text that fits keeps the page's length
-pub text-length : (page : List ℕ) (at : ℕ) (s : List ℕ) → at + length s ≤ length page → length (withText page at s) ≡ length page
-text-length page at s h =
-    let rest : List ℕ = drop (at + length s) page in
-    omega (arith, length-append (take at page ++ s) rest, before-end page at s (omega arith), length-drop (at + length s) page)
-
 -- a text right behind another: both are one
-pub text-then : (page : List ℕ) (at : ℕ) (s t : List ℕ) → at ≤ length page → withText (withText page at s) (at + length s) t ≡ withText page at (s ++ t)
-text-then page at s t h =
+text-behind : (page : List ℕ) (at : ℕ) (s t : List ℕ) → at ≤ length page → withText (withText page at s) (at + length s) t ≡ withText page at (s ++ t)
+text-behind page at s t h =
     let front : List ℕ = take at page ++ s in
     let rest : List ℕ = drop (at + length s) page in
     let long = before-end page at s h in
@@ -35,6 +29,10 @@ text-then page at s t h =
     ap (λ (l : List ℕ). l ++ t ++ drop (at + length s + length t) (front ++ rest)) (take-at front rest (at + length s) long)
     ∙ ap (λ (l : List ℕ). front ++ t ++ l) behind
     ∙ ap (λ (l : List ℕ). l ++ drop (at + length (s ++ t)) page) (append-assoc (take at page) s t)
+
+-- a page that was written on, and more text from where that ends
+pub text-then : {page' : List ℕ} {r : ℕ} (page : List ℕ) (at : ℕ) (s t : List ℕ) → at ≤ length page → page' ≡ withText page at s → r ≡ at + length s → withText page' r t ≡ withText page at (s ++ t)
+text-then page at s t h e d = rw (e, d) (text-behind page at s t h)
 
 -- a byte
 pub text-byte : (page : List ℕ) (at c : ℕ) → at < length page → set page at c ≡ withText page at (c ∷ [])

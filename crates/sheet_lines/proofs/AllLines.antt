@@ -77,26 +77,31 @@ sheet-start b page =
     record { whole = ap (withText page 0) e; ends = omega (arith, ap length e) }
 
 module _ {b : Board} {s : Size} {loads head next : List ℕ} (z : Sheeted b s loads head next) (done : ℕ) (h : done < s .benches) where
+  -- the next bench is one of the board's
   next-bench : T (within 1 (b .benches) (done + 1))
   next-bench = within-both 1 (b .benches) (done + 1) (omega arith) (omega (arith, z .benches))
 
-  -- the next bench's number has 3 digits, its load 4 ..
+  -- its number is at most 500 ..
   pub bench-few : done + 1 ≤ mostBenches
   bench-few = omega (arith, z .benches, within-high 1 mostBenches (b .benches) (z .storable .benches))
 
+  -- .. the array has its load ..
   load-is : getD loads (done + 1) 0 ≡ load (b .holders) (done + 1)
   load-is = z .loaded .bench (done + 1) (omega arith) bench-few
 
+  -- .. which is at most 4,000 ..
   pub load-light : getD loads (done + 1) 0 ≤ mostJobs
   load-light = omega (arith, load-is, load-most b (z .storable) (done + 1))
 
-  -- .. as every job's does
+  -- .. as is the number of its first job
   pub first-most : getD head (done + 1) 0 ≤ mostJobs
   first-most = list-most (z .lists .held (done + 1) next-bench)
 
+  -- the jobs that it holds ..
   jobs : List ℕ
   jobs = jobsHeld 1 (done + 1) (b .holders)
 
+  -- .. and how long its lines are
   lines-long : length (benchLines b (done + 1)) ≡ 69 * lineCount (length jobs)
   unfolding jobs
   lines-long =
@@ -125,9 +130,7 @@ module _ {b : Board} {s : Size} {loads head next : List ℕ} (z : Sheeted b s lo
         let written : page' ≡ withText page at first = w .lines jobs from ∙ ap (λ (n : ℕ). withText page at (linesOf (length jobs) (benchHead (done + 1) n) jobs)) load-is in
         let place : r ≡ at + length first = w .end jobs from ∙ ap (λ (n : ℕ). at + n) (sym lines-long) in
         record {
-          whole =
-              ap (λ (p : List ℕ). withText p r more) written ∙ ap (λ (n : ℕ). withText (withText page at first) n more) place
-              ∙ text-then page at first more u ∙ ap (withText page at) (sym lines) ∙ c .whole;
+          whole = text-then page at first more u written place ∙ ap (withText page at) (sym lines) ∙ c .whole;
           ends = omega (arith, place, ap length lines, length-append first more, c .ends);
         }
 

@@ -39,6 +39,7 @@ moreLines (j ∷ js) = linesOf (suc (length js)) moreHead (j ∷ js)
 abbrev moreCount : List ℕ → ℕ
 moreCount js = (length js + 11) / 12
 
+-- any fuel that is enough gives them
 more-lines : (k : ℕ) (js : List ℕ) → 1 ≤ length js → length js ≤ k → linesOf k moreHead js ≡ moreLines js
 more-lines k [] l h = absurd (omega arith)
 more-lines k (j ∷ js) l h = lines-fuel k (suc (length js)) moreHead (j ∷ js) h (omega arith)
@@ -66,9 +67,8 @@ line-written {next} {p} {q} {page'} {j} {r} page a b at u v h d e w js l =
     let t : List ℕ = lineRest (take 12 js) in
     let three : at + 3 ≡ at + length a = omega arith in
     let eight : at + 8 ≡ at + length (a ++ b) = omega (arith, length-append a b) in
-    let begun : q ≡ withText page at (a ++ b) = e ∙ ap (λ (s : List ℕ). withText s (at + 3) b) d ∙ ap (λ (k : ℕ). withText (withText page at a) k b) three ∙ text-then page at a b h in
-    w .line js l ∙ ap (λ (s : List ℕ). withText s (at + 8) t) begun ∙ ap (λ (k : ℕ). withText (withText page at (a ++ b)) k t) eight
-    ∙ text-then page at (a ++ b) t h ∙ ap (withText page at) (simp append-assoc)
+    let begun : q ≡ withText page at (a ++ b) = e ∙ text-then page at a b h d three in
+    w .line js l ∙ text-then page at (a ++ b) t h begun eight ∙ ap (withText page at) (simp append-assoc)
 
 -- some lines behind the first are written: what is left of the list makes the whole
 pub record LinesLeft (next page₀ page : List ℕ) (end₀ end j : ℕ) (js : List ℕ) : Type 0 where
@@ -93,9 +93,7 @@ lines-turn {next} {page₀} {page} {p} {q} {page'} {js} {end₀} {end} {j} {r} n
     record {
       left = drop 12 (c .left);
       from = w .rest (c .left) (c .from);
-      whole =
-          ap (λ (s : List ℕ). withText s (end + 69) more) written ∙ ap (λ (k : ℕ). withText (withText page end line) k more) place
-          ∙ text-then page end line more h ∙ ap (withText page end) lines ∙ c .whole;
+      whole = text-then page end line more h written place ∙ ap (withText page end) lines ∙ c .whole;
       ends = omega (arith, length-drop 12 (c .left), c .ends);
     }
 
@@ -151,5 +149,4 @@ lines-end {next} {page} {p} {q} {page₀} {page'} {x} {load} {at} {first} {j₀}
         let written : page₀ ≡ withText page at line = line-written page (field 3 x) (field 5 load) at (field-wide 2 x few) (field-wide 4 load (omega arith)) h d e w js l ∙ ap (λ (l : List ℕ). withText page at (lineWith l (take 12 js))) head-is in
         let place : at + 69 ≡ at + length line = omega (arith, line-long head js (head-length x load few light) l) in
         sym (text-none page' r) ∙ ap (λ (l : List ℕ). withText page' r (moreLines l)) (sym (left-none js l)) ∙ all .whole
-        ∙ ap (λ (s : List ℕ). withText s (at + 69) more) written ∙ ap (λ (k : ℕ). withText (withText page at line) k more) place
-        ∙ text-then page at line more h ∙ ap (withText page at) (sym (lines-first (length js) head js (omega arith)))
+        ∙ text-then page at line more h written place ∙ ap (withText page at) (sym (lines-first (length js) head js (omega arith)))

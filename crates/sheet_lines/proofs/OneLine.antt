@@ -85,9 +85,7 @@ cells-turn {next} {page₀} {page} {page'} {js} {at} {cells} {j} h r c e =
       from = list-after (c .from);
       behind = drop-drop n 1 (c .left) ∙ ap (λ (k : ℕ). drop k (c .left)) one ∙ c .behind;
       whole =
-          ap (λ (l : List ℕ). withText l (at + 5 * (cells + 1)) (lineEnd n (drop 1 (c .left)))) e
-          ∙ ap (λ (k : ℕ). withText (withText page p (cellText j)) k (lineEnd n (drop 1 (c .left)))) place
-          ∙ text-then page p (cellText j) (lineEnd n (drop 1 (c .left))) r
+          text-then page p (cellText j) (lineEnd n (drop 1 (c .left))) r e place
           ∙ ap (withText page p) (sym (end-first n (c .from)) ∙ ap (λ (k : ℕ). lineEnd k (c .left)) (sym more))
           ∙ c .whole;
     }

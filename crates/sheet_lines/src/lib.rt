@@ -1,6 +1,6 @@
 // The sheet's lines: how many they are, and each written on a lent page.
 ghost use mathlib.Core.Path.{_≡_};
-ghost use Prim.Native.Nat.{_+_, _*_, _≤_, _<_};
+ghost use Prim.Native.Nat.{_+_, _≤_, _<_};
 ghost use lib.ListN.{length};
 ghost use Rattle.spec_sheet.specs.Sheet.{lineCount};
 ghost use Rattle.sheet_fields.specs.Page.{withText};
@@ -120,10 +120,10 @@ pub fn length(s: Size, loads: &[u16; Size::MOST_BENCHES + 1]) -> usize
 {
     let benches = s.benches();
     let mut lines = 0;
-    let mut done = 0;
-    while done < benches {
-        done += 1;
-        lines += line_count(loads[done] as usize);
+    let mut x = 0;
+    while x < benches {
+        x += 1;
+        lines += line_count(loads[x] as usize);
     }
     LINE * lines
 }

@@ -1,4 +1,4 @@
--- The loop's invariant: the lines of the benches that are done are counted. The measure is the benches that are left.
+-- The loop's invariant: the lines of benches 1 to x are counted. The measure is the benches that are left.
 use borrow.Author.Needs.{needs}
 use Prim.Native.Nat.{_+_, _-_, _*_, _≤_}
 use native.Mathlib.Omega.{arith}
@@ -8,10 +8,10 @@ use Rattle.sheet_lines.proofs.length.Statement.{statement}
 use Rattle.sheet_lines.proofs.length.Tie as tie
 
 abbrev Inv-loop : tie.InvT-loop
-Inv-loop loads benches lines₀ done₀ lines done = (lines ≡ linesTo loads done) × (done ≤ benches) × (lines ≤ 334 * done)
+Inv-loop loads benches lines₀ x₀ lines x = (lines ≡ linesTo loads x) × (x ≤ benches) × (lines ≤ 334 * x)
 
 abbrev μ-loop : tie.MeasureT-loop
-μ-loop loads benches lines₀ done₀ lines done = benches - done
+μ-loop loads benches lines₀ x₀ lines x = benches - x
 
 benches-requires : tie.Need-benches-requires Inv-loop μ-loop
 benches-requires c κs = search needs
@@ -19,8 +19,8 @@ benches-requires c κs = search needs
 loop-holds : tie.Need-loop-holds Inv-loop μ-loop
 loop-holds c = (refl, omega arith, omega arith)
 
-add-done : tie.Need-add-done Inv-loop μ-loop
-add-done c = search needs
+add-x : tie.Need-add-x Inv-loop μ-loop
+add-x c = search needs
 
 mul-line-count : tie.Need-mul-line-count Inv-loop μ-loop
 mul-line-count c = omega (arith, benches-few (c .before .before .before .pre))
@@ -29,17 +29,17 @@ element-copy-out-line-count : tie.Need-element-copy-out-line-count Inv-loop μ-l
 element-copy-out-line-count c = omega (arith, benches-few (c .before .before .before .pre))
 
 cast-line-count : tie.Need-cast-line-count Inv-loop μ-loop
-cast-line-count c = omega (arith, load-few (c .before .before .before .before .pre) (c .before .before .loop .done + 1) (omega arith) (omega arith))
+cast-line-count c = omega (arith, load-few (c .before .before .before .before .pre) (c .before .before .loop .x + 1) (omega arith) (omega arith))
 
 line-count-requires : tie.Need-line-count-requires Inv-loop μ-loop
-line-count-requires c κs = omega (arith, load-few (c .before .before .before .before .pre) (c .before .before .loop .done + 1) (omega arith) (omega arith))
+line-count-requires c κs = omega (arith, load-few (c .before .before .before .before .pre) (c .before .before .loop .x + 1) (omega arith) (omega arith))
 
 loop-again : tie.Need-loop-again Inv-loop μ-loop
 loop-again c =
     let loop = c .before .before .before .loop in
     let start = c .before .before .before .before .before in
-    let few = load-few (start .pre) (loop .done + 1) (omega arith) (omega arith) in (
-      lines-next (start .args .loads .now) (loop .done) (loop .lines) (c .line-count .result) (loop .inv .0) (c .line-count .ensures),
+    let few = load-few (start .pre) (loop .x + 1) (omega arith) (omega arith) in (
+      lines-next (start .args .loads .now) (loop .x) (loop .lines) (c .line-count .result) (loop .inv .0) (c .line-count .ensures),
       omega arith,
       omega (arith, c .line-count .ensures, few),
     )
@@ -56,7 +56,7 @@ mul-result c = omega (arith, benches-few (c .before .before .before .pre))
 returns : tie.Need-returns Inv-loop μ-loop
 returns c =
     let loop = c .before .loop in
-    let last : loop .done ≡ c .before .before .benches .result = omega arith in
+    let last : loop .x ≡ c .before .before .benches .result = omega arith in
     measured (loop .lines) (rw (last, c .before .before .benches .ensures) at (loop .inv .0))
 
 pub length-spec : {M : Type 1} → statement M
@@ -67,7 +67,7 @@ length-spec =
     μ-loop
     benches-requires
     loop-holds
-    add-done
+    add-x
     mul-line-count
     element-copy-out-line-count
     cast-line-count
