@@ -8,13 +8,13 @@ sheet-requires : tie.Need-sheet-requires
 sheet-requires c κs = search needs
 
 one-requires : tie.Need-one-requires
-one-requires c κs = answer-fits _ _ (c .before .before .sheet .ensures) tt
+one-requires c κs = answer-fits _ _ (c .before .before .before .sheet .ensures) tt
 
 same-length : tie.Need-same-length
 same-length c = search needs
 
 returns : tie.Need-returns
-returns c = reported (c .before .before .before .sheet .ensures) (c .one .ensures)
+returns c = reported (c .before .before .before .before .sheet .ensures) (c .one .ensures)
 
 pub jobboard-sheet-spec : {M : Type 1} → statement M
 jobboard-sheet-spec = tie.close (tie.spec sheet-requires one-requires same-length returns)
