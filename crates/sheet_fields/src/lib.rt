@@ -4,17 +4,16 @@ ghost use Prim.Native.Nat.{_+_, _≤_, _<_};
 ghost use lib.ListN.{length, replicate};
 ghost use Rattle.spec_text.specs.Numbers.{space};
 ghost use Rattle.spec_sheet.specs.Sheet.{field};
-ghost use Rattle.sheet_fields.specs.Page.{columnOf, withText};
+ghost use Rattle.sheet_fields.specs.Page.{digitOf, withText};
 
-// Gives the digit of n that counts units (1, 10, 100 ..), a blank where n is less than one unit.
-fn column(n: usize, unit: usize) -> u8
-    requires { ⌜ 1 ≤ unit ⌝ }
-    ensures { λ r. ⌜ r ≡ columnOf n unit ⌝ }
+// Gives the last digit of n, a blank for 0.
+fn digit(n: u32) -> u8
+    ensures { λ r. ⌜ r ≡ digitOf n ⌝ }
 {
-    if n < unit {
+    if n == 0 {
         return b' ';
     }
-    b'0' + (n / unit % 10) as u8
+    b'0' + (n % 10) as u8
 }
 
 // Writes a bench's number in 3 columns.
@@ -23,9 +22,11 @@ pub fn write_bench(page: &mut [u8], at: usize, x: usize)
     requires { ⌜ at + 3 ≤ length (now page) ⌝ }
     ensures { λ _. ⌜ now (page .exit) ≡ withText (now (page .entry)) at (field 3 x) ⌝ }
 {
-    page[at] = column(x, 100);
-    page[at + 1] = column(x, 10);
-    page[at + 2] = b'0' + (x % 10) as u8;
+    let ones = x as u32;
+    let tens = ones / 10;
+    page[at] = digit(tens / 10);
+    page[at + 1] = digit(tens);
+    page[at + 2] = b'0' + (ones % 10) as u8;
 }
 
 // Writes a number in 5 columns. A job or a load has at most four digits, so that the first column is blank.
@@ -34,11 +35,14 @@ pub fn write_number(page: &mut [u8], at: usize, n: usize)
     requires { ⌜ at + 5 ≤ length (now page) ⌝ }
     ensures { λ _. ⌜ now (page .exit) ≡ withText (now (page .entry)) at (field 5 n) ⌝ }
 {
+    let ones = n as u32;
+    let tens = ones / 10;
+    let hundreds = tens / 10;
     page[at] = b' ';
-    page[at + 1] = column(n, 1000);
-    page[at + 2] = column(n, 100);
-    page[at + 3] = column(n, 10);
-    page[at + 4] = b'0' + (n % 10) as u8;
+    page[at + 1] = digit(hundreds / 10);
+    page[at + 2] = digit(hundreds);
+    page[at + 3] = digit(tens);
+    page[at + 4] = b'0' + (ones % 10) as u8;
 }
 
 // Writes 5 blanks: a column without a job.

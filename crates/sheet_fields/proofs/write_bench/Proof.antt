@@ -2,21 +2,24 @@
 use borrow.Author.Needs.{needs}
 use native.Mathlib.Omega.{arith}
 use lib.ListN.{length-set}
-use Prim.Native.Nat.{_+_, _%_}
-use Rattle.sheet_fields.specs.Page.{columnOf}
+use Prim.Native.Nat.{_+_, _/_, _%_}
+use Rattle.sheet_fields.specs.Page.{digitOf}
 use Rattle.sheet_fields.proofs.Page.{text-three}
 use Rattle.sheet_fields.proofs.Columns.{field-3}
 use Rattle.sheet_fields.proofs.write_bench.Statement.{statement}
 use Rattle.sheet_fields.proofs.write_bench.Tie as tie
 
-column-requires : tie.Need-column-requires
-column-requires c κs = search needs
+cast-ones : tie.Need-cast-ones
+cast-ones c = search needs
+
+digit-requires : tie.Need-digit-requires
+digit-requires c κs = search needs
 
 slice-write-page : tie.Need-slice-write-page
 slice-write-page c = search needs
 
-column-requires-2 : tie.Need-column-requires-2
-column-requires-2 c κs = search needs
+digit-requires-2 : tie.Need-digit-requires-2
+digit-requires-2 c κs = search needs
 
 add-page : tie.Need-add-page
 add-page c = search needs
@@ -43,16 +46,17 @@ returns : tie.Need-returns
 returns c =
     let start = c .before .before .before in
     let args = start .args in
-    rw (c .before .column .ensures, c .column2 .ensures, field-3 (args .x) (start .pre .0))
-    (text-three (args .page .now) (args .at) (columnOf (args .x) 100) (columnOf (args .x) 10) (48 + args .x % 10) (start .pre .1))
+    rw (c .before .digit .ensures, c .digit2 .ensures, field-3 (args .x) (start .pre .0))
+    (text-three (args .page .now) (args .at) (digitOf (args .x / 10 / 10)) (digitOf (args .x / 10)) (48 + args .x % 10) (start .pre .1))
 
 pub write-bench-spec : {M : Type 1} → statement M
 write-bench-spec =
     tie.close
     (tie.spec
-    column-requires
+    cast-ones
+    digit-requires
     slice-write-page
-    column-requires-2
+    digit-requires-2
     add-page
     slice-write-page-2
     cast-page

@@ -2,18 +2,21 @@
 use borrow.Author.Needs.{needs}
 use native.Mathlib.Omega.{arith}
 use lib.ListN.{length-set}
-use Prim.Native.Nat.{_+_, _%_}
-use Rattle.sheet_fields.specs.Page.{columnOf}
+use Prim.Native.Nat.{_+_, _/_, _%_}
+use Rattle.sheet_fields.specs.Page.{digitOf}
 use Rattle.sheet_fields.proofs.Page.{text-five}
 use Rattle.sheet_fields.proofs.Columns.{field-5}
 use Rattle.sheet_fields.proofs.write_number.Statement.{statement}
 use Rattle.sheet_fields.proofs.write_number.Tie as tie
 
+cast-ones : tie.Need-cast-ones
+cast-ones c = search needs
+
 slice-write-page : tie.Need-slice-write-page
 slice-write-page c = search needs
 
-column-requires : tie.Need-column-requires
-column-requires c κs = search needs
+digit-requires : tie.Need-digit-requires
+digit-requires c κs = search needs
 
 add-page : tie.Need-add-page
 add-page c = search needs
@@ -21,8 +24,8 @@ add-page c = search needs
 slice-write-page-2 : tie.Need-slice-write-page-2
 slice-write-page-2 c = simp length-set (omega arith)
 
-column-requires-2 : tie.Need-column-requires-2
-column-requires-2 c κs = search needs
+digit-requires-2 : tie.Need-digit-requires-2
+digit-requires-2 c κs = search needs
 
 add-page-2 : tie.Need-add-page-2
 add-page-2 c = search needs
@@ -30,8 +33,8 @@ add-page-2 c = search needs
 slice-write-page-3 : tie.Need-slice-write-page-3
 slice-write-page-3 c = simp length-set (omega arith)
 
-column-requires-3 : tie.Need-column-requires-3
-column-requires-3 c κs = search needs
+digit-requires-3 : tie.Need-digit-requires-3
+digit-requires-3 c κs = search needs
 
 add-page-3 : tie.Need-add-page-3
 add-page-3 c = search needs
@@ -58,21 +61,22 @@ returns : tie.Need-returns
 returns c =
     let start = c .before .before .before .before in
     let args = start .args in
-    rw (c .before .before .column .ensures, c .before .column2 .ensures, c .column3 .ensures, field-5 (args .n) (start .pre .0))
-    (text-five (args .page .now) (args .at) 32 (columnOf (args .n) 1000) (columnOf (args .n) 100) (columnOf (args .n) 10) (48 + args .n % 10) (start .pre .1))
+    rw (c .before .before .digit .ensures, c .before .digit2 .ensures, c .digit3 .ensures, field-5 (args .n) (start .pre .0))
+    (text-five (args .page .now) (args .at) 32 (digitOf (args .n / 10 / 10 / 10)) (digitOf (args .n / 10 / 10)) (digitOf (args .n / 10)) (48 + args .n % 10) (start .pre .1))
 
 pub write-number-spec : {M : Type 1} → statement M
 write-number-spec =
     tie.close
     (tie.spec
+    cast-ones
     slice-write-page
-    column-requires
+    digit-requires
     add-page
     slice-write-page-2
-    column-requires-2
+    digit-requires-2
     add-page-2
     slice-write-page-3
-    column-requires-3
+    digit-requires-3
     add-page-3
     slice-write-page-4
     cast-page
