@@ -2,7 +2,7 @@
 use Prim.Native.Nat.{ℕ, _-_, _*_, _≤_, _<_}
 use native.Mathlib.Omega.{arith}
 use native.Mathlib.Decide.{decLe}
-use mathlib.Core.Path.{_≡_, refl, sym, ap, subst, _∙_}
+use mathlib.Core.Path.{_≡_, sym, ap, _∙_}
 use mathlib.Core.Logic.{inl, inr, _≢_}
 use mathlib.Core.Bool.{Bool, true, false, cond}
 use mathlib.Core.List.{List, [], _∷_, _++_}
@@ -12,7 +12,6 @@ use Rattle.spec_table.specs.Board.{Board, Valid, load, heaviest}
 use Rattle.spec_table.specs.Table.{mostBenches, bytesOf, decode}
 use Rattle.spec_sharing.specs.Paths.{steps}
 use Rattle.spec_sharing.specs.Sharing.{level, tightSet}
-use Rattle.spec_calls.specs.Answers.{Outcome}
 use Rattle.spec_calls.specs.Calls.{ask, loadOf, heaviestLoad, tightSetOf, formCheck, levelCheck, questionConditions, asked, accepted, outcome, tightSetTold}
 use Rattle.spec_lists.proofs.Tests.{within-both}
 use Rattle.spec_lists.proofs.Elements.{in-getD}
@@ -28,9 +27,8 @@ use Rattle.sharing_tight_set.specs.declared.Extent.{Extent}
 use Rattle.sharing_visits.specs.Marks.{mark}
 use Rattle.sharing_tight_set.specs.MarkedSets.{marked, TightSet}
 use Rattle.sharing_tight_set.proofs.AsSet.{passing-few}
-use Rattle.board_answers.specs.Answered.{answerOf, Leaves}
+use Rattle.board_answers.specs.Answered.{Leaves}
 use Rattle.table_refusals.specs.declared.Refusal.the-variants as code
-use Rattle.board_answers.specs.declared.Answer.{Answer}
 use Rattle.board_answers.specs.declared.Answer.the-variants as told
 use Rattle.board_answers.proofs.Formal.{answered-leaves, refused-leaves}
 use Rattle.table_size.proofs.Sizes.{bench-of-board}
