@@ -4,19 +4,17 @@ use native.Mathlib.Omega.{arith}
 use native.Mathlib.Decide.{decLe}
 use mathlib.Core.Path.{_≡_, refl, sym, ap, _∙_}
 use mathlib.Core.Bool.{cond}
-use mathlib.Core.List.{List, [], _∷_, _++_, append-nil, append-assoc}
+use mathlib.Core.List.{List, [], _∷_, _++_, append-nil}
 use lib.Dec.{leb}
-use lib.ListN.{length, take, drop, replicate, length-append, length-take, length-drop, drop-of-length-le}
+use lib.ListN.{length, take, drop, length-take, length-drop, drop-of-length-le}
 use borrow.Author.Tests.{le-leb, lt-leb}
-use Rattle.spec_text.specs.Numbers.{space}
 use Rattle.spec_lists.proofs.Elements.{each-take}
-use Rattle.spec_sheet.specs.Sheet.{field, benchHead, moreHead, lineWith, linesOf, lineCount}
-use Rattle.spec_sheet.proofs.Lines.{field-wide, head-length, line-length}
+use Rattle.spec_sheet.specs.Sheet.{benchHead, moreHead, lineWith, linesOf, lineCount}
+use Rattle.spec_sheet.proofs.Lines.{head-length, line-length}
 use Rattle.sheet_fields.specs.Page.{withText}
 use Rattle.sheet_fields.proofs.Page.{text-none, text-then}
-use Rattle.sheet_fields.proofs.Columns.{blank-and-4}
 use Rattle.sheet_jobs.specs.JobLists.{ListFrom}
-use Rattle.sheet_lines.specs.Lines.{lineRest, LineWritten, Room, BenchWritten}
+use Rattle.sheet_lines.specs.Lines.{Listed, LineWritten, Room, BenchWritten}
 use Rattle.sheet_lines.proofs.Lists.{list-small, list-none, list-some}
 
 -- fuel that is enough does not show
@@ -61,15 +59,6 @@ line-long : {next : List ℕ} {j : ℕ} (head js : List ℕ) → length head ≡
 line-long head js h l =
     line-length head (take 12 js) h (each-take (λ i. i < 100000) 12 js (list-small l)) (omega (arith, length-take 12 js))
 
--- a line: 3 columns, 5 columns and the jobs behind them
-line-written : {next p q page' : List ℕ} {j r : ℕ} (page a b : List ℕ) (at : ℕ) → length a ≡ 3 → length b ≡ 5 → at ≤ length page → p ≡ withText page at a → q ≡ withText p (at + 3) b → LineWritten next q page' (at + 8) j r → (js : List ℕ) → ListFrom next j js → page' ≡ withText page at (lineWith (a ++ b) (take 12 js))
-line-written {next} {p} {q} {page'} {j} {r} page a b at u v h d e w js l =
-    let t : List ℕ = lineRest (take 12 js) in
-    let three : at + 3 ≡ at + length a = omega arith in
-    let eight : at + 8 ≡ at + length (a ++ b) = omega (arith, length-append a b) in
-    let begun : q ≡ withText page at (a ++ b) = e ∙ text-then page at a b h d three in
-    w .line js l ∙ text-then page at (a ++ b) t h begun eight ∙ ap (withText page at) (simp append-assoc)
-
 -- some lines behind the first are written: what is left of the list makes the whole
 pub record LinesLeft (next page₀ page : List ℕ) (end₀ end j : ℕ) (js : List ℕ) : Type 0 where
   pub left : List ℕ
@@ -82,71 +71,54 @@ pub lines-start : {next js : List ℕ} {j : ℕ} (page : List ℕ) (end : ℕ) �
 lines-start {next} {js} {j} page end l = record { left = js; from = l; whole = refl; ends = refl }
 
 -- one more
-pub lines-turn : {next page₀ page p q page' js : List ℕ} {end₀ end j r : ℕ} → (j ≡ 0 → ⊥) → end ≤ length page → LinesLeft next page₀ page end₀ end j js → p ≡ withText page end (replicate 3 space) → q ≡ withText p (end + 3) (replicate 5 space) → LineWritten next q page' (end + 8) j r → LinesLeft next page₀ page' end₀ (end + 69) r js
-lines-turn {next} {page₀} {page} {p} {q} {page'} {js} {end₀} {end} {j} {r} n h c d e w =
+pub lines-turn : {next page₀ page page' js : List ℕ} {end₀ end j r : ℕ} → (j ≡ 0 → ⊥) → end ≤ length page → LinesLeft next page₀ page end₀ end j js → LineWritten next page page' moreHead end j r → LinesLeft next page₀ page' end₀ (end + 69) r js
+lines-turn {next} {page₀} {page} {page'} {js} {end₀} {end} {j} {r} n h c w =
     let some = list-some (c .from) n in
     let line : List ℕ = lineWith moreHead (take 12 (c .left)) in
     let more : List ℕ = moreLines (drop 12 (c .left)) in
-    let written : page' ≡ withText page end line = line-written page (replicate 3 space) (replicate 5 space) end refl refl h d e w (c .left) (c .from) in
     let place : end + 69 ≡ end + length line = omega (arith, line-long moreHead (c .left) refl (c .from)) in
     let lines : line ++ more ≡ moreLines (c .left) = sym (lines-first (length (c .left)) moreHead (c .left) (omega arith)) ∙ more-lines (length (c .left)) (c .left) some (omega arith) in
     record {
       left = drop 12 (c .left);
       from = w .rest (c .left) (c .from);
-      whole = text-then page end line more h written place ∙ ap (withText page end) lines ∙ c .whole;
+      whole = text-then page end line more h (w .line (c .left) (c .from)) place ∙ ap (withText page end) lines ∙ c .whole;
       ends = omega (arith, length-drop 12 (c .left), c .ends);
     }
 
--- the page has room for the lines of the jobs that are left
-pub record RoomLeft (next page : List ℕ) (end j : ℕ) : Type 0 where
-  pub jobs : List ℕ
-  pub from : ListFrom next j jobs
-  pub fits : end + 69 * moreCount jobs ≤ length page
+-- the first line is written, and some behind it
+module _ {next page page₀ page' head : List ℕ} {at first j₀ end j : ℕ} (w : LineWritten next page page₀ head at first j₀) (c : (js : List ℕ) → ListFrom next j₀ js → LinesLeft next page₀ page' (at + 69) end j js) where
+  -- what is left of a bench's jobs
+  jobs-left : {js : List ℕ} → ListFrom next first js → LinesLeft next page₀ page' (at + 69) end j (drop 12 js)
+  jobs-left {js} l = c (drop 12 js) (w .rest js l)
 
--- for a first line ..
-pub room-first : {next page : List ℕ} {at first : ℕ} → Room next page at first → at + 69 ≤ length page
-room-first r = omega (arith, r .fits)
+  module _ (room : Room next page at first) where
+    -- job j begins a list ..
+    pub left-listed : Listed next j
+    left-listed = let left = jobs-left (room .from) in (left .left, left .from)
 
--- .. and behind it ..
-pub room-start : {next page q page' : List ℕ} {at i first j : ℕ} → Room next page at first → LineWritten next q page' i first j → length page' ≡ length page → RoomLeft next page' (at + 69) j
-room-start r w e =
-    record { jobs = drop 12 (r .jobs); from = w .rest (r .jobs) (r .from); fits = omega (arith, length-drop 12 (r .jobs), r .fits) }
-
--- .. as long as jobs are left for one more ..
-pub room-line : {next page : List ℕ} {end j : ℕ} → (j ≡ 0 → ⊥) → RoomLeft next page end j → end + 69 ≤ length page
-room-line n r = omega (arith, list-some (r .from) n, r .fits)
-
--- .. and behind that
-pub room-turn : {next page q page' : List ℕ} {end i j k : ℕ} → (j ≡ 0 → ⊥) → RoomLeft next page end j → LineWritten next q page' i j k → length page' ≡ length page → RoomLeft next page' (end + 69) k
-room-turn n r w e =
-    record {
-      jobs = drop 12 (r .jobs);
-      from = w .rest (r .jobs) (r .from);
-      fits = omega (arith, length-drop 12 (r .jobs), list-some (r .from) n, r .fits);
-    }
+    -- .. and as long as it is a job, the page has room for a line
+    pub left-room : (j ≡ 0 → ⊥) → end + 69 ≤ length page
+    left-room n =
+        let left = jobs-left (room .from) in
+        omega (arith, left .ends, list-some (left .from) n, length-drop 12 (room .jobs), room .fits)
 
 -- all of them
-pub lines-end : {next page p q page₀ page' : List ℕ} {x load at first j₀ r j : ℕ} → x < 1000 → load < 10000 → at ≤ length page → p ≡ withText page at (field 3 x) → q ≡ withText p (at + 3) (field 5 load) → LineWritten next q page₀ (at + 8) first j₀ → ((js : List ℕ) → ListFrom next j₀ js → LinesLeft next page₀ page' (at + 69) r j js) → j ≡ 0 → BenchWritten next page page' at x load first r
-lines-end {next} {page} {p} {q} {page₀} {page'} {x} {load} {at} {first} {j₀} {r} {j} few light h d e w c none = record { lines = lines; end = end }
+pub lines-end : {next page page₀ page' : List ℕ} {x load at first j₀ r j : ℕ} → x < 1000 → load < 10000 → at ≤ length page → LineWritten next page page₀ (benchHead x load) at first j₀ → ((js : List ℕ) → ListFrom next j₀ js → LinesLeft next page₀ page' (at + 69) r j js) → j ≡ 0 → BenchWritten next page page' at x load first r
+lines-end {next} {page} {page₀} {page'} {x} {load} {at} {first} {j₀} {r} {j} few light h w c none = record { lines = lines; end = end }
   where
     head : List ℕ
     head = benchHead x load
 
-    head-is : field 3 x ++ field 5 load ≡ head
-    head-is = ap (λ (l : List ℕ). field 3 x ++ l) (sym (blank-and-4 load light))
-
-    left-none : (js : List ℕ) (l : ListFrom next first js) → c (drop 12 js) (w .rest js l) .left ≡ []
-    left-none js l = list-none (c (drop 12 js) (w .rest js l) .from) none
+    left-none : (js : List ℕ) (l : ListFrom next first js) → jobs-left w c l .left ≡ []
+    left-none js l = list-none (jobs-left w c l .from) none
 
     end : (js : List ℕ) → ListFrom next first js → r ≡ at + 69 * lineCount (length js)
-    end js l = omega (arith, ap length (left-none js l), length-drop 12 js, c (drop 12 js) (w .rest js l) .ends)
+    end js l = omega (arith, ap length (left-none js l), length-drop 12 js, jobs-left w c l .ends)
 
     lines : (js : List ℕ) → ListFrom next first js → page' ≡ withText page at (linesOf (length js) head js)
     lines js l =
-        let all = c (drop 12 js) (w .rest js l) in
         let line : List ℕ = lineWith head (take 12 js) in
         let more : List ℕ = moreLines (drop 12 js) in
-        let written : page₀ ≡ withText page at line = line-written page (field 3 x) (field 5 load) at (field-wide 2 x few) (field-wide 4 load (omega arith)) h d e w js l ∙ ap (λ (l : List ℕ). withText page at (lineWith l (take 12 js))) head-is in
         let place : at + 69 ≡ at + length line = omega (arith, line-long head js (head-length x load few light) l) in
-        sym (text-none page' r) ∙ ap (λ (l : List ℕ). withText page' r (moreLines l)) (sym (left-none js l)) ∙ all .whole
-        ∙ text-then page at line more h written place ∙ ap (withText page at) (sym (lines-first (length js) head js (omega arith)))
+        sym (text-none page' r) ∙ ap (λ (l : List ℕ). withText page' r (moreLines l)) (sym (left-none js l)) ∙ jobs-left w c l .whole
+        ∙ text-then page at line more h (w .line js l) place ∙ ap (withText page at) (sym (lines-first (length js) head js (omega arith)))

@@ -1,19 +1,20 @@
--- A line: its jobs in their columns, one cell after the other.
+-- A line: what it begins with, and its jobs in their columns, one cell after the other.
 use Prim.Native.Nat.{ℕ, zero, suc, _+_, _-_, _*_, _≤_, _<_}
 use native.Mathlib.Omega.{arith}
 use mathlib.Core.Path.{_≡_, refl, sym, ap, subst, _∙_}
 use mathlib.Core.List.{List, [], _∷_, _++_, flatMap, append-assoc}
-use lib.ListN.{length, take, drop, set, replicate, replicate-append-replicate}
+use lib.ListN.{length, take, drop, set, replicate, length-append, replicate-append-replicate}
 use lib.Seq.{drop-drop}
 use Rattle.spec_text.specs.Numbers.{lineFeed, space}
 use Rattle.spec_table.specs.Table.{mostJobs}
 use Rattle.spec_lists.proofs.Tests.{within-low}
-use Rattle.spec_sheet.specs.Sheet.{field}
+use Rattle.spec_sheet.specs.Sheet.{field, benchHead, moreHead, lineWith}
 use Rattle.spec_sheet.proofs.Lines.{field-wide}
 use Rattle.sheet_fields.specs.Page.{withText}
 use Rattle.sheet_fields.proofs.Page.{text-byte, text-then}
+use Rattle.sheet_fields.proofs.Columns.{blank-and-4}
 use Rattle.sheet_jobs.specs.JobLists.{ListFrom, listEnd, listJob}
-use Rattle.sheet_lines.specs.Lines.{cellText, after, lineRest, LineWritten}
+use Rattle.sheet_lines.specs.Lines.{cellText, after, LineWritten}
 use Rattle.sheet_lines.proofs.Lists.{cell-job, list-most, list-after}
 
 -- the end of a line: n cells, with jobs as long as there are some, and the line feed
@@ -45,8 +46,8 @@ end-jobs (suc n) (j ∷ js) =
     ∙ ap (λ (k : ℕ). field 5 j ++ (fields ++ replicate k space ++ (lineFeed ∷ []))) e
     ∙ simp append-assoc
 
--- twelve cells are the line's rest
-end-line : (js : List ℕ) → lineEnd 12 js ≡ lineRest (take 12 js)
+-- twelve cells are a line without its head
+end-line : (js : List ℕ) → lineEnd 12 js ≡ lineWith [] (take 12 js)
 end-line js = end-jobs 12 js
 
 -- a list's first job stands in the first cell
@@ -91,10 +92,30 @@ cells-turn {next} {page₀} {page} {page'} {js} {at} {cells} {j} h r c e =
     }
 
 -- all of them, and the line feed
-pub cells-end : {next page₀ page : List ℕ} {at cells first j : ℕ} → 12 ≤ cells → cells ≤ 12 → at + 60 < length page → ((js : List ℕ) → ListFrom next first js → Cells next page₀ page at cells j js) → LineWritten next page₀ (set page (at + 60) lineFeed) at first j
+pub cells-end : {next page₀ page : List ℕ} {at cells first j : ℕ} → 12 ≤ cells → cells ≤ 12 → at + 60 < length page → ((js : List ℕ) → ListFrom next first js → Cells next page₀ page at cells j js) → LineWritten next page₀ (set page (at + 60) lineFeed) [] at first j
 cells-end {next} {page₀} {page} {at} {cells} {first} {j} h u r c =
     let e : cells ≡ 12 = omega arith in
     record {
       line = λ js l. text-byte page (at + 60) lineFeed r ∙ (rw e at (c js l .whole)) ∙ ap (withText page₀ at) (end-line js);
       rest = λ js l. subst (ListFrom next j) (rw e at (c js l .behind)) (c js l .from);
     }
+
+-- a line in three pieces: 3 columns, 5 columns and the jobs behind them
+line-written : {next p q page' : List ℕ} {at j r : ℕ} (page a b : List ℕ) → length a ≡ 3 → length b ≡ 5 → at ≤ length page → p ≡ withText page at a → q ≡ withText p (at + 3) b → LineWritten next q page' [] (at + 8) j r → LineWritten next page page' (a ++ b) at j r
+line-written {next} {p} {q} {page'} {at} {j} {r} page a b u v h d e w =
+    let three : at + 3 ≡ at + length a = omega arith in
+    let eight : at + 8 ≡ at + length (a ++ b) = omega (arith, length-append a b) in
+    let begun : q ≡ withText page at (a ++ b) = e ∙ text-then page at a b h d three in
+    record {
+      line = λ js l. w .line js l ∙ text-then page at (a ++ b) (lineWith [] (take 12 js)) h begun eight ∙ ap (withText page at) (simp append-assoc);
+      rest = w .rest;
+    }
+
+-- the first of a bench: its number, and its load, which has a blank before it
+pub first-written : {next page p q page' : List ℕ} {at x load j r : ℕ} → x < 1000 → load < 10000 → at ≤ length page → p ≡ withText page at (field 3 x) → q ≡ withText p (at + 3) (field 5 load) → LineWritten next q page' [] (at + 8) j r → LineWritten next page page' (benchHead x load) at j r
+first-written {next} {page} {p} {q} {page'} {at} {x} {load} {j} {r} few light h d e w =
+    rw (blank-and-4 load light) (line-written page (field 3 x) (field 5 load) (field-wide 2 x few) (field-wide 4 load (omega arith)) h d e w)
+
+-- another: 8 blanks
+pub more-written : {next page p q page' : List ℕ} {at j r : ℕ} → at ≤ length page → p ≡ withText page at (replicate 3 space) → q ≡ withText p (at + 3) (replicate 5 space) → LineWritten next q page' [] (at + 8) j r → LineWritten next page page' moreHead at j r
+more-written {next} {page} h d e w = line-written page (replicate 3 space) (replicate 5 space) refl refl h d e w

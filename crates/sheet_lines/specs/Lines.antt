@@ -1,12 +1,12 @@
 -- Lines of the sheet, as they are written from lists of jobs.
-use Prim.Native.Nat.{ℕ, zero, suc, _+_, _-_, _*_, _≤_}
+use Prim.Native.Nat.{ℕ, zero, suc, _+_, _*_, _≤_}
 use mathlib.Core.Path.{_≡_}
-use mathlib.Core.List.{List, [], _∷_, _++_, flatMap}
+use mathlib.Core.List.{List}
 use lib.ListN.{length, getD, take, drop, replicate}
-use Rattle.spec_text.specs.Numbers.{lineFeed, space}
+use Rattle.spec_text.specs.Numbers.{space}
 use Rattle.spec_table.specs.Board.{Board}
 use Rattle.spec_table.specs.Table.{Storable}
-use Rattle.spec_sheet.specs.Sheet.{field, benchHead, linesOf, lineCount, sheet}
+use Rattle.spec_sheet.specs.Sheet.{field, benchHead, lineWith, linesOf, lineCount, sheet}
 use Rattle.table_size.specs.declared.Size.{Size}
 use Rattle.table_board.specs.BoardView.{Loaded}
 use Rattle.sheet_jobs.specs.JobLists.{ListFrom, JobLists}
@@ -26,13 +26,10 @@ abbrev pub after : List ℕ → ℕ → ℕ
 after next zero = 0
 after next (suc i) = getD next (suc i) 0
 
--- a line from its 9th column on
-abbrev pub lineRest : List ℕ → List ℕ
-lineRest js = flatMap (field 5) js ++ replicate (60 - 5 * length js) space ++ (lineFeed ∷ [])
-
--- of the list from job j on twelve jobs were written, and r is the job after them
-pub record LineWritten (next page page' : List ℕ) (at j r : ℕ) : Type 0 where
-  pub line : (js : List ℕ) → ListFrom next j js → page' ≡ withText page at (lineRest (take 12 js))
+-- a line was written: this head, and twelve jobs of the list from job j on; r is the job after them. With no head it is a
+-- line from its 9th column on
+pub record LineWritten (next page page' head : List ℕ) (at j r : ℕ) : Type 0 where
+  pub line : (js : List ℕ) → ListFrom next j js → page' ≡ withText page at (lineWith head (take 12 js))
   pub rest : (js : List ℕ) → ListFrom next j js → ListFrom next r (drop 12 js)
 
 -- the page has room for the lines of the list from job j on

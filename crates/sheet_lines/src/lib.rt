@@ -1,8 +1,9 @@
 // The sheet's lines: how many they are, and each written on a lent page.
 ghost use mathlib.Core.Path.{_≡_};
+ghost use mathlib.Core.List.{[]};
 ghost use Prim.Native.Nat.{_+_, _≤_, _<_};
 ghost use lib.ListN.{length};
-ghost use Rattle.spec_sheet.specs.Sheet.{lineCount};
+ghost use Rattle.spec_sheet.specs.Sheet.{benchHead, moreHead, lineCount};
 ghost use Rattle.sheet_fields.specs.Page.{withText};
 ghost use Rattle.sheet_lines.specs.Lines.{
   cellText,
@@ -41,7 +42,7 @@ fn write_cell(page: &mut [u8], at: usize, j: usize, next: &[u16; Size::MOST_JOBS
 fn write_jobs(page: &mut [u8], at: usize, first: usize, next: &[u16; Size::MOST_JOBS + 1]) -> usize
     requires { ⌜ Listed (now next) first ⌝ }
     requires { ⌜ at + 61 ≤ length (now page) ⌝ }
-    ensures { λ r. ⌜ LineWritten (now (next .entry)) (now (page .entry)) (now (page .exit)) at first r ⌝ }
+    ensures { λ r. ⌜ LineWritten (now (next .entry)) (now (page .entry)) (now (page .exit)) [] at first r ⌝ }
 {
     let mut j = first;
     let mut cells = 0;
@@ -51,6 +52,38 @@ fn write_jobs(page: &mut [u8], at: usize, first: usize, next: &[u16; Size::MOST_
     }
     page[at + 60] = b'\n';
     j
+}
+
+// Writes the first line of bench x: its number, its load, and up to twelve jobs from `first` on; gives the job after
+// them.
+fn write_first(
+    page: &mut [u8],
+    at: usize,
+    x: usize,
+    load: usize,
+    first: usize,
+    next: &[u16; Size::MOST_JOBS + 1],
+) -> usize
+    requires { ⌜ x < 1000 ⌝ }
+    requires { ⌜ load < 10000 ⌝ }
+    requires { ⌜ Listed (now next) first ⌝ }
+    requires { ⌜ at + 69 ≤ length (now page) ⌝ }
+    ensures { λ r. ⌜ LineWritten (now (next .entry)) (now (page .entry)) (now (page .exit)) (benchHead x load) at first r ⌝ }
+{
+    sheet_fields::write_bench(page, at, x);
+    sheet_fields::write_number(page, at + 3, load);
+    write_jobs(page, at + 8, first, next)
+}
+
+// Writes a line that goes on with a bench's jobs: 8 blanks, and up to twelve jobs from j on; gives the job after them.
+fn write_more(page: &mut [u8], at: usize, j: usize, next: &[u16; Size::MOST_JOBS + 1]) -> usize
+    requires { ⌜ Listed (now next) j ⌝ }
+    requires { ⌜ at + 69 ≤ length (now page) ⌝ }
+    ensures { λ r. ⌜ LineWritten (now (next .entry)) (now (page .entry)) (now (page .exit)) moreHead at j r ⌝ }
+{
+    sheet_fields::write_no_bench(page, at);
+    sheet_fields::write_no_number(page, at + 3);
+    write_jobs(page, at + 8, j, next)
 }
 
 // Writes the lines of bench x with this load, whose jobs begin with `first`; gives the place after them.
@@ -67,14 +100,10 @@ fn write_bench(
     requires { ⌜ Room (now next) (now page) at first ⌝ }
     ensures { λ r. ⌜ BenchWritten (now (next .entry)) (now (page .entry)) (now (page .exit)) at x load first r ⌝ }
 {
-    sheet_fields::write_bench(page, at, x);
-    sheet_fields::write_number(page, at + 3, load);
-    let mut j = write_jobs(page, at + 8, first, next);
+    let mut j = write_first(page, at, x, load, first, next);
     let mut end = at + LINE;
     while j != 0 {
-        sheet_fields::write_no_bench(page, end);
-        sheet_fields::write_no_number(page, end + 3);
-        j = write_jobs(page, end + 8, j, next);
+        j = write_more(page, end, j, next);
         end += LINE;
     }
     end

@@ -1,0 +1,44 @@
+-- Number, load and jobs, one behind the other, are the line.
+use borrow.Author.Needs.{needs}
+use native.Mathlib.Omega.{arith}
+use Rattle.sheet_lines.proofs.OneLine.{first-written}
+use Rattle.sheet_lines.proofs.write_first.Statement.{statement}
+use Rattle.sheet_lines.proofs.write_first.Tie as tie
+
+write-bench-requires : tie.Need-write-bench-requires
+write-bench-requires c κs = search needs
+
+add-write-number : tie.Need-add-write-number
+add-write-number c = search needs
+
+write-number-requires : tie.Need-write-number-requires
+write-number-requires c κs = search needs
+
+add-write-jobs : tie.Need-add-write-jobs
+add-write-jobs c = search needs
+
+write-jobs-requires : tie.Need-write-jobs-requires
+write-jobs-requires c κs = search needs
+
+same-length : tie.Need-same-length
+same-length c = search needs
+
+returns : tie.Need-returns
+returns c =
+    let jobs = c .before .before in
+    let load = jobs .before .before .before .before in
+    let bench = load .before .before .before .before in
+    let pre = bench .before .before .before .pre in
+    first-written (pre .0) (pre .1 .0) (omega arith) (bench .write-bench .ensures) (load .write-number .ensures) (jobs .write-jobs .ensures)
+
+pub write-first-spec : {M : Type 1} → statement M
+write-first-spec =
+    tie.close
+    (tie.spec
+    write-bench-requires
+    add-write-number
+    write-number-requires
+    add-write-jobs
+    write-jobs-requires
+    same-length
+    returns)

@@ -1,0 +1,43 @@
+-- Blanks and jobs, one behind the other, are the line.
+use borrow.Author.Needs.{needs}
+use native.Mathlib.Omega.{arith}
+use Rattle.sheet_lines.proofs.OneLine.{more-written}
+use Rattle.sheet_lines.proofs.write_more.Statement.{statement}
+use Rattle.sheet_lines.proofs.write_more.Tie as tie
+
+write-no-bench-requires : tie.Need-write-no-bench-requires
+write-no-bench-requires c κs = search needs
+
+add-write-no-number : tie.Need-add-write-no-number
+add-write-no-number c = search needs
+
+write-no-number-requires : tie.Need-write-no-number-requires
+write-no-number-requires c κs = search needs
+
+add-write-jobs : tie.Need-add-write-jobs
+add-write-jobs c = search needs
+
+write-jobs-requires : tie.Need-write-jobs-requires
+write-jobs-requires c κs = search needs
+
+same-length : tie.Need-same-length
+same-length c = search needs
+
+returns : tie.Need-returns
+returns c =
+    let jobs = c .before .before in
+    let load = jobs .before .before .before .before in
+    let bench = load .before .before .before .before in
+    more-written (omega arith) (bench .write-no-bench .ensures) (load .write-no-number .ensures) (jobs .write-jobs .ensures)
+
+pub write-more-spec : {M : Type 1} → statement M
+write-more-spec =
+    tie.close
+    (tie.spec
+    write-no-bench-requires
+    add-write-no-number
+    write-no-number-requires
+    add-write-jobs
+    write-jobs-requires
+    same-length
+    returns)
