@@ -123,11 +123,10 @@ pub fn write(
 {
     let benches = s.benches();
     let mut at = 0;
-    let mut done = 0;
-    while done < benches {
-        let x = done + 1;
+    let mut x = 0;
+    while x < benches {
+        x += 1;
         at = write_bench(page, at, x, loads[x] as usize, head[x] as usize, next);
-        done += 1;
     }
 }
 

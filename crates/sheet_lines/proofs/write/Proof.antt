@@ -1,6 +1,5 @@
 -- The loop's invariant: for every board of these arrays the lines that are written and those of the benches that are
 -- left make the sheet. The measure is the benches that are left.
-use borrow.Author.Needs.{needs}
 use Prim.Native.Nat.{_-_}
 use native.Mathlib.Omega.{arith}
 use mathlib.Core.Path.{_≡_, refl, _∙_}
@@ -13,79 +12,74 @@ use Rattle.sheet_lines.proofs.write.Statement.{statement}
 use Rattle.sheet_lines.proofs.write.Tie as tie
 
 abbrev Inv-loop : tie.InvT-loop
-Inv-loop loads head next page₀ benches at₀ done₀ page at done =
-    ((s : Size) → benches ≡ s .benches → (b : Board) → Sheeted b s loads head next → BenchesLeft b page₀ page at done) × (length page ≡ length page₀)
+Inv-loop loads head next page₀ benches at₀ x₀ page at x =
+    ((s : Size) → benches ≡ s .benches → (b : Board) → Sheeted b s loads head next → BenchesLeft b page₀ page at x) × (length page ≡ length page₀)
 
 abbrev μ-loop : tie.MeasureT-loop
-μ-loop loads head next page₀ benches at₀ done₀ page at done = benches - done
+μ-loop loads head next page₀ benches at₀ x₀ page at x = benches - x
 
 benches-requires : tie.Need-benches-requires Inv-loop μ-loop
-benches-requires c κs = search needs
+benches-requires c κs = tt
 
 loop-holds : tie.Need-loop-holds Inv-loop μ-loop
 loop-holds c = (λ s e b z. sheet-start b (c .before .before .args .page .now), refl)
 
 add-x : tie.Need-add-x Inv-loop μ-loop
-add-x c = search needs
+add-x c = omega arith
 
 mul-write-bench : tie.Need-mul-write-bench Inv-loop μ-loop
 mul-write-bench c =
-    let test = c .before in
-    omega (arith, bench-few (test .before .before .before .before .pre .1) (test .before .loop .done) (omega arith))
+    let loop = c .before .before in
+    omega (arith, bench-few (loop .before .before .before .pre .1) (loop .loop .x) (omega arith))
 
 element-copy-out-write-bench : tie.Need-element-copy-out-write-bench Inv-loop μ-loop
 element-copy-out-write-bench c =
-    let test = c .before in
-    omega (arith, bench-few (test .before .before .before .before .pre .1) (test .before .loop .done) (omega arith))
+    let loop = c .before .before in
+    omega (arith, bench-few (loop .before .before .before .pre .1) (loop .loop .x) (omega arith))
 
 cast-write-bench : tie.Need-cast-write-bench Inv-loop μ-loop
 cast-write-bench c =
-    let test = c .before .before in
-    omega (arith, load-light (test .before .before .before .before .pre .1) (test .before .loop .done) (omega arith))
+    let loop = c .before .before .before in
+    omega (arith, load-light (loop .before .before .before .pre .1) (loop .loop .x) (omega arith))
 
 mul-write-bench-2 : tie.Need-mul-write-bench-2 Inv-loop μ-loop
 mul-write-bench-2 c =
-    let test = c .before .before in
-    omega (arith, bench-few (test .before .before .before .before .pre .1) (test .before .loop .done) (omega arith))
+    let loop = c .before .before .before in
+    omega (arith, bench-few (loop .before .before .before .pre .1) (loop .loop .x) (omega arith))
 
 element-copy-out-write-bench-2 : tie.Need-element-copy-out-write-bench-2 Inv-loop μ-loop
 element-copy-out-write-bench-2 c =
-    let test = c .before .before in
-    omega (arith, bench-few (test .before .before .before .before .pre .1) (test .before .loop .done) (omega arith))
+    let loop = c .before .before .before in
+    omega (arith, bench-few (loop .before .before .before .pre .1) (loop .loop .x) (omega arith))
 
 cast-write-bench-2 : tie.Need-cast-write-bench-2 Inv-loop μ-loop
 cast-write-bench-2 c =
-    let test = c .before .before .before in
-    omega (arith, first-most (test .before .before .before .before .pre .1) (test .before .loop .done) (omega arith))
+    let loop = c .before .before .before .before in
+    omega (arith, first-most (loop .before .before .before .pre .1) (loop .loop .x) (omega arith))
 
 write-bench-requires : tie.Need-write-bench-requires Inv-loop μ-loop
 write-bench-requires c κs =
-    let test = c .before .before .before in
-    let loop = test .before .loop in
-    let benches = test .before .before .benches in
-    let start = test .before .before .before .before in
+    let loop = c .before .before .before .before in
+    let start = loop .before .before .before in
     let sheeted = start .pre .1 in
-    let left = loop .inv .0 (start .args .s) (benches .ensures) (start .pre .0) sheeted in (
-      omega (arith, bench-few sheeted (loop .done) (omega arith)),
-      (omega (arith, load-light sheeted (loop .done) (omega arith)), bench-room sheeted (loop .done) (omega arith) left (omega (arith, start .pre .2, loop .inv .1))),
+    let x = loop .loop .x in
+    let left = loop .loop .inv .0 (start .args .s) (loop .before .benches .ensures) (start .pre .0) sheeted in (
+      omega (arith, bench-few sheeted x (omega arith)),
+      (omega (arith, load-light sheeted x (omega arith)), bench-room sheeted x (omega arith) left (omega (arith, start .pre .2, loop .loop .inv .1))),
     )
 
-add-done : tie.Need-add-done Inv-loop μ-loop
-add-done c = search needs
-
 loop-less : tie.Need-loop-less Inv-loop μ-loop
-loop-less c = search needs
+loop-less c = omega arith
 
 loop-again : tie.Need-loop-again Inv-loop μ-loop
 loop-again c =
-    let call = c .before .before in
-    let test = call .before .before .before .before in
-    let loop = test .before .loop in
-    let start = test .before .before .before .before in
-    let benches = test .before .before .benches in
-    let own = loop .inv .0 (start .args .s) (benches .ensures) (start .pre .0) (start .pre .1) in (
-      λ s e b z. bench-turn z (loop .done) (omega arith) (loop .inv .0 s e b z) (omega (arith, own .ends, start .pre .2, loop .inv .1)) (call .write-bench .ensures),
-      call .write-bench .kept .0 ∙ loop .inv .1,
+    let bench = c .before .before in
+    let loop = bench .before .before .before .before .before in
+    let inv = loop .loop .inv in
+    let start = loop .before .before .before in
+    let own = inv .0 (start .args .s) (loop .before .benches .ensures) (start .pre .0) (start .pre .1) in (
+      λ s e b z. bench-turn z (loop .loop .x) (omega arith) (inv .0 s e b z) (omega (arith, own .ends, start .pre .2, inv .1)) (bench .write-bench .ensures),
+      bench .write-bench .kept .0 ∙ inv .1,
     )
 
 same-length : tie.Need-same-length Inv-loop μ-loop
@@ -93,8 +87,8 @@ same-length c = c .before .loop .inv .1
 
 returns : tie.Need-returns Inv-loop μ-loop
 returns c =
-    let benches = c .before .before .benches in
-    sheet-end (omega arith) (c .before .loop .inv .0 (c .before .before .before .before .args .s) (benches .ensures))
+    let loop = c .before in
+    sheet-end (omega arith) (loop .loop .inv .0 (loop .before .before .before .args .s) (loop .before .benches .ensures))
 
 pub write-spec : {M : Type 1} → statement M
 write-spec =
@@ -112,7 +106,6 @@ write-spec =
     element-copy-out-write-bench-2
     cast-write-bench-2
     write-bench-requires
-    add-done
     loop-less
     loop-again
     same-length

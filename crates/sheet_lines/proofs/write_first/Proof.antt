@@ -1,27 +1,33 @@
 -- Number, load and jobs, one behind the other, are the line.
-use borrow.Author.Needs.{needs}
 use native.Mathlib.Omega.{arith}
+use mathlib.Core.Path.{_∙_}
 use Rattle.sheet_lines.proofs.OneLine.{first-written}
 use Rattle.sheet_lines.proofs.write_first.Statement.{statement}
 use Rattle.sheet_lines.proofs.write_first.Tie as tie
 
 write-bench-requires : tie.Need-write-bench-requires
-write-bench-requires c κs = search needs
+write-bench-requires c κs = (c .before .before .pre .0, omega arith)
 
 add-write-number : tie.Need-add-write-number
-add-write-number c = search needs
+add-write-number c = omega arith
 
 write-number-requires : tie.Need-write-number-requires
-write-number-requires c κs = search needs
+write-number-requires c κs = (omega arith, omega arith)
 
 add-write-jobs : tie.Need-add-write-jobs
-add-write-jobs c = search needs
+add-write-jobs c = omega arith
 
 write-jobs-requires : tie.Need-write-jobs-requires
-write-jobs-requires c κs = search needs
+write-jobs-requires c κs =
+    let start = c .before .before .before .before .before .before .before .before .before .before in
+    (start .pre .1 .1 .0, omega arith)
 
 same-length : tie.Need-same-length
-same-length c = search needs
+same-length c =
+    let jobs = c .before .before in
+    let load = jobs .before .before .before .before in
+    let bench = load .before .before .before .before in
+    jobs .write-jobs .kept .0 ∙ load .write-number .kept .0 ∙ bench .write-bench .kept .0
 
 returns : tie.Need-returns
 returns c =
