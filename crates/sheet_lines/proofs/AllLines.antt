@@ -120,7 +120,7 @@ module _ {b : Board} {s : Size} {loads head next : List ℕ} (z : Sheeted b s lo
         }
 
     -- one bench more
-    pub bench-turn : {page' : List ℕ} {r : ℕ} → at ≤ length page → BenchWritten next page page' at (done + 1) (getD loads (done + 1) 0) (getD head (done + 1) 0) r → BenchesLeft b page₀ page' r (done + 1)
+    pub bench-turn : {page' : List ℕ} {r : ℕ} → at ≤ length page → BenchWritten next page page' (benchHead (done + 1) (getD loads (done + 1) 0)) at (getD head (done + 1) 0) r → BenchesLeft b page₀ page' r (done + 1)
     unfolding jobs benchLines
     bench-turn {page'} {r} u w =
         let first : List ℕ = benchLines b (done + 1) in

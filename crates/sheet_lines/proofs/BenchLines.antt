@@ -9,8 +9,8 @@ use lib.Dec.{leb}
 use lib.ListN.{length, take, drop, length-take, length-drop, drop-of-length-le}
 use borrow.Author.Tests.{le-leb, lt-leb}
 use Rattle.spec_lists.proofs.Elements.{each-take}
-use Rattle.spec_sheet.specs.Sheet.{benchHead, moreHead, lineWith, linesOf, lineCount}
-use Rattle.spec_sheet.proofs.Lines.{head-length, line-length}
+use Rattle.spec_sheet.specs.Sheet.{moreHead, lineWith, linesOf, lineCount}
+use Rattle.spec_sheet.proofs.Lines.{line-length}
 use Rattle.sheet_fields.specs.Page.{withText}
 use Rattle.sheet_fields.proofs.Page.{text-none, text-then}
 use Rattle.sheet_jobs.specs.JobLists.{ListFrom}
@@ -87,7 +87,7 @@ lines-turn {next} {page₀} {page} {page'} {js} {end₀} {end} {j} {r} n h c w =
 
 -- the first line is written, and some behind it
 module _ {next page page₀ page' head : List ℕ} {at first j₀ end j : ℕ} (w : LineWritten next page page₀ head at first j₀) (c : (js : List ℕ) → ListFrom next j₀ js → LinesLeft next page₀ page' (at + 69) end j js) where
-  -- what is left of a bench's jobs
+  -- what is left of the list's jobs
   jobs-left : {js : List ℕ} → ListFrom next first js → LinesLeft next page₀ page' (at + 69) end j (drop 12 js)
   jobs-left {js} l = c (drop 12 js) (w .rest js l)
 
@@ -102,23 +102,20 @@ module _ {next page page₀ page' head : List ℕ} {at first j₀ end j : ℕ} (
         let left = jobs-left (room .from) in
         omega (arith, left .ends, list-some (left .from) n, length-drop 12 (room .jobs), room .fits)
 
--- all of them
-pub lines-end : {next page page₀ page' : List ℕ} {x load at first j₀ r j : ℕ} → x < 1000 → load < 10000 → at ≤ length page → LineWritten next page page₀ (benchHead x load) at first j₀ → ((js : List ℕ) → ListFrom next j₀ js → LinesLeft next page₀ page' (at + 69) r j js) → j ≡ 0 → BenchWritten next page page' at x load first r
-lines-end {next} {page} {page₀} {page'} {x} {load} {at} {first} {j₀} {r} {j} few light h w c none = record { lines = lines; end = end }
-  where
-    head : List ℕ
-    head = benchHead x load
+  -- no job is left: all lines are written
+  pub lines-end : length head ≡ 8 → at ≤ length page → j ≡ 0 → BenchWritten next page page' head at first end
+  lines-end u h none = record { lines = lines; end = ends }
+    where
+      left-none : (js : List ℕ) (l : ListFrom next first js) → jobs-left l .left ≡ []
+      left-none js l = list-none (jobs-left l .from) none
 
-    left-none : (js : List ℕ) (l : ListFrom next first js) → jobs-left w c l .left ≡ []
-    left-none js l = list-none (jobs-left w c l .from) none
+      ends : (js : List ℕ) → ListFrom next first js → end ≡ at + 69 * lineCount (length js)
+      ends js l = omega (arith, ap length (left-none js l), length-drop 12 js, jobs-left l .ends)
 
-    end : (js : List ℕ) → ListFrom next first js → r ≡ at + 69 * lineCount (length js)
-    end js l = omega (arith, ap length (left-none js l), length-drop 12 js, jobs-left w c l .ends)
-
-    lines : (js : List ℕ) → ListFrom next first js → page' ≡ withText page at (linesOf (length js) head js)
-    lines js l =
-        let line : List ℕ = lineWith head (take 12 js) in
-        let more : List ℕ = moreLines (drop 12 js) in
-        let place : at + 69 ≡ at + length line = omega (arith, line-long head js (head-length x load few light) l) in
-        sym (text-none page' r) ∙ ap (λ (l : List ℕ). withText page' r (moreLines l)) (sym (left-none js l)) ∙ jobs-left w c l .whole
-        ∙ text-then page at line more h (w .line js l) place ∙ ap (withText page at) (sym (lines-first (length js) head js (omega arith)))
+      lines : (js : List ℕ) → ListFrom next first js → page' ≡ withText page at (linesOf (length js) head js)
+      lines js l =
+          let line : List ℕ = lineWith head (take 12 js) in
+          let more : List ℕ = moreLines (drop 12 js) in
+          let place : at + 69 ≡ at + length line = omega (arith, line-long head js u l) in
+          sym (text-none page' end) ∙ ap (λ (l : List ℕ). withText page' end (moreLines l)) (sym (left-none js l)) ∙ jobs-left l .whole
+          ∙ text-then page at line more h (w .line js l) place ∙ ap (withText page at) (sym (lines-first (length js) head js (omega arith)))

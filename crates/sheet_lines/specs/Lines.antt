@@ -6,7 +6,7 @@ use lib.ListN.{length, getD, take, drop, replicate}
 use Rattle.spec_text.specs.Numbers.{space}
 use Rattle.spec_table.specs.Board.{Board}
 use Rattle.spec_table.specs.Table.{Storable}
-use Rattle.spec_sheet.specs.Sheet.{field, benchHead, lineWith, linesOf, lineCount, sheet}
+use Rattle.spec_sheet.specs.Sheet.{field, lineWith, linesOf, lineCount, sheet}
 use Rattle.table_size.specs.declared.Size.{Size}
 use Rattle.table_board.specs.BoardView.{Loaded}
 use Rattle.sheet_jobs.specs.JobLists.{ListFrom, JobLists}
@@ -38,10 +38,9 @@ pub record Room (next page : List ℕ) (at j : ℕ) : Type 0 where
   pub from : ListFrom next j jobs
   pub fits : at + 69 * lineCount (length jobs) ≤ length page
 
--- all lines of the list were written, behind the bench and its load; r is the place after them
-pub record BenchWritten (next page page' : List ℕ) (at x load j r : ℕ) : Type 0 where
-  pub lines :
-      (js : List ℕ) → ListFrom next j js → page' ≡ withText page at (linesOf (length js) (benchHead x load) js)
+-- all lines of the list from job j on were written, the first behind this head; r is the place after them
+pub record BenchWritten (next page page' head : List ℕ) (at j r : ℕ) : Type 0 where
+  pub lines : (js : List ℕ) → ListFrom next j js → page' ≡ withText page at (linesOf (length js) head js)
   pub end : (js : List ℕ) → ListFrom next j js → r ≡ at + 69 * lineCount (length js)
 
 -- a board that a table of size s can hold, with its loads and its jobs listed

@@ -98,7 +98,7 @@ fn write_bench(
     requires { ⌜ x < 1000 ⌝ }
     requires { ⌜ load < 10000 ⌝ }
     requires { ⌜ Room (now next) (now page) at first ⌝ }
-    ensures { λ r. ⌜ BenchWritten (now (next .entry)) (now (page .entry)) (now (page .exit)) at x load first r ⌝ }
+    ensures { λ r. ⌜ BenchWritten (now (next .entry)) (now (page .entry)) (now (page .exit)) (benchHead x load) at first r ⌝ }
 {
     let mut j = write_first(page, at, x, load, first, next);
     let mut end = at + LINE;

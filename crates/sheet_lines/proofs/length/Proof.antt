@@ -1,5 +1,4 @@
 -- The loop's invariant: the lines of benches 1 to x are counted. The measure is the benches that are left.
-use borrow.Author.Needs.{needs}
 use Prim.Native.Nat.{_+_, _-_, _*_, _≤_}
 use native.Mathlib.Omega.{arith}
 use mathlib.Core.Path.{_≡_, refl}
@@ -14,13 +13,13 @@ abbrev μ-loop : tie.MeasureT-loop
 μ-loop loads benches lines₀ x₀ lines x = benches - x
 
 benches-requires : tie.Need-benches-requires Inv-loop μ-loop
-benches-requires c κs = search needs
+benches-requires c κs = tt
 
 loop-holds : tie.Need-loop-holds Inv-loop μ-loop
 loop-holds c = (refl, omega arith, omega arith)
 
 add-x : tie.Need-add-x Inv-loop μ-loop
-add-x c = search needs
+add-x c = omega arith
 
 mul-line-count : tie.Need-mul-line-count Inv-loop μ-loop
 mul-line-count c = omega (arith, benches-few (c .before .before .before .pre))
@@ -48,7 +47,7 @@ add-lines : tie.Need-add-lines Inv-loop μ-loop
 add-lines c = omega (arith, benches-few (c .before .before .before .before .before .pre), loop-again c .2)
 
 loop-less : tie.Need-loop-less Inv-loop μ-loop
-loop-less c = search needs
+loop-less c = omega arith
 
 mul-result : tie.Need-mul-result Inv-loop μ-loop
 mul-result c = omega (arith, benches-few (c .before .before .before .pre))

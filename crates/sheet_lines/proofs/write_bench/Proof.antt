@@ -5,6 +5,7 @@ use native.Mathlib.Omega.{arith}
 use mathlib.Core.Path.{_≡_, refl, _∙_}
 use mathlib.Core.List.{List}
 use lib.ListN.{length}
+use Rattle.spec_sheet.proofs.Lines.{head-length}
 use Rattle.sheet_jobs.specs.JobLists.{ListFrom}
 use Rattle.sheet_lines.proofs.BenchLines.{LinesLeft, lines-start, lines-turn, left-listed, left-room, lines-end}
 use Rattle.sheet_lines.proofs.write_bench.Statement.{statement}
@@ -71,8 +72,9 @@ same-length c = c .before .loop .inv .1 ∙ c .before .before .before .before .w
 returns : tie.Need-returns Inv-loop μ-loop
 returns c =
     let line = c .before .before .before .before in
-    let pre = line .before .before .before .pre in
-    lines-end (pre .0) (pre .1 .0) (omega (arith, pre .1 .1 .fits)) (line .write-first .ensures) (c .before .loop .inv .0) (c .loop-test .left)
+    let start = line .before .before .before in
+    let pre = start .pre in
+    lines-end (line .write-first .ensures) (c .before .loop .inv .0) (head-length (start .args .x) (start .args .load) (pre .0) (pre .1 .0)) (omega (arith, pre .1 .1 .fits)) (c .loop-test .left)
 
 pub write-bench-spec : {M : Type 1} → statement M
 write-bench-spec =

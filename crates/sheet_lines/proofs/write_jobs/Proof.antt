@@ -1,11 +1,10 @@
 -- The loop's invariant: with the cells that are written, what is left of the list makes the whole line. The measure is
 -- the cells that are left.
-use borrow.Author.Needs.{needs}
 use Prim.Native.Nat.{ℕ, _-_, _≤_}
 use native.Mathlib.Omega.{arith}
 use mathlib.Core.Path.{_≡_, refl, _∙_}
 use mathlib.Core.List.{List}
-use lib.ListN.{length}
+use lib.ListN.{length, length-set}
 use Rattle.sheet_jobs.specs.JobLists.{ListFrom}
 use Rattle.sheet_lines.proofs.OneLine.{Cells, cells-start, cells-turn, cells-end}
 use Rattle.sheet_lines.proofs.write_jobs.Statement.{statement}
@@ -22,10 +21,10 @@ loop-holds : tie.Need-loop-holds Inv-loop μ-loop
 loop-holds c = (λ js l. cells-start (c .before .args .page .now) (c .before .args .at) l, refl, omega arith)
 
 mul-write-cell : tie.Need-mul-write-cell Inv-loop μ-loop
-mul-write-cell c = search needs
+mul-write-cell c = omega arith
 
 add-write-cell : tie.Need-add-write-cell Inv-loop μ-loop
-add-write-cell c = search needs
+add-write-cell c = omega arith
 
 write-cell-requires : tie.Need-write-cell-requires Inv-loop μ-loop
 write-cell-requires c κs =
@@ -34,10 +33,10 @@ write-cell-requires c κs =
     ((cells .left, cells .from), omega arith)
 
 add-cells : tie.Need-add-cells Inv-loop μ-loop
-add-cells c = search needs
+add-cells c = omega arith
 
 loop-less : tie.Need-loop-less Inv-loop μ-loop
-loop-less c = search needs
+loop-less c = omega arith
 
 loop-again : tie.Need-loop-again Inv-loop μ-loop
 loop-again c =
@@ -49,13 +48,13 @@ loop-again c =
     )
 
 add-page : tie.Need-add-page Inv-loop μ-loop
-add-page c = search needs
+add-page c = omega arith
 
 slice-write-page : tie.Need-slice-write-page Inv-loop μ-loop
-slice-write-page c = search needs
+slice-write-page c = omega arith
 
 same-length : tie.Need-same-length Inv-loop μ-loop
-same-length c = search needs
+same-length c = simp length-set (c .before .loop .inv .1)
 
 returns : tie.Need-returns Inv-loop μ-loop
 returns c = cells-end (omega arith) (omega arith) (omega arith) (c .before .loop .inv .0)
