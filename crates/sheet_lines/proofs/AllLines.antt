@@ -2,7 +2,6 @@
 use Prim.Native.Nat.{ℕ, suc, _+_, _-_, _*_, _≤_, _<_}
 use native.Mathlib.Omega.{arith}
 use native.Mathlib.Numerals.{add-one}
-use native.Mathlib.Nat.{sub-zero}
 use mathlib.Core.Path.{_≡_, sym, ap, _∙_}
 use mathlib.Core.List.{List, [], _++_, flatMap}
 use lib.Dec.{T}
@@ -50,84 +49,85 @@ measured {s} {loads} lines e = record { is = length-is }
         let same = total-same (b .benches) (λ x. lineCount (getD loads x 0)) (λ x. lineCount (load (b .holders) x)) (λ x p q. ap lineCount (l .bench x p (omega arith))) in
         omega (arith, sheet-lines b z, same, ap (linesTo loads) d)
 
--- the lines of the benches behind bench n
+-- the lines of the benches from x on
 abbrev linesFrom : Board → ℕ → List ℕ
-linesFrom b n = flatMap (benchLines b) (range (suc n) (b .benches - n))
+linesFrom b x = flatMap (benchLines b) (range x (suc (b .benches) - x))
 
--- those of the next bench, and of the benches behind it
-from-next : (b : Board) (n : ℕ) → n < b .benches → linesFrom b n ≡ benchLines b (n + 1) ++ linesFrom b (n + 1)
+-- those of bench x, and of the benches behind it
+from-next : (b : Board) (x : ℕ) → x ≤ b .benches → linesFrom b x ≡ benchLines b x ++ linesFrom b (x + 1)
 unfolding flatMap
-from-next b n h = let e : b .benches - n ≡ suc (b .benches - suc n) = omega arith in rw (e, add-one n)
+from-next b x h = let e : suc (b .benches) - x ≡ suc (suc (b .benches) - suc x) = omega arith in rw (e, add-one x)
 
 -- none behind the last
-from-last : (b : Board) (n : ℕ) → b .benches ≤ n → linesFrom b n ≡ []
+from-last : (b : Board) (x : ℕ) → b .benches < x → linesFrom b x ≡ []
 unfolding flatMap
-from-last b n h = let e : b .benches - n ≡ 0 = omega arith in rw e
+from-last b x h = let e : suc (b .benches) - x ≡ 0 = omega arith in rw e
 
--- the lines of some benches are written: with those of the others they make the sheet
-pub record BenchesLeft (b : Board) (page₀ page : List ℕ) (at done : ℕ) : Type 0 where
-  pub whole : withText page at (linesFrom b done) ≡ withText page₀ 0 (sheet b)
-  pub ends : at + length (linesFrom b done) ≡ length (sheet b)
+-- the lines of the benches before x are written: with those of the others they make the sheet
+pub record BenchesLeft (b : Board) (page₀ page : List ℕ) (at x : ℕ) : Type 0 where
+  pub whole : withText page at (linesFrom b x) ≡ withText page₀ 0 (sheet b)
+  pub ends : at + length (linesFrom b x) ≡ length (sheet b)
 
 -- none
-pub sheet-start : (b : Board) (page : List ℕ) → BenchesLeft b page page 0 0
+pub sheet-start : (b : Board) (page : List ℕ) → BenchesLeft b page page 0 1
 unfolding sheet
 sheet-start b page =
-    let e : linesFrom b 0 ≡ sheet b = ap (λ (n : ℕ). flatMap (benchLines b) (range 1 n)) (sub-zero (b .benches)) in
+    let one : suc (b .benches) - 1 ≡ b .benches = omega arith in
+    let e : linesFrom b 1 ≡ sheet b = ap (λ (n : ℕ). flatMap (benchLines b) (range 1 n)) one in
     record { whole = ap (withText page 0) e; ends = omega (arith, ap length e) }
 
-module _ {b : Board} {s : Size} {loads head next : List ℕ} (z : Sheeted b s loads head next) (done : ℕ) (h : done < s .benches) where
-  -- the next bench is one of the board's
-  next-bench : T (within 1 (b .benches) (done + 1))
-  next-bench = within-both 1 (b .benches) (done + 1) (omega arith) (omega (arith, z .benches))
+module _ {b : Board} {s : Size} {loads head next : List ℕ} (z : Sheeted b s loads head next) (x : ℕ) (l : 1 ≤ x) (h : x ≤ s .benches) where
+  -- bench x is one of the board's
+  own-bench : T (within 1 (b .benches) x)
+  own-bench = within-both 1 (b .benches) x l (omega (arith, z .benches))
 
   -- its number is at most 500 ..
-  pub bench-few : done + 1 ≤ mostBenches
+  pub bench-few : x ≤ mostBenches
   bench-few = omega (arith, z .benches, within-high 1 mostBenches (b .benches) (z .storable .benches))
 
   -- .. the array has its load ..
-  load-is : getD loads (done + 1) 0 ≡ load (b .holders) (done + 1)
-  load-is = z .loaded .bench (done + 1) (omega arith) bench-few
+  load-is : getD loads x 0 ≡ load (b .holders) x
+  load-is = z .loaded .bench x l bench-few
 
   -- .. which is at most 4,000 ..
-  pub load-light : getD loads (done + 1) 0 ≤ mostJobs
-  load-light = omega (arith, load-is, load-most b (z .storable) (done + 1))
+  pub load-light : getD loads x 0 ≤ mostJobs
+  load-light = omega (arith, load-is, load-most b (z .storable) x)
 
   -- .. as is the number of its first job
-  pub first-most : getD head (done + 1) 0 ≤ mostJobs
-  first-most = list-most (z .lists .held (done + 1) next-bench)
+  pub first-most : getD head x 0 ≤ mostJobs
+  first-most = list-most (z .lists .held x own-bench)
 
   -- the jobs that it holds ..
   jobs : List ℕ
-  jobs = jobsHeld 1 (done + 1) (b .holders)
+  jobs = jobsHeld 1 x (b .holders)
 
   -- .. and how long its lines are
-  lines-long : length (benchLines b (done + 1)) ≡ 69 * lineCount (length jobs)
+  lines-long : length (benchLines b x) ≡ 69 * lineCount (length jobs)
   unfolding jobs
   lines-long =
-      bench-length b (z .storable) (done + 1) (omega arith) (omega (arith, z .benches))
-      ∙ ap (λ (n : ℕ). 69 * lineCount n) (sym (held-length 1 (done + 1) (b .holders)))
+      bench-length b (z .storable) x l (omega (arith, z .benches))
+      ∙ ap (λ (n : ℕ). 69 * lineCount n) (sym (held-length 1 x (b .holders)))
 
-  module _ {page₀ page : List ℕ} {at : ℕ} (c : BenchesLeft b page₀ page at done) where
-    -- a page with room for the sheet has room for the next bench's lines
-    pub bench-room : length (sheet b) ≤ length page → Room next page at (getD head (done + 1) 0)
+  module _ {page₀ page : List ℕ} {at : ℕ} (c : BenchesLeft b page₀ page at x) where
+    -- a page with room for the sheet has room for the bench's lines
+    pub bench-room : length (sheet b) ≤ length page → Room next page at (getD head x 0)
     unfolding jobs
     bench-room u =
         record {
           jobs = jobs;
-          from = z .lists .held (done + 1) next-bench;
-          fits = omega (arith, c .ends, ap length (from-next b done (omega (arith, z .benches))), length-append (benchLines b (done + 1)) (linesFrom b (done + 1)), lines-long);
+          from = z .lists .held x own-bench;
+          fits = omega (arith, c .ends, ap length (from-next b x (omega (arith, z .benches))), length-append (benchLines b x) (linesFrom b (x + 1)), lines-long);
         }
 
     -- one bench more
-    pub bench-turn : {page' : List ℕ} {r : ℕ} → at ≤ length page → BenchWritten next page page' (benchHead (done + 1) (getD loads (done + 1) 0)) at (getD head (done + 1) 0) r → BenchesLeft b page₀ page' r (done + 1)
+    pub bench-turn : {page' : List ℕ} {r : ℕ} → at ≤ length page → BenchWritten next page page' (benchHead x (getD loads x 0)) at (getD head x 0) r → BenchesLeft b page₀ page' r (x + 1)
     unfolding jobs benchLines
     bench-turn {page'} {r} u w =
-        let first : List ℕ = benchLines b (done + 1) in
-        let more : List ℕ = linesFrom b (done + 1) in
-        let from = z .lists .held (done + 1) next-bench in
-        let lines = from-next b done (omega (arith, z .benches)) in
-        let written : page' ≡ withText page at first = w .lines jobs from ∙ ap (λ (n : ℕ). withText page at (linesOf (length jobs) (benchHead (done + 1) n) jobs)) load-is in
+        let first : List ℕ = benchLines b x in
+        let more : List ℕ = linesFrom b (x + 1) in
+        let from = z .lists .held x own-bench in
+        let lines = from-next b x (omega (arith, z .benches)) in
+        let written : page' ≡ withText page at first = w .lines jobs from ∙ ap (λ (n : ℕ). withText page at (linesOf (length jobs) (benchHead x n) jobs)) load-is in
         let place : r ≡ at + length first = w .end jobs from ∙ ap (λ (n : ℕ). at + n) (sym lines-long) in
         record {
           whole = text-then page at first more u written place ∙ ap (withText page at) (sym lines) ∙ c .whole;
@@ -135,6 +135,6 @@ module _ {b : Board} {s : Size} {loads head next : List ℕ} (z : Sheeted b s lo
         }
 
 -- all of them
-pub sheet-end : {s : Size} {loads head next page₀ page : List ℕ} {at done : ℕ} → s .benches ≤ done → ((b : Board) → Sheeted b s loads head next → BenchesLeft b page₀ page at done) → SheetWritten s loads head next page₀ page
-sheet-end {s} {loads} {head} {next} {page₀} {page} {at} {done} h c b z =
-    sym (text-none page at) ∙ ap (withText page at) (sym (from-last b done (omega (arith, z .benches)))) ∙ c b z .whole
+pub sheet-end : {s : Size} {loads head next page₀ page : List ℕ} {at x : ℕ} → s .benches < x → ((b : Board) → Sheeted b s loads head next → BenchesLeft b page₀ page at x) → SheetWritten s loads head next page₀ page
+sheet-end {s} {loads} {head} {next} {page₀} {page} {at} {x} h c b z =
+    sym (text-none page at) ∙ ap (withText page at) (sym (from-last b x (omega (arith, z .benches)))) ∙ c b z .whole

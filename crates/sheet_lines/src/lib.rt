@@ -123,10 +123,10 @@ pub fn write(
 {
     let benches = s.benches();
     let mut at = 0;
-    let mut x = 0;
-    while x < benches {
-        x += 1;
+    let mut x = 1;
+    while x <= benches {
         at = write_bench(page, at, x, loads[x] as usize, head[x] as usize, next);
+        x += 1;
     }
 }
 

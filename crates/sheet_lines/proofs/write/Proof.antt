@@ -1,6 +1,6 @@
 -- The loop's invariant: for every board of these arrays the lines that are written and those of the benches that are
 -- left make the sheet. The measure is the benches that are left.
-use Prim.Native.Nat.{_-_}
+use Prim.Native.Nat.{suc, _-_, _≤_}
 use native.Mathlib.Omega.{arith}
 use mathlib.Core.Path.{_≡_, refl, _∙_}
 use lib.ListN.{length}
@@ -13,60 +13,63 @@ use Rattle.sheet_lines.proofs.write.Tie as tie
 
 abbrev Inv-loop : tie.InvT-loop
 Inv-loop loads head next page₀ benches at₀ x₀ page at x =
-    ((s : Size) → benches ≡ s .benches → (b : Board) → Sheeted b s loads head next → BenchesLeft b page₀ page at x) × (length page ≡ length page₀)
+    ((s : Size) → benches ≡ s .benches → (b : Board) → Sheeted b s loads head next → BenchesLeft b page₀ page at x) × (1 ≤ x) × (length page ≡ length page₀)
 
 abbrev μ-loop : tie.MeasureT-loop
-μ-loop loads head next page₀ benches at₀ x₀ page at x = benches - x
+μ-loop loads head next page₀ benches at₀ x₀ page at x = suc benches - x
 
 benches-requires : tie.Need-benches-requires Inv-loop μ-loop
 benches-requires c κs = tt
 
 loop-holds : tie.Need-loop-holds Inv-loop μ-loop
-loop-holds c = (λ s e b z. sheet-start b (c .before .before .args .page .now), refl)
-
-add-x : tie.Need-add-x Inv-loop μ-loop
-add-x c = omega arith
+loop-holds c = (λ s e b z. sheet-start b (c .before .before .args .page .now), omega arith, refl)
 
 mul-write-bench : tie.Need-mul-write-bench Inv-loop μ-loop
 mul-write-bench c =
     let loop = c .before .before in
-    omega (arith, bench-few (loop .before .before .before .pre .1) (loop .loop .x) (omega arith))
+    omega (arith, bench-few (loop .before .before .before .pre .1) (loop .loop .x) (loop .loop .inv .1) (omega arith))
 
 element-copy-out-write-bench : tie.Need-element-copy-out-write-bench Inv-loop μ-loop
 element-copy-out-write-bench c =
     let loop = c .before .before in
-    omega (arith, bench-few (loop .before .before .before .pre .1) (loop .loop .x) (omega arith))
+    omega (arith, bench-few (loop .before .before .before .pre .1) (loop .loop .x) (loop .loop .inv .1) (omega arith))
 
 cast-write-bench : tie.Need-cast-write-bench Inv-loop μ-loop
 cast-write-bench c =
     let loop = c .before .before .before in
-    omega (arith, load-light (loop .before .before .before .pre .1) (loop .loop .x) (omega arith))
+    omega (arith, load-light (loop .before .before .before .pre .1) (loop .loop .x) (loop .loop .inv .1) (omega arith))
 
 mul-write-bench-2 : tie.Need-mul-write-bench-2 Inv-loop μ-loop
 mul-write-bench-2 c =
     let loop = c .before .before .before in
-    omega (arith, bench-few (loop .before .before .before .pre .1) (loop .loop .x) (omega arith))
+    omega (arith, bench-few (loop .before .before .before .pre .1) (loop .loop .x) (loop .loop .inv .1) (omega arith))
 
 element-copy-out-write-bench-2 : tie.Need-element-copy-out-write-bench-2 Inv-loop μ-loop
 element-copy-out-write-bench-2 c =
     let loop = c .before .before .before in
-    omega (arith, bench-few (loop .before .before .before .pre .1) (loop .loop .x) (omega arith))
+    omega (arith, bench-few (loop .before .before .before .pre .1) (loop .loop .x) (loop .loop .inv .1) (omega arith))
 
 cast-write-bench-2 : tie.Need-cast-write-bench-2 Inv-loop μ-loop
 cast-write-bench-2 c =
     let loop = c .before .before .before .before in
-    omega (arith, first-most (loop .before .before .before .pre .1) (loop .loop .x) (omega arith))
+    omega (arith, first-most (loop .before .before .before .pre .1) (loop .loop .x) (loop .loop .inv .1) (omega arith))
 
 write-bench-requires : tie.Need-write-bench-requires Inv-loop μ-loop
 write-bench-requires c κs =
     let loop = c .before .before .before .before in
+    let inv = loop .loop .inv in
+    let x = loop .loop .x in
     let start = loop .before .before .before in
     let sheeted = start .pre .1 in
-    let x = loop .loop .x in
-    let left = loop .loop .inv .0 (start .args .s) (loop .before .benches .ensures) (start .pre .0) sheeted in (
-      omega (arith, bench-few sheeted x (omega arith)),
-      (omega (arith, load-light sheeted x (omega arith)), bench-room sheeted x (omega arith) left (omega (arith, start .pre .2, loop .loop .inv .1))),
+    let left = inv .0 (start .args .s) (loop .before .benches .ensures) (start .pre .0) sheeted in (
+      omega (arith, bench-few sheeted x (inv .1) (omega arith)),
+      (omega (arith, load-light sheeted x (inv .1) (omega arith)), bench-room sheeted x (inv .1) (omega arith) left (omega (arith, start .pre .2, inv .2))),
     )
+
+add-x : tie.Need-add-x Inv-loop μ-loop
+add-x c =
+    let loop = c .before .before .before .before .before .before .before in
+    omega (arith, bench-few (loop .before .before .before .pre .1) (loop .loop .x) (loop .loop .inv .1) (omega arith))
 
 loop-less : tie.Need-loop-less Inv-loop μ-loop
 loop-less c = omega arith
@@ -78,12 +81,13 @@ loop-again c =
     let inv = loop .loop .inv in
     let start = loop .before .before .before in
     let own = inv .0 (start .args .s) (loop .before .benches .ensures) (start .pre .0) (start .pre .1) in (
-      λ s e b z. bench-turn z (loop .loop .x) (omega arith) (inv .0 s e b z) (omega (arith, own .ends, start .pre .2, inv .1)) (bench .write-bench .ensures),
-      bench .write-bench .kept .0 ∙ inv .1,
+      λ s e b z. bench-turn z (loop .loop .x) (inv .1) (omega arith) (inv .0 s e b z) (omega (arith, own .ends, start .pre .2, inv .2)) (bench .write-bench .ensures),
+      omega arith,
+      bench .write-bench .kept .0 ∙ inv .2,
     )
 
 same-length : tie.Need-same-length Inv-loop μ-loop
-same-length c = c .before .loop .inv .1
+same-length c = c .before .loop .inv .2
 
 returns : tie.Need-returns Inv-loop μ-loop
 returns c =
@@ -98,7 +102,6 @@ write-spec =
     μ-loop
     benches-requires
     loop-holds
-    add-x
     mul-write-bench
     element-copy-out-write-bench
     cast-write-bench
@@ -106,6 +109,7 @@ write-spec =
     element-copy-out-write-bench-2
     cast-write-bench-2
     write-bench-requires
+    add-x
     loop-less
     loop-again
     same-length
