@@ -11,12 +11,7 @@ use table_refusals::Refusal;
 use table_size::Size;
 
 // Writes the sheet of a sound table, or refuses with 11 before a byte is written.
-fn sheet_on(
-    t: &[u8],
-    s: Size,
-    loads: &[u16; Size::MOST_BENCHES + 1],
-    page: &mut [u8],
-) -> Answer
+fn sheet_on(t: &[u8], s: Size, loads: &[u16; Size::MOST_BENCHES + 1], page: &mut [u8]) -> Answer
     requires { ⌜ SoundTable (now t) s ⌝ }
     requires { ⌜ Loaded (decode (now t)) (now loads) ⌝ }
     ensures { λ r. ⌜ Leaves (outcome (ask wallSheet (now (page .entry))) (now (t .entry))) r

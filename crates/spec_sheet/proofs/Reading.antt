@@ -142,9 +142,9 @@ read-lines (suc k) (suc m) n before x head js rest g e u d =
     elim (decLe (length js) 12) [
       | yes h ↦ let q : m ≡ n = omega arith in rw (le-leb (length js) 12 h, append-nil (lineWith head (take 12 js)), take-all 12 js h, q) (read-line n before x head js rest g e h)
       | no h ↦ rw (lt-leb (length js) 12 (omega arith), append-assoc (lineWith head (take 12 js)) more rest) (
-        read-line m before x head (take 12 js) (more ++ rest) g (each-take (λ j. j < 65536) 12 js e) (omega (arith, length-take 12 js))
-        ∙ ap (λ (l : List (ℕ × ℕ)). at x (take 12 js) ++ l) (read-lines k m n x x moreHead (drop 12 js) rest (more-begins x) (each-drop (λ j. j < 65536) 12 js e) (omega (arith, length-drop 12 js)) (omega (arith, length-drop 12 js)))
-        ∙ joined)
+          read-line m before x head (take 12 js) (more ++ rest) g (each-take (λ j. j < 65536) 12 js e) (omega (arith, length-take 12 js))
+          ∙ ap (λ (l : List (ℕ × ℕ)). at x (take 12 js) ++ l) (read-lines k m n x x moreHead (drop 12 js) rest (more-begins x) (each-drop (λ j. j < 65536) 12 js e) (omega (arith, length-drop 12 js)) (omega (arith, length-drop 12 js)))
+          ∙ joined)
     ]
   where
     more : List ℕ
