@@ -1,3 +1,3 @@
 -- The sheet of a sound table, and the call's contract as demand 3 sees it.
-pub mod Asking
+pub mod AskingSheet
 pub mod Contracts

@@ -17,7 +17,7 @@ fn sheet_on(t: &[u8], s: Size, loads: &[u16; Size::MOST_BENCHES + 1], page: &mut
     ensures { λ r. ⌜ Leaves (outcome (ask wallSheet (now (page .entry))) (now (t .entry))) r
         (now (t .entry)) (now (page .exit)) ⌝ }
 {
-    let length = sheet_lines::length(s, loads);
+    let length = sheet_lines::sheet_length(s, loads);
     if page.len() < length {
         return Answer::Refused(Refusal::PageTooShort);
     }

@@ -7,7 +7,7 @@ ghost use Rattle.spec_sheet.specs.Sheet.{field};
 ghost use Rattle.sheet_fields.specs.Page.{digitOf, withText};
 
 // Gives the last digit of n, a blank for 0.
-fn digit(n: u32) -> u8
+fn last_digit(n: u32) -> u8
     ensures { λ r. ⌜ r ≡ digitOf n ⌝ }
 {
     if n == 0 {
@@ -17,15 +17,15 @@ fn digit(n: u32) -> u8
 }
 
 // Writes a bench's number in 3 columns.
-pub fn write_bench(page: &mut [u8], at: usize, x: usize)
+pub fn write_bench_number(page: &mut [u8], at: usize, x: usize)
     requires { ⌜ x < 1000 ⌝ }
     requires { ⌜ at + 3 ≤ length (now page) ⌝ }
     ensures { λ _. ⌜ now (page .exit) ≡ withText (now (page .entry)) at (field 3 x) ⌝ }
 {
     let ones = x as u32;
     let tens = ones / 10;
-    page[at] = digit(tens / 10);
-    page[at + 1] = digit(tens);
+    page[at] = last_digit(tens / 10);
+    page[at + 1] = last_digit(tens);
     page[at + 2] = b'0' + (ones % 10) as u8;
 }
 
@@ -39,14 +39,14 @@ pub fn write_number(page: &mut [u8], at: usize, n: usize)
     let tens = ones / 10;
     let hundreds = tens / 10;
     page[at] = b' ';
-    page[at + 1] = digit(hundreds / 10);
-    page[at + 2] = digit(hundreds);
-    page[at + 3] = digit(tens);
+    page[at + 1] = last_digit(hundreds / 10);
+    page[at + 2] = last_digit(hundreds);
+    page[at + 3] = last_digit(tens);
     page[at + 4] = b'0' + (ones % 10) as u8;
 }
 
 // Writes 5 blanks: a column without a job.
-pub fn write_no_number(page: &mut [u8], at: usize)
+pub fn write_five_blanks(page: &mut [u8], at: usize)
     requires { ⌜ at + 5 ≤ length (now page) ⌝ }
     ensures { λ _. ⌜ now (page .exit) ≡ withText (now (page .entry)) at (replicate 5 space) ⌝ }
 {
@@ -58,7 +58,7 @@ pub fn write_no_number(page: &mut [u8], at: usize)
 }
 
 // Writes 3 blanks: a line without a bench number.
-pub fn write_no_bench(page: &mut [u8], at: usize)
+pub fn write_three_blanks(page: &mut [u8], at: usize)
     requires { ⌜ at + 3 ≤ length (now page) ⌝ }
     ensures { λ _. ⌜ now (page .exit) ≡ withText (now (page .entry)) at (replicate 3 space) ⌝ }
 {

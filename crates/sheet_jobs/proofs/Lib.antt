@@ -1,2 +1,2 @@
 -- How the lists come about.
-pub mod Listing
+pub mod JobListing

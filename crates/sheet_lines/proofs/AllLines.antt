@@ -13,13 +13,13 @@ use Rattle.spec_table.specs.Board.{Board, jobsHeld, load}
 use Rattle.spec_table.specs.Table.{mostBenches, mostJobs, Storable}
 use Rattle.spec_table.proofs.Held.{held-length}
 use Rattle.spec_sheet.specs.Sheet.{benchHead, linesOf, benchLines, sheet, lineCount, sheetLines}
-use Rattle.spec_sheet.proofs.Lines.{load-most, bench-length, sheet-lines}
+use Rattle.spec_sheet.proofs.SheetLengths.{load-most, bench-length, sheet-lines}
 use Rattle.table_size.specs.declared.Size.{Size}
 use Rattle.table_board.specs.BoardView.{Loaded}
 use Rattle.sheet_fields.specs.Page.{withText}
 use Rattle.sheet_fields.proofs.Page.{text-none, text-then}
-use Rattle.sheet_lines.specs.Lines.{Room, BenchWritten, Sheeted, SheetWritten, LoadsOf, Measured}
-use Rattle.sheet_lines.proofs.Lists.{list-most}
+use Rattle.sheet_lines.specs.WrittenLines.{PageRoom, BenchWritten, Sheeted, SheetWritten, LoadsOf, LengthOf}
+use Rattle.sheet_lines.proofs.ListedJobs.{list-most}
 
 -- the lines of benches 1 to n by their loads
 abbrev pub linesTo : List ℕ → ℕ → ℕ
@@ -39,7 +39,7 @@ pub lines-next : (loads : List ℕ) (n lines r : ℕ) → lines ≡ linesTo load
 lines-next loads n lines r e d = rw (add-one n) (omega (arith, e, rw (add-one n) at d))
 
 -- 69 characters a line
-pub measured : {s : Size} {loads : List ℕ} (lines : ℕ) → lines ≡ linesTo loads (s .benches) → Measured s loads (69 * lines)
+pub measured : {s : Size} {loads : List ℕ} (lines : ℕ) → lines ≡ linesTo loads (s .benches) → LengthOf s loads (69 * lines)
 unfolding sheetLines
 measured {s} {loads} lines e = record { is = length-is }
   where
@@ -110,7 +110,7 @@ module _ {b : Board} {s : Size} {loads head next : List ℕ} (z : Sheeted b s lo
 
   module _ {page₀ page : List ℕ} {at : ℕ} (c : BenchesLeft b page₀ page at x) where
     -- a page with room for the sheet has room for the bench's lines
-    pub bench-room : length (sheet b) ≤ length page → Room next page at (getD head x 0)
+    pub bench-room : length (sheet b) ≤ length page → PageRoom next page at (getD head x 0)
     unfolding jobs
     bench-room u =
         record {

@@ -10,12 +10,12 @@ use lib.ListN.{length, take, drop, length-take, length-drop, drop-of-length-le}
 use borrow.Author.Tests.{le-leb, lt-leb}
 use Rattle.spec_lists.proofs.Elements.{each-take}
 use Rattle.spec_sheet.specs.Sheet.{moreHead, lineWith, linesOf, lineCount}
-use Rattle.spec_sheet.proofs.Lines.{line-length}
+use Rattle.spec_sheet.proofs.SheetLengths.{line-length}
 use Rattle.sheet_fields.specs.Page.{withText}
 use Rattle.sheet_fields.proofs.Page.{text-none, text-then}
 use Rattle.sheet_jobs.specs.JobLists.{ListFrom}
-use Rattle.sheet_lines.specs.Lines.{Listed, LineWritten, Room, BenchWritten}
-use Rattle.sheet_lines.proofs.Lists.{list-small, list-none, list-some}
+use Rattle.sheet_lines.specs.WrittenLines.{Listed, LineWritten, PageRoom, BenchWritten}
+use Rattle.sheet_lines.proofs.ListedJobs.{list-small, list-none, list-some}
 
 -- fuel that is enough does not show
 lines-fuel : (k m : ℕ) (head js : List ℕ) → length js ≤ k → length js ≤ m → linesOf k head js ≡ linesOf m head js
@@ -91,7 +91,7 @@ module _ {next page page₀ page' head : List ℕ} {at first j₀ end j : ℕ} (
   jobs-left : {js : List ℕ} → ListFrom next first js → LinesLeft next page₀ page' (at + 69) end j (drop 12 js)
   jobs-left {js} l = c (drop 12 js) (w .rest js l)
 
-  module _ (room : Room next page at first) where
+  module _ (room : PageRoom next page at first) where
     -- job j begins a list ..
     pub left-listed : Listed next j
     left-listed = let left = jobs-left (room .from) in (left .left, left .from)

@@ -9,13 +9,13 @@ use Rattle.spec_text.specs.Numbers.{lineFeed, space}
 use Rattle.spec_table.specs.Table.{mostJobs}
 use Rattle.spec_lists.proofs.Tests.{within-low}
 use Rattle.spec_sheet.specs.Sheet.{field, benchHead, moreHead, lineWith}
-use Rattle.spec_sheet.proofs.Lines.{field-wide}
+use Rattle.spec_sheet.proofs.SheetLengths.{field-wide}
 use Rattle.sheet_fields.specs.Page.{withText}
 use Rattle.sheet_fields.proofs.Page.{text-byte, text-then}
 use Rattle.sheet_fields.proofs.Columns.{blank-and-4}
 use Rattle.sheet_jobs.specs.JobLists.{ListFrom, listEnd, listJob}
-use Rattle.sheet_lines.specs.Lines.{cellText, after, LineWritten}
-use Rattle.sheet_lines.proofs.Lists.{cell-job, list-most, list-after}
+use Rattle.sheet_lines.specs.WrittenLines.{cellText, jobAfter, LineWritten}
+use Rattle.sheet_lines.proofs.ListedJobs.{cell-job, list-most, list-after}
 
 -- the end of a line: n cells, with jobs as long as there are some, and the line feed
 abbrev lineEnd : ℕ → List ℕ → List ℕ
@@ -74,7 +74,7 @@ cells-start {next} {js} {j} page at l =
     record { left = js; from = l; behind = refl; whole = ap (λ (k : ℕ). withText page k (lineEnd 12 js)) e }
 
 -- one more
-pub cells-turn : {next page₀ page page' js : List ℕ} {at cells j : ℕ} → cells < 12 → at + 5 * cells ≤ length page → Cells next page₀ page at cells j js → page' ≡ withText page (at + 5 * cells) (cellText j) → Cells next page₀ page' at (cells + 1) (after next j) js
+pub cells-turn : {next page₀ page page' js : List ℕ} {at cells j : ℕ} → cells < 12 → at + 5 * cells ≤ length page → Cells next page₀ page at cells j js → page' ≡ withText page (at + 5 * cells) (cellText j) → Cells next page₀ page' at (cells + 1) (jobAfter next j) js
 cells-turn {next} {page₀} {page} {page'} {js} {at} {cells} {j} h r c e =
     let n : ℕ = 12 - (cells + 1) in
     let p : ℕ = at + 5 * cells in

@@ -1,2 +1,2 @@
 -- What the lines promise.
-pub mod Lines
+pub mod WrittenLines

@@ -5,15 +5,15 @@ ghost use Prim.Native.Nat.{_+_, _≤_, _<_};
 ghost use lib.ListN.{length};
 ghost use Rattle.spec_sheet.specs.Sheet.{benchHead, moreHead, lineCount};
 ghost use Rattle.sheet_fields.specs.Page.{withText};
-ghost use Rattle.sheet_lines.specs.Lines.{
+ghost use Rattle.sheet_lines.specs.WrittenLines.{
   cellText,
-  after,
+  jobAfter,
   Listed,
   LineWritten,
-  Room,
+  PageRoom,
   BenchWritten,
   LoadsOf,
-  Measured,
+  LengthOf,
   RoomForAll,
   SheetWritten,
 };
@@ -27,10 +27,10 @@ fn write_cell(page: &mut [u8], at: usize, j: usize, next: &[u16; Size::MOST_JOBS
     requires { ⌜ Listed (now next) j ⌝ }
     requires { ⌜ at + 5 ≤ length (now page) ⌝ }
     ensures { λ _. ⌜ now (page .exit) ≡ withText (now (page .entry)) at (cellText j) ⌝ }
-    ensures { λ r. ⌜ r ≡ after (now (next .entry)) j ⌝ }
+    ensures { λ r. ⌜ r ≡ jobAfter (now (next .entry)) j ⌝ }
 {
     if j == 0 {
-        sheet_fields::write_no_number(page, at);
+        sheet_fields::write_five_blanks(page, at);
         return 0;
     }
     sheet_fields::write_number(page, at, j);
@@ -70,7 +70,7 @@ fn write_first(
     requires { ⌜ at + 69 ≤ length (now page) ⌝ }
     ensures { λ r. ⌜ LineWritten (now (next .entry)) (now (page .entry)) (now (page .exit)) (benchHead x load) at first r ⌝ }
 {
-    sheet_fields::write_bench(page, at, x);
+    sheet_fields::write_bench_number(page, at, x);
     sheet_fields::write_number(page, at + 3, load);
     write_jobs(page, at + 8, first, next)
 }
@@ -81,8 +81,8 @@ fn write_more(page: &mut [u8], at: usize, j: usize, next: &[u16; Size::MOST_JOBS
     requires { ⌜ at + 69 ≤ length (now page) ⌝ }
     ensures { λ r. ⌜ LineWritten (now (next .entry)) (now (page .entry)) (now (page .exit)) moreHead at j r ⌝ }
 {
-    sheet_fields::write_no_bench(page, at);
-    sheet_fields::write_no_number(page, at + 3);
+    sheet_fields::write_three_blanks(page, at);
+    sheet_fields::write_five_blanks(page, at + 3);
     write_jobs(page, at + 8, j, next)
 }
 
@@ -97,7 +97,7 @@ fn write_bench(
 ) -> usize
     requires { ⌜ x < 1000 ⌝ }
     requires { ⌜ load < 10000 ⌝ }
-    requires { ⌜ Room (now next) (now page) at first ⌝ }
+    requires { ⌜ PageRoom (now next) (now page) at first ⌝ }
     ensures { λ r. ⌜ BenchWritten (now (next .entry)) (now (page .entry)) (now (page .exit)) (benchHead x load) at first r ⌝ }
 {
     let mut j = write_first(page, at, x, load, first, next);
@@ -142,9 +142,9 @@ fn line_count(load: usize) -> usize
 }
 
 // Computes how long the sheet is.
-pub fn length(s: Size, loads: &[u16; Size::MOST_BENCHES + 1]) -> usize
+pub fn sheet_length(s: Size, loads: &[u16; Size::MOST_BENCHES + 1]) -> usize
     requires { ⌜ LoadsOf s (now loads) ⌝ }
-    ensures { λ r. ⌜ Measured s (now (loads .entry)) r ⌝ }
+    ensures { λ r. ⌜ LengthOf s (now (loads .entry)) r ⌝ }
 {
     let benches = s.benches();
     let mut lines = 0;

@@ -1,5 +1,5 @@
 -- What is proved of the sheet.
-pub mod Lines
+pub mod SheetLengths
 pub mod Longest
 pub mod Reading
 pub mod Pictures

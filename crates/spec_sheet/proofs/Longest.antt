@@ -13,7 +13,7 @@ use Rattle.spec_sheet.specs.Sheet.{sheet, lineCount, sheetLines}
 use Rattle.spec_lists.proofs.Tests.{within-high}
 use Rattle.spec_lists.proofs.Elements.{each-replicate}
 use Rattle.spec_lists.proofs.Counting.{bit-other, count-replicate, total-each, total-but-one, total-count-le}
-use Rattle.spec_sheet.proofs.Lines.{jobs-most, sheet-lines}
+use Rattle.spec_sheet.proofs.SheetLengths.{jobs-most, sheet-lines}
 
 -- benches that share jobs take a line each, and together at most the further lines of one bench with all of them
 lines-most : (n : ℕ) (loads : ℕ → ℕ) → total n (λ x. lineCount (loads x)) ≤ n + (total n loads - 1) / 12

@@ -22,9 +22,9 @@ use Rattle.spec_lists.proofs.Elements.{each-in, in-each, each-take, each-drop, 
 use Rattle.spec_lists.proofs.NumberLists.{range-low, bench-listed, listed-bench}
 use Rattle.spec_lists.proofs.Counting.{count-append, total-same, total-flatMap, total-within}
 use Rattle.spec_text.proofs.Numbers.{written, number-exact}
-use Rattle.spec_table.proofs.Named.{stands-held}
+use Rattle.spec_table.proofs.Named.{stands-by-holder}
 use Rattle.spec_table.proofs.Held.{held-length, held-once, held-exact}
-use Rattle.spec_sheet.proofs.Lines.{field-wide, head-length, line-length, held-most, load-most, bench-length, sheet-lines}
+use Rattle.spec_sheet.proofs.SheetLengths.{field-wide, head-length, line-length, held-most, load-most, bench-length, sheet-lines}
 
 -- blanks in front do not show ..
 unpadded-blanks : (w : ℕ) (l : List ℕ) → unpadded (replicate w space ++ l) ≡ unpadded l
@@ -77,16 +77,16 @@ read-jobs (suc n) m (j ∷ js) rest e d =
     wide = field-wide 4 j (omega (arith, e .0))
 
 -- jobs with their bench
-abbrev at : ℕ → List ℕ → List (ℕ × ℕ)
-at x js = map (λ j. (j, x)) js
+abbrev withBench : ℕ → List ℕ → List (ℕ × ℕ)
+withBench x js = map (λ j. (j, x)) js
 
 -- a line's first columns are a bench of its own, or blanks for the bench before
-record Begins (before x : ℕ) (head : List ℕ) : Type 0 where
+record LineBegins (before x : ℕ) (head : List ℕ) : Type 0 where
   long : length head ≡ 8
   bench : (l : List ℕ) → readBench before (head ++ l) ≡ x
 
 -- .. as "bench number in 3 columns" is
-own-begins : (before x n : ℕ) → x < 1000 → n < 10000 → Begins before x (benchHead x n)
+own-begins : (before x n : ℕ) → x < 1000 → n < 10000 → LineBegins before x (benchHead x n)
 own-begins before x n h g = record { long = head-length x n h g; bench = reads }
   where
     reads : (l : List ℕ) → readBench before (benchHead x n ++ l) ≡ x
@@ -94,13 +94,13 @@ own-begins before x n h g = record { long = head-length x n h g; bench = reads }
         rw (append-assoc (field 3 x) (space ∷ field 4 n) l, readBench, take-at (field 3 x) ((space ∷ field 4 n) ++ l) 3 (field-wide 2 x h), read-field 3 x (omega arith))
 
 -- .. and "8 blanks" are
-more-begins : (x : ℕ) → Begins x x moreHead
+more-begins : (x : ℕ) → LineBegins x x moreHead
 unfolding number
 more-begins x = record { long = refl; bench = λ l. refl }
 
 -- a line has its jobs, and the lines after it go on with its bench
-read-line : (n before x : ℕ) (head js rest : List ℕ) → Begins before x head → Each (λ j. j < 65536) js → length js ≤ 12 → readLines (suc n) before (lineWith head js ++ rest) ≡ at x js ++ readLines n x rest
-read-line n before x head js rest g e u = λ i. at (bench i) (jobs i) ++ readLines n (bench i) (others i)
+read-line : (n before x : ℕ) (head js rest : List ℕ) → LineBegins before x head → Each (λ j. j < 65536) js → length js ≤ 12 → readLines (suc n) before (lineWith head js ++ rest) ≡ withBench x js ++ readLines n x rest
+read-line n before x head js rest g e u = λ i. withBench (bench i) (jobs i) ++ readLines n (bench i) (others i)
   where
     line : List ℕ
     line = lineWith head js ++ rest
@@ -134,7 +134,7 @@ read-line n before x head js rest g e u = λ i. at (bench i) (jobs i) ++ readLin
     others = drop-at (lineWith head js) rest 69 (line-length head js (g .long) short u)
 
 -- the lines of a bench have its jobs, and the lines after them go on with it
-read-lines : (k m n before x : ℕ) (head js rest : List ℕ) → Begins before x head → Each (λ j. j < 65536) js → length js ≤ k → m ≡ lineCount (length js) + n → readLines m before (linesOf k head js ++ rest) ≡ at x js ++ readLines n x rest
+read-lines : (k m n before x : ℕ) (head js rest : List ℕ) → LineBegins before x head → Each (λ j. j < 65536) js → length js ≤ k → m ≡ lineCount (length js) + n → readLines m before (linesOf k head js ++ rest) ≡ withBench x js ++ readLines n x rest
 read-lines k zero n before x head js rest g e u d = absurd (omega arith)
 read-lines zero (suc m) n before x head js rest g e u d =
     let q : m ≡ n = omega arith in rw q (read-line n before x head js rest g e (omega arith))
@@ -143,7 +143,7 @@ read-lines (suc k) (suc m) n before x head js rest g e u d =
       | yes h ↦ let q : m ≡ n = omega arith in rw (le-leb (length js) 12 h, append-nil (lineWith head (take 12 js)), take-all 12 js h, q) (read-line n before x head js rest g e h)
       | no h ↦ rw (lt-leb (length js) 12 (omega arith), append-assoc (lineWith head (take 12 js)) more rest) (
           read-line m before x head (take 12 js) (more ++ rest) g (each-take (λ j. j < 65536) 12 js e) (omega (arith, length-take 12 js))
-          ∙ ap (λ (l : List (ℕ × ℕ)). at x (take 12 js) ++ l) (read-lines k m n x x moreHead (drop 12 js) rest (more-begins x) (each-drop (λ j. j < 65536) 12 js e) (omega (arith, length-drop 12 js)) (omega (arith, length-drop 12 js)))
+          ∙ ap (λ (l : List (ℕ × ℕ)). withBench x (take 12 js) ++ l) (read-lines k m n x x moreHead (drop 12 js) rest (more-begins x) (each-drop (λ j. j < 65536) 12 js e) (omega (arith, length-drop 12 js)) (omega (arith, length-drop 12 js)))
           ∙ joined)
     ]
   where
@@ -153,10 +153,10 @@ read-lines (suc k) (suc m) n before x head js rest g e u d =
     after : List (ℕ × ℕ)
     after = readLines n x rest
 
-    joined : at x (take 12 js) ++ (at x (drop 12 js) ++ after) ≡ at x js ++ after
+    joined : withBench x (take 12 js) ++ (withBench x (drop 12 js) ++ after) ≡ withBench x js ++ after
     joined =
-        sym (append-assoc (at x (take 12 js)) (at x (drop 12 js)) after)
-        ∙ ap (λ (l : List (ℕ × ℕ)). l ++ after) (sym (map-append (λ j. (j, x)) (take 12 js) (drop 12 js)) ∙ ap (at x) (take-append-drop 12 js))
+        sym (append-assoc (withBench x (take 12 js)) (withBench x (drop 12 js)) after)
+        ∙ ap (λ (l : List (ℕ × ℕ)). l ++ after) (sym (map-append (λ j. (j, x)) (take 12 js) (drop 12 js)) ∙ ap (withBench x) (take-append-drop 12 js))
 
 module _ (b : Board) (s : Storable b) where
   -- the jobs that bench x holds
@@ -164,7 +164,7 @@ module _ (b : Board) (s : Storable b) where
   held x = jobsHeld 1 x (b .holders)
 
   -- the lines of bench x on a page
-  read-bench : (m n before x : ℕ) (rest : List ℕ) → 1 ≤ x → x ≤ b .benches → m ≡ lineCount (load (b .holders) x) + n → readLines m before (benchLines b x ++ rest) ≡ at x (held x) ++ readLines n x rest
+  read-bench : (m n before x : ℕ) (rest : List ℕ) → 1 ≤ x → x ≤ b .benches → m ≡ lineCount (load (b .holders) x) + n → readLines m before (benchLines b x ++ rest) ≡ withBench x (held x) ++ readLines n x rest
   unfolding benchLines
   read-bench m n before x rest l u d =
       read-lines (length (held x)) m n before x (benchHead x load-x) (held x) rest
@@ -177,12 +177,12 @@ module _ (b : Board) (s : Storable b) where
       load-x = load (b .holders) x
 
   -- the lines of the benches from i on, n of them
-  read-benches : (n i m before : ℕ) → 1 ≤ i → i + n ≤ suc (b .benches) → 69 * m ≡ length (flatMap (benchLines b) (range i n)) → readLines m before (flatMap (benchLines b) (range i n)) ≡ flatMap (λ x. at x (held x)) (range i n)
+  read-benches : (n i m before : ℕ) → 1 ≤ i → i + n ≤ suc (b .benches) → 69 * m ≡ length (flatMap (benchLines b) (range i n)) → readLines m before (flatMap (benchLines b) (range i n)) ≡ flatMap (λ x. withBench x (held x)) (range i n)
   unfolding flatMap
   read-benches zero i m before l u d = let q : m ≡ 0 = omega arith in rw q
   read-benches (suc n) i m before l u d =
       read-bench m rest before i (flatMap (benchLines b) (range (suc i) n)) l (omega arith) (omega (arith, long))
-      ∙ ap (λ (k : List (ℕ × ℕ)). at i (held i) ++ k) (read-benches n (suc i) rest i (omega arith) (omega arith) (omega (arith, long)))
+      ∙ ap (λ (k : List (ℕ × ℕ)). withBench i (held i) ++ k) (read-benches n (suc i) rest i (omega arith) (omega arith) (omega (arith, long)))
     where
       own : ℕ
       own = lineCount (load (b .holders) i)
@@ -206,10 +206,10 @@ sheet-read b s j x = rw (read-sheet b s) (forth, back)
     B = b .benches
 
     listed : ℕ → List (ℕ × ℕ)
-    listed y = at y (held b s y)
+    listed y = withBench y (held b s y)
 
     stood : stands b j ≡ within 1 B (holderOf b j)
-    stood = stands-held b (s .valid) j
+    stood = stands-by-holder b (s .valid) j
 
     forth : In (j, x) (flatMap listed (range 1 B)) → T (stands b j) × (holderOf b j ≡ x)
     forth i =
@@ -233,14 +233,14 @@ sheet-once b s j =
     ∙ total-flatMap names refl (λ k l. ap (count j) (map-append (λ p. p .0) k l) ∙ count-append j (map (λ p. p .0) k) (map (λ p. p .0) l)) listed (b .benches)
     ∙ total-same (b .benches) (λ x. names (listed x)) (λ x. bit (eqb (holderOf b j) x)) (λ x l u. ap (count j) (jobs x (held b s x)) ∙ held-once j x (b .holders) l)
     ∙ total-within (b .benches) (holderOf b j)
-    ∙ ap bit (sym (stands-held b (s .valid) j))
+    ∙ ap bit (sym (stands-by-holder b (s .valid) j))
   where
     listed : ℕ → List (ℕ × ℕ)
-    listed x = at x (held b s x)
+    listed x = withBench x (held b s x)
 
     names : List (ℕ × ℕ) → ℕ
     names l = count j (map (λ p. p .0) l)
 
-    jobs : (x : ℕ) (l : List ℕ) → map (λ p. p .0) (at x l) ≡ l
+    jobs : (x : ℕ) (l : List ℕ) → map (λ p. p .0) (withBench x l) ≡ l
     jobs x [] = refl
     jobs x (k ∷ l) = ap (λ (m : List ℕ). k ∷ m) (jobs x l)

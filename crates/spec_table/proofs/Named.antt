@@ -50,9 +50,9 @@ held-getD benches (names ∷ named) (h ∷ holders) f s zero = name-held benches
 held-getD benches (names ∷ named) (h ∷ holders) f s (suc i) = held-getD benches named holders (f .1) (s .1) i
 
 -- .. and a job stands exactly if its holder is a bench
-pub stands-held : (b : Board) → Valid b → (j : ℕ) → stands b j ≡ within 1 (b .benches) (holderOf b j)
-stands-held b v zero = refl
-stands-held b v (suc i) = held-getD (b .benches) (b .named) (b .holders) (v .names) (v .shares) i
+pub stands-by-holder : (b : Board) → Valid b → (j : ℕ) → stands b j ≡ within 1 (b .benches) (holderOf b j)
+stands-by-holder b v zero = refl
+stands-by-holder b v (suc i) = held-getD (b .benches) (b .named) (b .holders) (v .names) (v .shares) i
 
 -- a board with the sizes of a storable one, valid and with two benches for each job, is storable
 pub resized : (b c : Board) → Storable b → Valid c → c .benches ≡ b .benches → length (c .named) ≡ length (b .named) → Each (λ names. T (paired names)) (c .named) → Storable c

@@ -15,8 +15,8 @@ cast-ones c = search needs
 slice-write-page : tie.Need-slice-write-page
 slice-write-page c = search needs
 
-digit-requires : tie.Need-digit-requires
-digit-requires c κs = search needs
+last-digit-requires : tie.Need-last-digit-requires
+last-digit-requires c κs = search needs
 
 add-page : tie.Need-add-page
 add-page c = search needs
@@ -24,8 +24,8 @@ add-page c = search needs
 slice-write-page-2 : tie.Need-slice-write-page-2
 slice-write-page-2 c = simp length-set (omega arith)
 
-digit-requires-2 : tie.Need-digit-requires-2
-digit-requires-2 c κs = search needs
+last-digit-requires-2 : tie.Need-last-digit-requires-2
+last-digit-requires-2 c κs = search needs
 
 add-page-2 : tie.Need-add-page-2
 add-page-2 c = search needs
@@ -33,8 +33,8 @@ add-page-2 c = search needs
 slice-write-page-3 : tie.Need-slice-write-page-3
 slice-write-page-3 c = simp length-set (omega arith)
 
-digit-requires-3 : tie.Need-digit-requires-3
-digit-requires-3 c κs = search needs
+last-digit-requires-3 : tie.Need-last-digit-requires-3
+last-digit-requires-3 c κs = search needs
 
 add-page-3 : tie.Need-add-page-3
 add-page-3 c = search needs
@@ -61,7 +61,7 @@ returns : tie.Need-returns
 returns c =
     let start = c .before .before .before .before in
     let args = start .args in
-    rw (c .before .before .digit .ensures, c .before .digit2 .ensures, c .digit3 .ensures, field-5 (args .n) (start .pre .0))
+    rw (c .before .before .last-digit .ensures, c .before .last-digit2 .ensures, c .last-digit3 .ensures, field-5 (args .n) (start .pre .0))
     (text-five (args .page .now) (args .at) 32 (digitOf (args .n / 10 / 10 / 10)) (digitOf (args .n / 10 / 10)) (digitOf (args .n / 10)) (48 + args .n % 10) (start .pre .1))
 
 pub write-number-spec : {M : Type 1} → statement M
@@ -70,13 +70,13 @@ write-number-spec =
     (tie.spec
     cast-ones
     slice-write-page
-    digit-requires
+    last-digit-requires
     add-page
     slice-write-page-2
-    digit-requires-2
+    last-digit-requires-2
     add-page-2
     slice-write-page-3
-    digit-requires-3
+    last-digit-requires-3
     add-page-3
     slice-write-page-4
     cast-page

@@ -2,7 +2,7 @@
 use mathlib.Core.Path.{_≡_}
 use borrow.Author.Needs.{needs}
 use Rattle.spec_table.specs.Table.{decode}
-use Rattle.sheet_jobs.proofs.Listing.{ListedAfter, listing-start, listing-turn, listing-end}
+use Rattle.sheet_jobs.proofs.JobListing.{ListedAfter, listed-start, listed-turn, listed-end}
 use Rattle.sheet_jobs.proofs.list_jobs.Statement.{statement}
 use Rattle.sheet_jobs.proofs.list_jobs.Tie as tie
 
@@ -16,7 +16,7 @@ jobs-requires : tie.Need-jobs-requires Inv-loop μ-loop
 jobs-requires c κs = search needs
 
 loop-holds : tie.Need-loop-holds Inv-loop μ-loop
-loop-holds c = let pre = c .before .before .pre in rw (c .jobs .ensures) (listing-start (pre .0) (pre .1 .0) (pre .1 .1))
+loop-holds c = let pre = c .before .before .pre in rw (c .jobs .ensures) (listed-start (pre .0) (pre .1 .0) (pre .1 .1))
 
 holder-requires : tie.Need-holder-requires Inv-loop μ-loop
 holder-requires c κs = search needs
@@ -51,12 +51,12 @@ loop-less c = search needs
 loop-again : tie.Need-loop-again Inv-loop μ-loop
 loop-again c =
     let o = c .before .before .before in
-    listing-turn (o .before .before .before .pre .0) (search needs) (o .loop .inv) (c .before .holder .ensures)
+    listed-turn (o .before .before .before .pre .0) (search needs) (o .loop .inv) (c .before .holder .ensures)
 
 returns : tie.Need-returns Inv-loop μ-loop
 returns c =
     let last : c .before .loop .j ≡ 0 = search needs in
-    listing-end (rw last at (c .before .loop .inv))
+    listed-end (rw last at (c .before .loop .inv))
 
 pub list-jobs-spec : {M : Type 1} → statement M
 list-jobs-spec =

@@ -6,7 +6,7 @@ use mathlib.Core.Path.{_≡_, refl, _∙_}
 use lib.ListN.{length}
 use Rattle.spec_table.specs.Board.{Board}
 use Rattle.table_size.specs.declared.Size.{Size}
-use Rattle.sheet_lines.specs.Lines.{Sheeted}
+use Rattle.sheet_lines.specs.WrittenLines.{Sheeted}
 use Rattle.sheet_lines.proofs.AllLines.{BenchesLeft, sheet-start, bench-few, load-light, first-most, bench-room, bench-turn, sheet-end}
 use Rattle.sheet_lines.proofs.write.Statement.{statement}
 use Rattle.sheet_lines.proofs.write.Tie as tie

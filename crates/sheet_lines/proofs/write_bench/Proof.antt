@@ -5,7 +5,7 @@ use native.Mathlib.Omega.{arith}
 use mathlib.Core.Path.{_≡_, refl, _∙_}
 use mathlib.Core.List.{List}
 use lib.ListN.{length}
-use Rattle.spec_sheet.proofs.Lines.{head-length}
+use Rattle.spec_sheet.proofs.SheetLengths.{head-length}
 use Rattle.sheet_jobs.specs.JobLists.{ListFrom}
 use Rattle.sheet_lines.proofs.BenchLines.{LinesLeft, lines-start, lines-turn, left-listed, left-room, lines-end}
 use Rattle.sheet_lines.proofs.write_bench.Statement.{statement}

@@ -3,12 +3,12 @@ use borrow.Author.Needs.{needs}
 use Prim.Native.Nat.{_≤_}
 use native.Mathlib.Omega.{arith}
 use mathlib.Core.Path.{refl, sym}
-use Rattle.sheet_lines.proofs.Lists.{cell-job, after-job, list-most, next-most}
+use Rattle.sheet_lines.proofs.ListedJobs.{cell-job, after-job, list-most, next-most}
 use Rattle.sheet_lines.proofs.write_cell.Statement.{statement}
 use Rattle.sheet_lines.proofs.write_cell.Tie as tie
 
-write-no-number-requires : tie.Need-write-no-number-requires
-write-no-number-requires c κs = search needs
+write-five-blanks-requires : tie.Need-write-five-blanks-requires
+write-five-blanks-requires c κs = search needs
 
 same-length : tie.Need-same-length
 same-length c = search needs
@@ -16,7 +16,7 @@ same-length c = search needs
 returns : tie.Need-returns
 returns c =
     let test = c .before .before .before .before in
-    rw (test .if1 .taken) (c .before .before .write-no-number .ensures, refl)
+    rw (test .if1 .taken) (c .before .before .write-five-blanks .ensures, refl)
 
 write-number-requires : tie.Need-write-number-requires
 write-number-requires c κs =
@@ -50,7 +50,7 @@ pub write-cell-spec : {M : Type 1} → statement M
 write-cell-spec =
     tie.close
     (tie.spec
-    write-no-number-requires
+    write-five-blanks-requires
     same-length
     returns
     write-number-requires

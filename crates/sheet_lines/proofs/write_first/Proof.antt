@@ -5,8 +5,8 @@ use Rattle.sheet_lines.proofs.OneLine.{first-written}
 use Rattle.sheet_lines.proofs.write_first.Statement.{statement}
 use Rattle.sheet_lines.proofs.write_first.Tie as tie
 
-write-bench-requires : tie.Need-write-bench-requires
-write-bench-requires c κs = (c .before .before .pre .0, omega arith)
+write-bench-number-requires : tie.Need-write-bench-number-requires
+write-bench-number-requires c κs = (c .before .before .pre .0, omega arith)
 
 add-write-number : tie.Need-add-write-number
 add-write-number c = omega arith
@@ -27,7 +27,7 @@ same-length c =
     let jobs = c .before .before in
     let load = jobs .before .before .before .before in
     let bench = load .before .before .before .before in
-    jobs .write-jobs .kept .0 ∙ load .write-number .kept .0 ∙ bench .write-bench .kept .0
+    jobs .write-jobs .kept .0 ∙ load .write-number .kept .0 ∙ bench .write-bench-number .kept .0
 
 returns : tie.Need-returns
 returns c =
@@ -35,13 +35,13 @@ returns c =
     let load = jobs .before .before .before .before in
     let bench = load .before .before .before .before in
     let pre = bench .before .before .before .pre in
-    first-written (pre .0) (pre .1 .0) (omega arith) (bench .write-bench .ensures) (load .write-number .ensures) (jobs .write-jobs .ensures)
+    first-written (pre .0) (pre .1 .0) (omega arith) (bench .write-bench-number .ensures) (load .write-number .ensures) (jobs .write-jobs .ensures)
 
 pub write-first-spec : {M : Type 1} → statement M
 write-first-spec =
     tie.close
     (tie.spec
-    write-bench-requires
+    write-bench-number-requires
     add-write-number
     write-number-requires
     add-write-jobs

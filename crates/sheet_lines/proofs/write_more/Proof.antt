@@ -5,14 +5,14 @@ use Rattle.sheet_lines.proofs.OneLine.{more-written}
 use Rattle.sheet_lines.proofs.write_more.Statement.{statement}
 use Rattle.sheet_lines.proofs.write_more.Tie as tie
 
-write-no-bench-requires : tie.Need-write-no-bench-requires
-write-no-bench-requires c κs = omega arith
+write-three-blanks-requires : tie.Need-write-three-blanks-requires
+write-three-blanks-requires c κs = omega arith
 
-add-write-no-number : tie.Need-add-write-no-number
-add-write-no-number c = omega arith
+add-write-five-blanks : tie.Need-add-write-five-blanks
+add-write-five-blanks c = omega arith
 
-write-no-number-requires : tie.Need-write-no-number-requires
-write-no-number-requires c κs = omega arith
+write-five-blanks-requires : tie.Need-write-five-blanks-requires
+write-five-blanks-requires c κs = omega arith
 
 add-write-jobs : tie.Need-add-write-jobs
 add-write-jobs c = omega arith
@@ -27,22 +27,22 @@ same-length c =
     let jobs = c .before .before in
     let load = jobs .before .before .before .before in
     let bench = load .before .before .before .before in
-    jobs .write-jobs .kept .0 ∙ load .write-no-number .kept .0 ∙ bench .write-no-bench .kept .0
+    jobs .write-jobs .kept .0 ∙ load .write-five-blanks .kept .0 ∙ bench .write-three-blanks .kept .0
 
 returns : tie.Need-returns
 returns c =
     let jobs = c .before .before in
     let load = jobs .before .before .before .before in
     let bench = load .before .before .before .before in
-    more-written (omega arith) (bench .write-no-bench .ensures) (load .write-no-number .ensures) (jobs .write-jobs .ensures)
+    more-written (omega arith) (bench .write-three-blanks .ensures) (load .write-five-blanks .ensures) (jobs .write-jobs .ensures)
 
 pub write-more-spec : {M : Type 1} → statement M
 write-more-spec =
     tie.close
     (tie.spec
-    write-no-bench-requires
-    add-write-no-number
-    write-no-number-requires
+    write-three-blanks-requires
+    add-write-five-blanks
+    write-five-blanks-requires
     add-write-jobs
     write-jobs-requires
     same-length

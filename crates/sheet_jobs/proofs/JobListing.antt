@@ -52,8 +52,8 @@ pub record ListedAfter (b : Board) (s : Size) (j : ℕ) (head next : List ℕ) :
 
 module _ {t : List ℕ} {s : Size} (z : SoundTable t s) {head next : List ℕ} where
   -- at first none is listed ..
-  pub listing-start : head ≡ replicate (mostBenches + 1) 0 → length next ≡ mostJobs + 1 → ListedAfter (decode t) s (s .jobs) head next
-  listing-start e n =
+  pub listed-start : head ≡ replicate (mostBenches + 1) 0 → length next ≡ mostJobs + 1 → ListedAfter (decode t) s (s .jobs) head next
+  listed-start e n =
       record {
         held = λ x w. rw (e, getD-replicate {A = ℕ} (mostBenches + 1) x 0 0 (small x w), ← holders-long (z .size), drop-length (b .holders)) listEnd;
         number = omega arith;
@@ -68,9 +68,9 @@ module _ {t : List ℕ} {s : Size} (z : SoundTable t s) {head next : List ℕ} w
       small x w = omega (arith, within-high 1 (b .benches) x w, z .size .board-benches, z .size .limits .benches-most)
 
   -- .. each next one goes before those that its holder has ..
-  pub listing-turn : {j h : ℕ} → 0 < j → ListedAfter (decode t) s j head next → HolderOf t s j h → ListedAfter (decode t) s (j - 1) (set head h j) (set next j (getD head h 0))
-  listing-turn {j = zero} l a o = absurd (omega arith)
-  listing-turn {j = suc j} {h} l a o =
+  pub listed-turn : {j h : ℕ} → 0 < j → ListedAfter (decode t) s j head next → HolderOf t s j h → ListedAfter (decode t) s (j - 1) (set head h j) (set next j (getD head h 0))
+  listed-turn {j = zero} l a o = absurd (omega arith)
+  listed-turn {j = suc j} {h} l a o =
       let e : suc j - 1 ≡ j = omega arith in
       rw e
       (record {
@@ -98,5 +98,5 @@ module _ {t : List ℕ} {s : Size} (z : SoundTable t s) {head next : List ℕ} w
           (list-apart (suc j) (getD head h 0) (a .held x w) (later-without b (suc j) x))
 
 -- .. and in the end all are
-pub listing-end : {b : Board} {s : Size} {head next : List ℕ} → ListedAfter b s 0 head next → JobLists b head next
-listing-end a = record { held = a .held; heads-long = a .heads-long; nexts-long = a .nexts-long }
+pub listed-end : {b : Board} {s : Size} {head next : List ℕ} → ListedAfter b s 0 head next → JobLists b head next
+listed-end a = record { held = a .held; heads-long = a .heads-long; nexts-long = a .nexts-long }

@@ -22,9 +22,9 @@ cellText zero = replicate 5 space
 cellText (suc i) = field 5 (suc i)
 
 -- the job after job j, 0 after 0
-abbrev pub after : List ℕ → ℕ → ℕ
-after next zero = 0
-after next (suc i) = getD next (suc i) 0
+abbrev pub jobAfter : List ℕ → ℕ → ℕ
+jobAfter next zero = 0
+jobAfter next (suc i) = getD next (suc i) 0
 
 -- a line was written: this head, and twelve jobs of the list from job j on; r is the job after them. With no head it is a
 -- line from its 9th column on
@@ -33,7 +33,7 @@ pub record LineWritten (next page page' head : List ℕ) (at j r : ℕ) : Type 0
   pub rest : (js : List ℕ) → ListFrom next j js → ListFrom next r (drop 12 js)
 
 -- the page has room for the lines of the list from job j on
-pub record Room (next page : List ℕ) (at j : ℕ) : Type 0 where
+pub record PageRoom (next page : List ℕ) (at j : ℕ) : Type 0 where
   pub jobs : List ℕ
   pub from : ListFrom next j jobs
   pub fits : at + 69 * lineCount (length jobs) ≤ length page
@@ -68,5 +68,5 @@ pub record LoadsOf (s : Size) (loads : List ℕ) : Type 0 where
   pub loaded : Loaded board loads
 
 -- r is the length of the sheet of every board of this size with these loads
-pub record Measured (s : Size) (loads : List ℕ) (r : ℕ) : Type 0 where
+pub record LengthOf (s : Size) (loads : List ℕ) (r : ℕ) : Type 0 where
   pub is : (b : Board) → Storable b → b .benches ≡ s .benches → Loaded b loads → r ≡ length (sheet b)

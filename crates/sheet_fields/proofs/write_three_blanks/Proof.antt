@@ -3,8 +3,8 @@ use borrow.Author.Needs.{needs}
 use native.Mathlib.Omega.{arith}
 use lib.ListN.{length-set}
 use Rattle.sheet_fields.proofs.Page.{text-three}
-use Rattle.sheet_fields.proofs.write_no_bench.Statement.{statement}
-use Rattle.sheet_fields.proofs.write_no_bench.Tie as tie
+use Rattle.sheet_fields.proofs.write_three_blanks.Statement.{statement}
+use Rattle.sheet_fields.proofs.write_three_blanks.Tie as tie
 
 slice-write-page : tie.Need-slice-write-page
 slice-write-page c = search needs
@@ -27,8 +27,8 @@ same-length c = search needs
 returns : tie.Need-returns
 returns c = text-three (c .args .page .now) (c .args .at) 32 32 32 (c .pre)
 
-pub write-no-bench-spec : {M : Type 1} → statement M
-write-no-bench-spec =
+pub write-three-blanks-spec : {M : Type 1} → statement M
+write-three-blanks-spec =
     tie.close
     (tie.spec
     slice-write-page

@@ -3,8 +3,8 @@ use borrow.Author.Needs.{needs}
 use native.Mathlib.Omega.{arith}
 use lib.ListN.{length-set}
 use Rattle.sheet_fields.proofs.Page.{text-five}
-use Rattle.sheet_fields.proofs.write_no_number.Statement.{statement}
-use Rattle.sheet_fields.proofs.write_no_number.Tie as tie
+use Rattle.sheet_fields.proofs.write_five_blanks.Statement.{statement}
+use Rattle.sheet_fields.proofs.write_five_blanks.Tie as tie
 
 slice-write-page : tie.Need-slice-write-page
 slice-write-page c = search needs
@@ -39,8 +39,8 @@ same-length c = search needs
 returns : tie.Need-returns
 returns c = text-five (c .args .page .now) (c .args .at) 32 32 32 32 32 (c .pre)
 
-pub write-no-number-spec : {M : Type 1} → statement M
-write-no-number-spec =
+pub write-five-blanks-spec : {M : Type 1} → statement M
+write-five-blanks-spec =
     tie.close
     (tie.spec
     slice-write-page

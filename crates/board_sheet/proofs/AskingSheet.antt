@@ -13,7 +13,7 @@ use Rattle.table_size.specs.declared.Size.{Size}
 use Rattle.table_size.specs.Sizes.{SoundTable}
 use Rattle.table_board.specs.BoardView.{Loaded}
 use Rattle.sheet_jobs.specs.JobLists.{JobLists}
-use Rattle.sheet_lines.specs.Lines.{LoadsOf, Measured, Sheeted, RoomForAll, SheetWritten}
+use Rattle.sheet_lines.specs.WrittenLines.{LoadsOf, LengthOf, Sheeted, RoomForAll, SheetWritten}
 use Rattle.board_answers.specs.Answered.{Leaves}
 use Rattle.table_refusals.specs.declared.Refusal.the-variants as code
 use Rattle.board_answers.specs.declared.Answer.the-variants as told
@@ -24,7 +24,7 @@ module _ {t loads : List ℕ} {s : Size} (z : SoundTable t s) (l : Loaded (decod
   pub board-loads : LoadsOf s loads
   board-loads = record { board = decode t; storable = z .storable; benches = z .size .board-benches; loaded = l }
 
-  module _ {n : ℕ} (m : Measured s loads n) (page : List ℕ) where
+  module _ {n : ℕ} (m : LengthOf s loads n) (page : List ℕ) where
     -- what was computed is the sheet's length
     length-is : n ≡ length (sheet (decode t))
     length-is = m .is (decode t) (z .storable) (z .size .board-benches) l

@@ -6,20 +6,20 @@ use Prim.Native.Nat.{_+_, _/_, _%_}
 use Rattle.sheet_fields.specs.Page.{digitOf}
 use Rattle.sheet_fields.proofs.Page.{text-three}
 use Rattle.sheet_fields.proofs.Columns.{field-3}
-use Rattle.sheet_fields.proofs.write_bench.Statement.{statement}
-use Rattle.sheet_fields.proofs.write_bench.Tie as tie
+use Rattle.sheet_fields.proofs.write_bench_number.Statement.{statement}
+use Rattle.sheet_fields.proofs.write_bench_number.Tie as tie
 
 cast-ones : tie.Need-cast-ones
 cast-ones c = search needs
 
-digit-requires : tie.Need-digit-requires
-digit-requires c κs = search needs
+last-digit-requires : tie.Need-last-digit-requires
+last-digit-requires c κs = search needs
 
 slice-write-page : tie.Need-slice-write-page
 slice-write-page c = search needs
 
-digit-requires-2 : tie.Need-digit-requires-2
-digit-requires-2 c κs = search needs
+last-digit-requires-2 : tie.Need-last-digit-requires-2
+last-digit-requires-2 c κs = search needs
 
 add-page : tie.Need-add-page
 add-page c = search needs
@@ -46,17 +46,17 @@ returns : tie.Need-returns
 returns c =
     let start = c .before .before .before in
     let args = start .args in
-    rw (c .before .digit .ensures, c .digit2 .ensures, field-3 (args .x) (start .pre .0))
+    rw (c .before .last-digit .ensures, c .last-digit2 .ensures, field-3 (args .x) (start .pre .0))
     (text-three (args .page .now) (args .at) (digitOf (args .x / 10 / 10)) (digitOf (args .x / 10)) (48 + args .x % 10) (start .pre .1))
 
-pub write-bench-spec : {M : Type 1} → statement M
-write-bench-spec =
+pub write-bench-number-spec : {M : Type 1} → statement M
+write-bench-number-spec =
     tie.close
     (tie.spec
     cast-ones
-    digit-requires
+    last-digit-requires
     slice-write-page
-    digit-requires-2
+    last-digit-requires-2
     add-page
     slice-write-page-2
     cast-page

@@ -3,8 +3,8 @@ use Prim.Native.Nat.{_+_, _-_, _*_, _≤_}
 use native.Mathlib.Omega.{arith}
 use mathlib.Core.Path.{_≡_, refl}
 use Rattle.sheet_lines.proofs.AllLines.{linesTo, benches-few, load-few, lines-next, measured}
-use Rattle.sheet_lines.proofs.length.Statement.{statement}
-use Rattle.sheet_lines.proofs.length.Tie as tie
+use Rattle.sheet_lines.proofs.sheet_length.Statement.{statement}
+use Rattle.sheet_lines.proofs.sheet_length.Tie as tie
 
 abbrev Inv-loop : tie.InvT-loop
 Inv-loop loads benches lines₀ x₀ lines x = (lines ≡ linesTo loads x) × (x ≤ benches) × (lines ≤ 334 * x)
@@ -58,8 +58,8 @@ returns c =
     let last : loop .x ≡ c .before .before .benches .result = omega arith in
     measured (loop .lines) (rw (last, c .before .before .benches .ensures) at (loop .inv .0))
 
-pub length-spec : {M : Type 1} → statement M
-length-spec =
+pub sheet-length-spec : {M : Type 1} → statement M
+sheet-length-spec =
     tie.close
     (tie.spec
     Inv-loop

@@ -9,7 +9,7 @@ use Rattle.spec_lists.proofs.Tests.{within-low, within-high}
 use Rattle.spec_table.specs.Table.{mostJobs}
 use Rattle.spec_sheet.specs.Sheet.{field}
 use Rattle.sheet_jobs.specs.JobLists.{ListFrom, listEnd, listJob}
-use Rattle.sheet_lines.specs.Lines.{cellText, after}
+use Rattle.sheet_lines.specs.WrittenLines.{cellText, jobAfter}
 
 -- a job's columns have its number ..
 pub cell-job : (j : ℕ) → 1 ≤ j → cellText j ≡ field 5 j
@@ -17,7 +17,7 @@ cell-job zero h = absurd (omega arith)
 cell-job (suc i) h = refl
 
 -- .. and the next job is the one that stands at it
-pub after-job : (next : List ℕ) (j : ℕ) → 1 ≤ j → after next j ≡ getD next j 0
+pub after-job : (next : List ℕ) (j : ℕ) → 1 ≤ j → jobAfter next j ≡ getD next j 0
 after-job next zero h = absurd (omega arith)
 after-job next (suc i) h = refl
 
@@ -48,6 +48,6 @@ module _ {next : List ℕ} where
   list-some (listJob {j} {js} w l) n = omega arith
 
   -- after a list's first job comes the list without it
-  pub list-after : {j : ℕ} {js : List ℕ} → ListFrom next j js → ListFrom next (after next j) (drop 1 js)
+  pub list-after : {j : ℕ} {js : List ℕ} → ListFrom next j js → ListFrom next (jobAfter next j) (drop 1 js)
   list-after listEnd = listEnd
   list-after (listJob {j} {js} w l) = rw (after-job next j (within-low 1 mostJobs j w)) l
