@@ -140,6 +140,21 @@ static void twelve_and_thirteen(struct table *t)
     expect_sheet_in_any_order(t);
 }
 
+static void two_lines_and_three(struct table *t)
+{
+    begin_sheet("twenty-four jobs on bench 1, twenty-five on bench 2");
+    make_empty(t, 2, 4000);
+    for (uint32_t job = 1; job <= 48; job++)
+        make_stand(t, job, 1, 2, 2 - job % 2);
+    make_stand(t, 4000, 2, 1, 1);
+    add_line("  1   24    1    3    5    7    9   11   13   15   17   19   21   23");
+    add_line("           25   27   29   31   33   35   37   39   41   43   45   47");
+    add_line("  2   25    2    4    6    8   10   12   14   16   18   20   22   24");
+    add_line("           26   28   30   32   34   36   38   40   42   44   46   48");
+    add_line("         4000");
+    expect_sheet_in_any_order(t);
+}
+
 /* Adds the lines that the header shows between bars. */
 static void add_header_lines(const char *header)
 {
@@ -252,6 +267,7 @@ int main(int argc, char **argv)
         fail("sheets: one argument: the header");
     without_jobs(&t);
     twelve_and_thirteen(&t);
+    two_lines_and_three(&t);
     header_example(&t, argv[1]);
     misread(&t);
     longest(&t, 1);

@@ -45,7 +45,7 @@ pub fn write_number(page: &mut [u8], at: usize, n: usize)
     page[at + 4] = b'0' + (ones % 10) as u8;
 }
 
-// Writes 5 blanks: a column without a job.
+// Writes 5 blanks, where no load or job stands.
 pub fn write_five_blanks(page: &mut [u8], at: usize)
     requires { ⌜ at + 5 ≤ length (now page) ⌝ }
     ensures { λ _. ⌜ now (page .exit) ≡ withText (now (page .entry)) at (replicate 5 space) ⌝ }
@@ -57,7 +57,7 @@ pub fn write_five_blanks(page: &mut [u8], at: usize)
     page[at + 4] = b' ';
 }
 
-// Writes 3 blanks: a line without a bench number.
+// Writes 3 blanks, where no bench number stands.
 pub fn write_three_blanks(page: &mut [u8], at: usize)
     requires { ⌜ at + 3 ≤ length (now page) ⌝ }
     ensures { λ _. ⌜ now (page .exit) ≡ withText (now (page .entry)) at (replicate 3 space) ⌝ }

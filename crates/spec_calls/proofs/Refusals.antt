@@ -10,7 +10,6 @@ use mathlib.Core.Option.{Option, none, some, Option·some-injective, Option·non
 use lib.Dec.{T, ltb}
 use Rattle.spec_lists.specs.Lists.{range, Each}
 use Rattle.spec_table.specs.Table.{sound, decode}
-use Rattle.spec_sharing.specs.Sharing.{level}
 use Rattle.spec_table.specs.Board.{Board}
 use Rattle.spec_lists.proofs.Tests.{not-false}
 use Rattle.spec_calls.specs.Answers.{Refusal, Condition, refusalNumber, inNumbers, firstHolding, isRefused, refusedOr, refused, said, levelYes, levelNo, levelled, stopped, sizes, unsound, jobNumber, benchNumber, alreadyStanding, notStanding, height, listTooShort, countFull, unreadable, pageTooShort}
@@ -112,7 +111,7 @@ onSound (closing c) = true
 onSound (levelling allowance) = true
 onSound (ask q lent) = true
 
--- .. all of document 01's do ..
+-- .. all calls so far do ..
 pub on-sound : (c : Call) → T (onSound c)
 on-sound (arrival a) = tt
 on-sound (closing c) = tt

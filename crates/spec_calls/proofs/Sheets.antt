@@ -17,7 +17,7 @@ use Rattle.spec_calls.specs.Answers.{isRefused, refused, said, pageTooSh
 use Rattle.spec_calls.specs.Calls.{ask, wallSheet, questionConditions, refusals, answering, asked, accepted, outcome, sheetTold}
 use Rattle.spec_table.proofs.Sound.{sound-storable}
 use Rattle.spec_sheet.proofs.Reading.{sheet-read}
-use Rattle.spec_calls.proofs.Refusals.{accepted-by}
+use Rattle.spec_calls.proofs.Refusals.{accepted-by, accepted-sound}
 use Rattle.spec_calls.proofs.ChainOrder.{sound-outcome}
 
 module _ (t : List ℕ) (s : T (sound t)) (page : List ℕ) where
@@ -31,6 +31,8 @@ module _ (t : List ℕ) (s : T (sound t)) (page : List ℕ) where
   unfolding questionConditions accepted asked
   sheet-refused h = ap (λ o. o .answer) (sound-outcome (ask wallSheet page) tt t s) ∙ rw (lt-ltb (length page) (length (sheet (decode t))) h)
 
+-- any bytes, and any page
+module _ (t page : List ℕ) where
   -- what an answered length n says of the page, which is `left` now: "The result is its length; bytes after it are
   -- untouched"
   pub record SheetAnswer (n : ℕ) (left : List ℕ) : Type 0 where
@@ -53,4 +55,6 @@ module _ (t : List ℕ) (s : T (sound t)) (page : List ℕ) where
 
   -- "The page read back by columns names each job's holder exactly": what the call wrote, cut at its answer
   pub page-names-holders : (n : ℕ) → (outcome (ask wallSheet page) t) .answer ≡ said (sheetIs n) → (j x : ℕ) → In (j, x) (readSheet (take n ((outcome (ask wallSheet page) t) .lent))) ↔ (T (stands (decode t) j) × (holderOf (decode t) j ≡ x))
-  page-names-holders n e j x = rw ((sheet-says n e) .text) (sheet-read (decode t) (sound-storable t s) j x)
+  page-names-holders n e j x =
+      let s = accepted-sound (ask wallSheet page) tt t (ap isRefused e) in
+      rw ((sheet-says n e) .text) (sheet-read (decode t) (sound-storable t s) j x)

@@ -1,12 +1,12 @@
 -- 01, "The counter program": from the bytes it reads to the bytes it prints.
-use Prim.Native.Nat.{ℕ, _+_, _-_}
+use Prim.Native.Nat.{ℕ, _+_}
 use Prim.Native.Char.{Char, code}
-use mathlib.Core.Bool.{Bool, cond, not, _&&_}
+use mathlib.Core.Bool.{Bool, cond, _&&_}
 use mathlib.Core.List.{List, [], _∷_, _++_, flatMap}
 use mathlib.Core.Option.{Option, none, some}
 use lib.Dec.{eqb, leb}
 use lib.ListN.{length, take, drop, replicate}
-use Rattle.spec_lists.specs.Lists.{all, empty, nth}
+use Rattle.spec_lists.specs.Lists.{empty, nth}
 use Rattle.spec_text.specs.Numbers.{lineFeed, space, digits, number}
 use Rattle.spec_table.specs.Table.{words, lengthFor, mostBenches, mostJobs}
 use Rattle.spec_calls.specs.Answers.{Outcome, inNumbers, isRefused, refused, unreadable}

@@ -63,7 +63,7 @@ flatMap-last f i zero last e = append-nil (f i) ∙ ap f (omega arith)
 flatMap-last {A} f i (suc n) last e =
     ap (λ (l : List A). f i ++ l) (flatMap-last f (suc i) n last (omega arith)) ∙ sym (append-assoc (f i) (flatMap f (range (suc i) n)) (f last))
 
--- .. and for 1 to n that of n
+-- .. so for 1 to n + 1 that of n + 1
 pub flatMap-next : {A : Type 0} (f : ℕ → List A) (n : ℕ) → flatMap f (range 1 (suc n)) ≡ flatMap f (range 1 n) ++ f (suc n)
 flatMap-next f n = flatMap-last f 1 n (suc n) (omega arith)
 

@@ -1,4 +1,4 @@
--- Two sheets as they are pinned up.
+-- A sheet as it is pinned up, and a page read back.
 use mathlib.Core.Path.{_≡_, refl}
 use mathlib.Core.List.{[], _∷_, _++_, map, flatMap}
 use lib.ListN.{replicate}

@@ -12,7 +12,7 @@ abbrev pub unpadded : List ℕ → List ℕ
 unpadded [] = []
 unpadded (c ∷ l) = let r = unpadded l in cond (eqb c space) r (c ∷ l)
 
--- the number in some columns, none where they are blank
+-- the number in some columns; none where they are blank, or have no readable number
 abbrev pub readField : List ℕ → Option ℕ
 readField columns = number (unpadded columns)
 
@@ -26,7 +26,7 @@ abbrev pub readJobs : ℕ → List ℕ → List ℕ
 readJobs zero l = []
 readJobs (suc n) l = inFront (readField (take 5 l)) (readJobs n (drop 5 l))
 
--- the bench of a line: the number in its first 3 columns; where they are blank, the bench before it
+-- the bench of a line: the number in its first 3 columns; where there is none, the bench before it
 abbrev pub readBench : ℕ → List ℕ → ℕ
 readBench before l = elim (readField (take 3 l)) [ none ↦ before | some x ↦ x ]
 

@@ -1,4 +1,4 @@
--- The jobs that a bench holds: as many as its load, and just those that it is the holder of.
+-- The jobs that a bench holds: as many as its load, rising, and just those that it is the holder of.
 use Prim.Native.Nat.{ℕ, zero, suc, _+_, _≤_, _<_}
 use native.Mathlib.Omega.{arith}
 use native.Mathlib.Nat.{add-zero}
@@ -8,7 +8,7 @@ use mathlib.Core.Bool.{Bool, true, false, cond}
 use mathlib.Core.List.{List, [], _∷_}
 use lib.Dec.{T, eqb}
 use lib.ListN.{length, getD}
-use Rattle.spec_lists.specs.Lists.{bit, within, count, Each, In, nth}
+use Rattle.spec_lists.specs.Lists.{bit, within, count, range, filter, Each, In, nth}
 use Rattle.spec_table.specs.Board.{load, jobsHeld}
 use Rattle.spec_lists.proofs.Tests.{Compared, same, other, compared, within-both}
 use Rattle.spec_lists.proofs.Elements.{in-each, nth-within}
@@ -26,6 +26,18 @@ held-length i x (h ∷ holders) = go (eqb h x) (held-length (suc i) x holders)
     go : (z : Bool) → length later ≡ load holders x → length (cond z (i ∷ later) later) ≡ bit z + load holders x
     go true e = omega arith
     go false e = omega arith
+
+-- the jobs of a bench, where f tells each job's holder: in the order of their numbers, those that it holds
+held-filter : (f : ℕ → ℕ) (i x : ℕ) (holders : List ℕ) → ((k : ℕ) → k < length holders → getD holders k 0 ≡ f (i + k)) → jobsHeld i x holders ≡ filter (λ j. eqb (f j) x) (range i (length holders))
+held-filter f i x [] g = refl
+held-filter f i x (h ∷ holders) g =
+    let here : h ≡ f i = g 0 (omega arith) ∙ ap f (omega arith) in
+    let later = held-filter f (suc i) x holders (λ k l. g (suc k) (omega arith) ∙ ap f (omega arith)) in
+    rw (later, here)
+
+-- "a bench's jobs stand in rising order": of the job numbers, which rise, those that it holds
+pub held-rising : (x : ℕ) (holders : List ℕ) → jobsHeld 1 x holders ≡ filter (λ j. eqb (nth holders j 0) x) (range 1 (length holders))
+held-rising x holders = held-filter (λ j. nth holders j 0) 1 x holders (λ k l. let e : suc k ≡ 1 + k = omega arith in ap (λ j. nth holders j 0) e)
 
 -- another number in front, put there or not, changes no count
 pub count-later : (z : Bool) (i j : ℕ) (l : List ℕ) → (i ≡ j → ⊥) → count j (cond z (i ∷ l) l) ≡ count j l

@@ -1,4 +1,4 @@
--- Text as the bytes of its characters, so that a run reads as it stands in 01. For characters below 128.
+-- Text as the bytes of its characters, so that it reads as it is printed. For characters below 128.
 use Prim.Native.Nat.{ℕ}
 use Prim.Native.Char.{code}
 use Prim.Native.String as S
