@@ -13,29 +13,34 @@ use Rattle.table_size.specs.declared.Size.{Size}
 use Rattle.table_size.specs.Sizes.{SoundTable}
 use Rattle.table_board.specs.BoardView.{Loaded}
 use Rattle.sheet_jobs.specs.JobLists.{JobLists}
-use Rattle.sheet_lines.specs.WrittenLines.{LoadsOf, LengthOf, Sheeted, RoomForAll, SheetWritten}
+use Rattle.sheet_lines.specs.WrittenLines.{LoadedBoard, LoadsOf, LengthOf, Sheeted, RoomForAll, SheetWritten}
 use Rattle.board_answers.specs.Answered.{Leaves}
 use Rattle.table_refusals.specs.declared.Refusal.the-variants as code
 use Rattle.board_answers.specs.declared.Answer.the-variants as told
 use Rattle.board_answers.proofs.Formal.{answered-leaves, refused-leaves}
 
 module _ {t loads : List ℕ} {s : Size} (z : SoundTable t s) (l : Loaded (decode t) loads) where
-  -- the loads are those of the table's board
+  -- the table's board has these loads ..
+  loaded-board : LoadedBoard (decode t) s loads
+  loaded-board = record { storable = z .storable; benches = z .size .board-benches; loaded = l }
+
+  -- .. so that they are those of a board
   pub board-loads : LoadsOf s loads
-  board-loads = record { board = decode t; storable = z .storable; benches = z .size .board-benches; loaded = l }
+  board-loads = (decode t, loaded-board)
 
   module _ {n : ℕ} (m : LengthOf s loads n) (page : List ℕ) where
     -- what was computed is the sheet's length
     length-is : n ≡ length (sheet (decode t))
-    length-is = m .is (decode t) (z .storable) (z .size .board-benches) l
+    length-is = m (decode t) loaded-board
 
     -- a page that is shorter gives 11 ..
     pub short-refused : length page < n → Leaves (outcome (ask wallSheet page) t) (told.Refused code.PageTooShort) t page
     short-refused h = refused-leaves code.PageTooShort (ask wallSheet page) t (sheet-refused t (z .sound) page (omega (arith, length-is)))
 
     module _ {head next : List ℕ} (j : JobLists (decode t) head next) (h : n ≤ length page) where
+      -- and its jobs are listed
       sheeted : Sheeted (decode t) s loads head next
-      sheeted = record { storable = z .storable; benches = z .size .board-benches; loaded = l; lists = j }
+      sheeted = record { board = loaded-board; lists = j }
 
       -- .. any other has room for it ..
       pub page-room : RoomForAll s loads head next page

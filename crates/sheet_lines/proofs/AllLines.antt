@@ -10,29 +10,32 @@ use Rattle.spec_lists.specs.Lists.{within, range, total}
 use Rattle.spec_lists.proofs.Tests.{within-high, within-both}
 use Rattle.spec_lists.proofs.Counting.{total-same}
 use Rattle.spec_table.specs.Board.{Board, jobsHeld, load}
-use Rattle.spec_table.specs.Table.{mostBenches, mostJobs, Storable}
+use Rattle.spec_table.specs.Table.{mostBenches, mostJobs}
 use Rattle.spec_table.proofs.Held.{held-length}
 use Rattle.spec_sheet.specs.Sheet.{benchHead, linesOf, benchLines, sheet, lineCount, sheetLines}
 use Rattle.spec_sheet.proofs.SheetLengths.{load-most, bench-length, sheet-lines}
 use Rattle.table_size.specs.declared.Size.{Size}
-use Rattle.table_board.specs.BoardView.{Loaded}
 use Rattle.sheet_fields.specs.Page.{withText}
 use Rattle.sheet_fields.proofs.Page.{text-none, text-then}
-use Rattle.sheet_lines.specs.WrittenLines.{PageRoom, BenchWritten, Sheeted, SheetWritten, LoadsOf, LengthOf}
+use Rattle.sheet_lines.specs.WrittenLines.{PageRoom, BenchWritten, LoadedBoard, LengthOf, Sheeted, SheetWritten}
 use Rattle.sheet_lines.proofs.ListedJobs.{list-most}
 
 -- the lines of benches 1 to n by their loads
 abbrev pub linesTo : List ℕ → ℕ → ℕ
 linesTo loads n = total n (λ x. lineCount (getD loads x 0))
 
-module _ {s : Size} {loads : List ℕ} (z : LoadsOf s loads) where
+module _ {b : Board} {s : Size} {loads : List ℕ} (z : LoadedBoard b s loads) where
   -- there are at most 500 benches ..
   pub benches-few : s .benches ≤ mostBenches
-  benches-few = omega (arith, z .benches, within-high 1 mostBenches (z .board .benches) (z .storable .benches))
+  benches-few = omega (arith, z .benches, within-high 1 mostBenches (b .benches) (z .storable .benches))
 
-  -- .. and each has a load of at most 4,000
+  -- .. the array has the load of each ..
+  load-is : (x : ℕ) → 1 ≤ x → x ≤ s .benches → getD loads x 0 ≡ load (b .holders) x
+  load-is x l h = z .loaded .bench x l (omega (arith, benches-few))
+
+  -- .. which is at most 4,000
   pub load-few : (x : ℕ) → 1 ≤ x → x ≤ s .benches → getD loads x 0 ≤ mostJobs
-  load-few x l u = omega (arith, z .loaded .bench x l (omega (arith, benches-few)), load-most (z .board) (z .storable) x)
+  load-few x l h = omega (arith, load-is x l h, load-most b (z .storable) x)
 
 -- a line more for each bench, and for each further twelve jobs that it holds
 pub lines-next : (loads : List ℕ) (n lines r : ℕ) → lines ≡ linesTo loads n → r ≡ lineCount (getD loads (n + 1) 0) → lines + r ≡ linesTo loads (n + 1)
@@ -41,13 +44,9 @@ lines-next loads n lines r e d = rw (add-one n) (omega (arith, e, rw (add-one n)
 -- 69 characters a line
 pub measured : {s : Size} {loads : List ℕ} (lines : ℕ) → lines ≡ linesTo loads (s .benches) → LengthOf s loads (69 * lines)
 unfolding sheetLines
-measured {s} {loads} lines e = record { is = length-is }
-  where
-    length-is : (b : Board) → Storable b → b .benches ≡ s .benches → Loaded b loads → 69 * lines ≡ length (sheet b)
-    length-is b z d l =
-        let most = within-high 1 mostBenches (b .benches) (z .benches) in
-        let same = total-same (b .benches) (λ x. lineCount (getD loads x 0)) (λ x. lineCount (load (b .holders) x)) (λ x p q. ap lineCount (l .bench x p (omega arith))) in
-        omega (arith, sheet-lines b z, same, ap (linesTo loads) d)
+measured {s} {loads} lines e b z =
+    let same = total-same (b .benches) (λ x. lineCount (getD loads x 0)) (λ x. lineCount (load (b .holders) x)) (λ x l h. ap lineCount (load-is z x l (omega (arith, z .benches)))) in
+    omega (arith, sheet-lines b (z .storable), same, ap (linesTo loads) (z .benches))
 
 -- the lines of the benches from x on
 abbrev linesFrom : Board → ℕ → List ℕ
@@ -79,21 +78,9 @@ sheet-start b page =
 module _ {b : Board} {s : Size} {loads head next : List ℕ} (z : Sheeted b s loads head next) (x : ℕ) (l : 1 ≤ x) (h : x ≤ s .benches) where
   -- bench x is one of the board's
   own-bench : T (within 1 (b .benches) x)
-  own-bench = within-both 1 (b .benches) x l (omega (arith, z .benches))
+  own-bench = within-both 1 (b .benches) x l (omega (arith, z .board .benches))
 
-  -- its number is at most 500 ..
-  pub bench-few : x ≤ mostBenches
-  bench-few = omega (arith, z .benches, within-high 1 mostBenches (b .benches) (z .storable .benches))
-
-  -- .. the array has its load ..
-  load-is : getD loads x 0 ≡ load (b .holders) x
-  load-is = z .loaded .bench x l bench-few
-
-  -- .. which is at most 4,000 ..
-  pub load-light : getD loads x 0 ≤ mostJobs
-  load-light = omega (arith, load-is, load-most b (z .storable) x)
-
-  -- .. as is the number of its first job
+  -- its first job's number is at most 4,000
   pub first-most : getD head x 0 ≤ mostJobs
   first-most = list-most (z .lists .held x own-bench)
 
@@ -105,7 +92,7 @@ module _ {b : Board} {s : Size} {loads head next : List ℕ} (z : Sheeted b s lo
   lines-long : length (benchLines b x) ≡ 69 * lineCount (length jobs)
   unfolding jobs
   lines-long =
-      bench-length b (z .storable) x l (omega (arith, z .benches))
+      bench-length b (z .board .storable) x l (omega (arith, z .board .benches))
       ∙ ap (λ (n : ℕ). 69 * lineCount n) (sym (held-length 1 x (b .holders)))
 
   module _ {page₀ page : List ℕ} {at : ℕ} (c : BenchesLeft b page₀ page at x) where
@@ -116,7 +103,7 @@ module _ {b : Board} {s : Size} {loads head next : List ℕ} (z : Sheeted b s lo
         record {
           jobs = jobs;
           from = z .lists .held x own-bench;
-          fits = omega (arith, c .ends, ap length (from-next b x (omega (arith, z .benches))), length-append (benchLines b x) (linesFrom b (x + 1)), lines-long);
+          fits = omega (arith, c .ends, ap length (from-next b x (omega (arith, z .board .benches))), length-append (benchLines b x) (linesFrom b (x + 1)), lines-long);
         }
 
     -- one bench more
@@ -126,8 +113,8 @@ module _ {b : Board} {s : Size} {loads head next : List ℕ} (z : Sheeted b s lo
         let first : List ℕ = benchLines b x in
         let more : List ℕ = linesFrom b (x + 1) in
         let from = z .lists .held x own-bench in
-        let lines = from-next b x (omega (arith, z .benches)) in
-        let written : page' ≡ withText page at first = w .lines jobs from ∙ ap (λ (n : ℕ). withText page at (linesOf (length jobs) (benchHead x n) jobs)) load-is in
+        let lines = from-next b x (omega (arith, z .board .benches)) in
+        let written : page' ≡ withText page at first = w .lines jobs from ∙ ap (λ (n : ℕ). withText page at (linesOf (length jobs) (benchHead x n) jobs)) (load-is (z .board) x l h) in
         let place : r ≡ at + length first = w .end jobs from ∙ ap (λ (n : ℕ). at + n) (sym lines-long) in
         record {
           whole = text-then page at first more u written place ∙ ap (withText page at) (sym lines) ∙ c .whole;
@@ -137,4 +124,4 @@ module _ {b : Board} {s : Size} {loads head next : List ℕ} (z : Sheeted b s lo
 -- all of them
 pub sheet-end : {s : Size} {loads head next page₀ page : List ℕ} {at x : ℕ} → s .benches < x → ((b : Board) → Sheeted b s loads head next → BenchesLeft b page₀ page at x) → SheetWritten s loads head next page₀ page
 sheet-end {s} {loads} {head} {next} {page₀} {page} {at} {x} h c b z =
-    sym (text-none page at) ∙ ap (withText page at) (sym (from-last b x (omega (arith, z .benches)))) ∙ c b z .whole
+    sym (text-none page at) ∙ ap (withText page at) (sym (from-last b x (omega (arith, z .board .benches)))) ∙ c b z .whole

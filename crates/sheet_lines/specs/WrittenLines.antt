@@ -43,11 +43,23 @@ pub record BenchWritten (next page page' head : List ℕ) (at j r : ℕ) : Type 
   pub lines : (js : List ℕ) → ListFrom next j js → page' ≡ withText page at (linesOf (length js) head js)
   pub end : (js : List ℕ) → ListFrom next j js → r ≡ at + 69 * lineCount (length js)
 
--- a board that a table of size s can hold, with its loads and its jobs listed
-pub record Sheeted (b : Board) (s : Size) (loads head next : List ℕ) : Type 0 where
+-- a board that a table of size s can hold, with its loads
+pub record LoadedBoard (b : Board) (s : Size) (loads : List ℕ) : Type 0 where
   pub storable : Storable b
   pub benches : b .benches ≡ s .benches
   pub loaded : Loaded b loads
+
+-- the loads are those of such a board
+abbrev pub LoadsOf : Size → List ℕ → Type 0
+LoadsOf s loads = (b : Board) × LoadedBoard b s loads
+
+-- r is the length of the sheet of every board of this size with these loads
+abbrev pub LengthOf : Size → List ℕ → ℕ → Type 0
+LengthOf s loads r = (b : Board) → LoadedBoard b s loads → r ≡ length (sheet b)
+
+-- a board with its loads and its jobs listed
+pub record Sheeted (b : Board) (s : Size) (loads head next : List ℕ) : Type 0 where
+  pub board : LoadedBoard b s loads
   pub lists : JobLists b head next
 
 -- the arrays are of a board whose sheet has room on the page
@@ -59,14 +71,3 @@ RoomForAll s loads head next page =
 abbrev pub SheetWritten : Size → List ℕ → List ℕ → List ℕ → List ℕ → List ℕ → Type 0
 SheetWritten s loads head next page page' =
     (b : Board) → Sheeted b s loads head next → page' ≡ withText page 0 (sheet b)
-
--- the loads are those of a board that a table of size s can hold
-pub record LoadsOf (s : Size) (loads : List ℕ) : Type 0 where
-  pub board : Board
-  pub storable : Storable board
-  pub benches : board .benches ≡ s .benches
-  pub loaded : Loaded board loads
-
--- r is the length of the sheet of every board of this size with these loads
-pub record LengthOf (s : Size) (loads : List ℕ) (r : ℕ) : Type 0 where
-  pub is : (b : Board) → Storable b → b .benches ≡ s .benches → Loaded b loads → r ≡ length (sheet b)

@@ -22,35 +22,35 @@ add-x : tie.Need-add-x Inv-loop μ-loop
 add-x c = omega arith
 
 mul-line-count : tie.Need-mul-line-count Inv-loop μ-loop
-mul-line-count c = omega (arith, benches-few (c .before .before .before .pre))
+mul-line-count c = omega (arith, benches-few (c .before .before .before .pre .1))
 
 element-copy-out-line-count : tie.Need-element-copy-out-line-count Inv-loop μ-loop
-element-copy-out-line-count c = omega (arith, benches-few (c .before .before .before .pre))
+element-copy-out-line-count c = omega (arith, benches-few (c .before .before .before .pre .1))
 
 cast-line-count : tie.Need-cast-line-count Inv-loop μ-loop
-cast-line-count c = omega (arith, load-few (c .before .before .before .before .pre) (c .before .before .loop .x + 1) (omega arith) (omega arith))
+cast-line-count c = omega (arith, load-few (c .before .before .before .before .pre .1) (c .before .before .loop .x + 1) (omega arith) (omega arith))
 
 line-count-requires : tie.Need-line-count-requires Inv-loop μ-loop
-line-count-requires c κs = omega (arith, load-few (c .before .before .before .before .pre) (c .before .before .loop .x + 1) (omega arith) (omega arith))
+line-count-requires c κs = omega (arith, load-few (c .before .before .before .before .pre .1) (c .before .before .loop .x + 1) (omega arith) (omega arith))
 
 loop-again : tie.Need-loop-again Inv-loop μ-loop
 loop-again c =
     let loop = c .before .before .before .loop in
     let start = c .before .before .before .before .before in
-    let few = load-few (start .pre) (loop .x + 1) (omega arith) (omega arith) in (
+    let few = load-few (start .pre .1) (loop .x + 1) (omega arith) (omega arith) in (
       lines-next (start .args .loads .now) (loop .x) (loop .lines) (c .line-count .result) (loop .inv .0) (c .line-count .ensures),
       omega arith,
       omega (arith, c .line-count .ensures, few),
     )
 
 add-lines : tie.Need-add-lines Inv-loop μ-loop
-add-lines c = omega (arith, benches-few (c .before .before .before .before .before .pre), loop-again c .2)
+add-lines c = omega (arith, benches-few (c .before .before .before .before .before .pre .1), loop-again c .2)
 
 loop-less : tie.Need-loop-less Inv-loop μ-loop
 loop-less c = omega arith
 
 mul-result : tie.Need-mul-result Inv-loop μ-loop
-mul-result c = omega (arith, benches-few (c .before .before .before .pre))
+mul-result c = omega (arith, benches-few (c .before .before .before .pre .1))
 
 returns : tie.Need-returns Inv-loop μ-loop
 returns c =

@@ -7,7 +7,7 @@ use lib.ListN.{length}
 use Rattle.spec_table.specs.Board.{Board}
 use Rattle.table_size.specs.declared.Size.{Size}
 use Rattle.sheet_lines.specs.WrittenLines.{Sheeted}
-use Rattle.sheet_lines.proofs.AllLines.{BenchesLeft, sheet-start, bench-few, load-light, first-most, bench-room, bench-turn, sheet-end}
+use Rattle.sheet_lines.proofs.AllLines.{benches-few, load-few, BenchesLeft, sheet-start, first-most, bench-room, bench-turn, sheet-end}
 use Rattle.sheet_lines.proofs.write.Statement.{statement}
 use Rattle.sheet_lines.proofs.write.Tie as tie
 
@@ -25,29 +25,21 @@ loop-holds : tie.Need-loop-holds Inv-loop μ-loop
 loop-holds c = (λ s e b z. sheet-start b (c .before .before .args .page .now), omega arith, refl)
 
 mul-write-bench : tie.Need-mul-write-bench Inv-loop μ-loop
-mul-write-bench c =
-    let loop = c .before .before in
-    omega (arith, bench-few (loop .before .before .before .pre .1) (loop .loop .x) (loop .loop .inv .1) (omega arith))
+mul-write-bench c = omega (arith, benches-few (c .before .before .before .before .before .pre .1 .board))
 
 element-copy-out-write-bench : tie.Need-element-copy-out-write-bench Inv-loop μ-loop
-element-copy-out-write-bench c =
-    let loop = c .before .before in
-    omega (arith, bench-few (loop .before .before .before .pre .1) (loop .loop .x) (loop .loop .inv .1) (omega arith))
+element-copy-out-write-bench c = omega (arith, benches-few (c .before .before .before .before .before .pre .1 .board))
 
 cast-write-bench : tie.Need-cast-write-bench Inv-loop μ-loop
 cast-write-bench c =
     let loop = c .before .before .before in
-    omega (arith, load-light (loop .before .before .before .pre .1) (loop .loop .x) (loop .loop .inv .1) (omega arith))
+    omega (arith, load-few (loop .before .before .before .pre .1 .board) (loop .loop .x) (loop .loop .inv .1) (omega arith))
 
 mul-write-bench-2 : tie.Need-mul-write-bench-2 Inv-loop μ-loop
-mul-write-bench-2 c =
-    let loop = c .before .before .before in
-    omega (arith, bench-few (loop .before .before .before .pre .1) (loop .loop .x) (loop .loop .inv .1) (omega arith))
+mul-write-bench-2 c = omega (arith, benches-few (c .before .before .before .before .before .before .pre .1 .board))
 
 element-copy-out-write-bench-2 : tie.Need-element-copy-out-write-bench-2 Inv-loop μ-loop
-element-copy-out-write-bench-2 c =
-    let loop = c .before .before .before in
-    omega (arith, bench-few (loop .before .before .before .pre .1) (loop .loop .x) (loop .loop .inv .1) (omega arith))
+element-copy-out-write-bench-2 c = omega (arith, benches-few (c .before .before .before .before .before .before .pre .1 .board))
 
 cast-write-bench-2 : tie.Need-cast-write-bench-2 Inv-loop μ-loop
 cast-write-bench-2 c =
@@ -62,14 +54,12 @@ write-bench-requires c κs =
     let start = loop .before .before .before in
     let sheeted = start .pre .1 in
     let left = inv .0 (start .args .s) (loop .before .benches .ensures) (start .pre .0) sheeted in (
-      omega (arith, bench-few sheeted x (inv .1) (omega arith)),
-      (omega (arith, load-light sheeted x (inv .1) (omega arith)), bench-room sheeted x (inv .1) (omega arith) left (omega (arith, start .pre .2, inv .2))),
+      omega (arith, benches-few (sheeted .board)),
+      (omega (arith, load-few (sheeted .board) x (inv .1) (omega arith)), bench-room sheeted x (inv .1) (omega arith) left (omega (arith, start .pre .2, inv .2))),
     )
 
 add-x : tie.Need-add-x Inv-loop μ-loop
-add-x c =
-    let loop = c .before .before .before .before .before .before .before in
-    omega (arith, bench-few (loop .before .before .before .pre .1) (loop .loop .x) (loop .loop .inv .1) (omega arith))
+add-x c = omega (arith, benches-few (c .before .before .before .before .before .before .before .before .before .before .pre .1 .board))
 
 loop-less : tie.Need-loop-less Inv-loop μ-loop
 loop-less c = omega arith
