@@ -38,7 +38,7 @@ module _ {t loads : List ℕ} {s : Size} (z : SoundTable t s) (l : Loaded (decod
     short-refused h = refused-leaves code.PageTooShort (ask wallSheet page) t (sheet-refused t (z .sound) page (omega (arith, length-is)))
 
     module _ {head next : List ℕ} (j : JobLists (decode t) head next) (h : n ≤ length page) where
-      -- and its jobs are listed
+      -- the table's board, its jobs listed
       sheeted : Sheeted (decode t) s loads head next
       sheeted = record { board = loaded-board; lists = j }
 

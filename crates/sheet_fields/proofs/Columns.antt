@@ -4,9 +4,10 @@ use Prim.Native.Char.{code}
 use native.Mathlib.Omega.{arith}
 use native.Mathlib.Decide.{decLt}
 use native.Mathlib.Nat.{pow-succ'}
+use native.Mathlib.Numerals.{add-one}
 use mathlib.Core.Path.{_≡_, refl, sym, ap, _∙_}
 use mathlib.Core.List.{List, [], _∷_, _++_, append-assoc}
-use lib.ListN.{length, replicate, length-append}
+use lib.ListN.{length, replicate, length-append, replicate-append-replicate}
 use borrow.Author.Tests.{eq-eqb, ne-eqb}
 use Rattle.spec_text.specs.Numbers.{space, digits}
 use Rattle.spec_sheet.specs.Sheet.{field}
@@ -51,17 +52,12 @@ abbrev columns : ℕ → ℕ → List ℕ
 columns zero n = []
 columns (suc w) n = columns w (n / 10) ++ (digitOf n ∷ [])
 
--- a blank behind blanks
-blanks-more : (w : ℕ) → replicate w space ++ (space ∷ []) ≡ replicate (suc w) space
-blanks-more zero = refl
-blanks-more (suc w) = ap (λ (l : List ℕ). space ∷ l) (blanks-more w)
-
 -- of 0 all are blank ..
 columns-blank : (w n : ℕ) → n ≡ 0 → columns w n ≡ replicate w space
 columns-blank zero n e = refl
 columns-blank (suc w) n e =
     ap (λ (l : List ℕ). l ++ (digitOf n ∷ [])) (columns-blank w (n / 10) (omega arith))
-    ∙ ap (λ (c : ℕ). replicate w space ++ (c ∷ [])) (digit-blank n e) ∙ blanks-more w
+    ∙ ap (λ (c : ℕ). replicate w space ++ (c ∷ [])) (digit-blank n e) ∙ (rw (add-one w) at (replicate-append-replicate w 1 space))
 
 -- a field is the columns of the number without its last digit, and that digit, if those columns are a field where there are more
 field-split : (w n : ℕ) → (10 ≤ n → columns w (n / 10) ≡ field w (n / 10)) → field (suc w) n ≡ columns w (n / 10) ++ ((code "0" + n % 10) ∷ [])
