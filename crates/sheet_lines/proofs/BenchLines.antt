@@ -1,63 +1,16 @@
 -- The lines of a bench: the first behind its number and load, the others behind 8 blanks.
-use Prim.Native.Nat.{ℕ, zero, suc, _+_, _*_, _/_, _≤_, _<_}
+use Prim.Native.Nat.{ℕ, _+_, _*_, _≤_}
 use native.Mathlib.Omega.{arith}
-use native.Mathlib.Decide.{decLe}
 use mathlib.Core.Path.{_≡_, refl, sym, ap, _∙_}
-use mathlib.Core.Bool.{cond}
-use mathlib.Core.List.{List, [], _∷_, _++_, append-nil}
-use lib.Dec.{leb}
-use lib.ListN.{length, take, drop, length-take, length-drop, drop-of-length-le}
-use borrow.Author.Tests.{le-leb, lt-leb}
-use Rattle.spec_lists.proofs.Elements.{each-take}
+use mathlib.Core.List.{List, []}
+use lib.ListN.{length, take, drop, length-drop}
 use Rattle.spec_sheet.specs.Sheet.{moreHead, lineWith, linesOf, lineCount}
-use Rattle.spec_sheet.proofs.SheetLengths.{line-length}
+use Rattle.spec_sheet.proofs.SheetLengths.{first-length, moreLines, moreCount, lines-first, more-first}
 use Rattle.sheet_fields.specs.Page.{withText}
 use Rattle.sheet_fields.proofs.Page.{text-none, text-then}
 use Rattle.sheet_jobs.specs.JobLists.{ListFrom}
 use Rattle.sheet_lines.specs.WrittenLines.{Listed, LineWritten, PageRoom, BenchWritten}
 use Rattle.sheet_lines.proofs.ListedJobs.{list-small, list-none, list-some}
-
--- fuel that is enough does not show
-lines-fuel : (k m : ℕ) (head js : List ℕ) → length js ≤ k → length js ≤ m → linesOf k head js ≡ linesOf m head js
-lines-fuel zero zero head js h g = refl
-lines-fuel zero (suc m) head [] h g = sym (append-nil (lineWith head []))
-lines-fuel zero (suc m) head (j ∷ js) h g = absurd (omega arith)
-lines-fuel (suc k) zero head [] h g = append-nil (lineWith head [])
-lines-fuel (suc k) zero head (j ∷ js) h g = absurd (omega arith)
-lines-fuel (suc k) (suc m) head js h g =
-    let less = length-drop 12 js in
-    ap (λ (l : List ℕ). lineWith head (take 12 js) ++ cond (leb (length js) 12) [] l) (lines-fuel k m moreHead (drop 12 js) (omega arith) (omega arith))
-
--- the lines of the jobs that are left behind a line, none without jobs ..
-abbrev moreLines : List ℕ → List ℕ
-moreLines [] = []
-moreLines (j ∷ js) = linesOf (suc (length js)) moreHead (j ∷ js)
-
--- .. and how many they are
-abbrev moreCount : List ℕ → ℕ
-moreCount js = (length js + 11) / 12
-
--- any fuel that is enough gives them
-more-lines : (k : ℕ) (js : List ℕ) → 1 ≤ length js → length js ≤ k → linesOf k moreHead js ≡ moreLines js
-more-lines k [] l h = absurd (omega arith)
-more-lines k (j ∷ js) l h = lines-fuel k (suc (length js)) moreHead (j ∷ js) h (omega arith)
-
--- lines are the first line, and those of the jobs behind it
-lines-first : (k : ℕ) (head js : List ℕ) → length js ≤ k → linesOf k head js ≡ lineWith head (take 12 js) ++ moreLines (drop 12 js)
-lines-first zero head [] h = sym (append-nil (lineWith head []))
-lines-first zero head (j ∷ js) h = absurd (omega arith)
-lines-first (suc k) head js h =
-    let first : List ℕ = lineWith head (take 12 js) in
-    let less = length-drop 12 js in
-    elim (decLe (length js) 12) [
-      | yes d ↦ rw (le-leb (length js) 12 d, drop-of-length-le js d)
-      | no d ↦ rw (lt-leb (length js) 12 (omega arith)) (ap (λ (l : List ℕ). first ++ l) (more-lines k (drop 12 js) (omega arith) (omega arith)))
-    ]
-
--- a line has 69 characters, if what it begins with has 8
-line-long : {next : List ℕ} {j : ℕ} (head js : List ℕ) → length head ≡ 8 → ListFrom next j js → length (lineWith head (take 12 js)) ≡ 69
-line-long head js h l =
-    line-length head (take 12 js) h (each-take (λ i. i < 100000) 12 js (list-small l)) (omega (arith, length-take 12 js))
 
 -- some lines behind the first are written: what is left of the list makes the whole
 pub record LinesLeft (next page₀ page : List ℕ) (end₀ end j : ℕ) (js : List ℕ) : Type 0 where
@@ -76,12 +29,11 @@ lines-turn {next} {page₀} {page} {page'} {js} {end₀} {end} {j} {r} n h c w =
     let some = list-some (c .from) n in
     let line : List ℕ = lineWith moreHead (take 12 (c .left)) in
     let more : List ℕ = moreLines (drop 12 (c .left)) in
-    let place : end + 69 ≡ end + length line = omega (arith, line-long moreHead (c .left) refl (c .from)) in
-    let lines : line ++ more ≡ moreLines (c .left) = sym (lines-first (length (c .left)) moreHead (c .left) (omega arith)) ∙ more-lines (length (c .left)) (c .left) some (omega arith) in
+    let place : end + 69 ≡ end + length line = omega (arith, first-length moreHead (c .left) refl (list-small (c .from))) in
     record {
       left = drop 12 (c .left);
       from = w .rest (c .left) (c .from);
-      whole = text-then page end line more h (w .line (c .left) (c .from)) place ∙ ap (withText page end) lines ∙ c .whole;
+      whole = text-then page end line more h (w .line (c .left) (c .from)) place ∙ ap (withText page end) (sym (more-first (c .left) some)) ∙ c .whole;
       ends = omega (arith, length-drop 12 (c .left), c .ends);
     }
 
@@ -116,6 +68,6 @@ module _ {next page page₀ page' head : List ℕ} {at first j₀ end j : ℕ} (
       lines js l =
           let line : List ℕ = lineWith head (take 12 js) in
           let more : List ℕ = moreLines (drop 12 js) in
-          let place : at + 69 ≡ at + length line = omega (arith, line-long head js u l) in
+          let place : at + 69 ≡ at + length line = omega (arith, first-length head js u (list-small l)) in
           sym (text-none page' end) ∙ ap (λ (l : List ℕ). withText page' end (moreLines l)) (sym (left-none js l)) ∙ jobs-left l .whole
           ∙ text-then page at line more h (w .line js l) place ∙ ap (withText page at) (sym (lines-first (length js) head js (omega arith)))

@@ -2,15 +2,14 @@
 use Prim.Native.Nat.{ℕ, zero, suc, _+_, _-_, _*_, _/_, _≤_, _<_}
 use Prim.Native.Char.{code}
 use native.Mathlib.Omega.{arith}
-use native.Mathlib.Decide.{decLe}
 use mathlib.Core.Path.{_≡_, refl, sym, ap, subst, _∙_}
 use mathlib.Core.Logic.{_↔_}
-use mathlib.Core.List.{List, [], _∷_, _++_, map, flatMap, append-nil, append-assoc, map-append}
-use mathlib.Core.Option.{none, some}
+use mathlib.Core.List.{List, [], _∷_, _++_, map, flatMap, append-assoc, map-append}
+use mathlib.Core.Option.{some}
 use lib.Dec.{T, eqb}
 use lib.ListN.{length, take, drop, replicate, length-append, length-take, length-drop, take-append-drop}
-use lib.Seq.{take-all, take-at, drop-at}
-use borrow.Author.Tests.{ne-eqb, le-leb, lt-leb}
+use lib.Seq.{take-at, drop-at}
+use borrow.Author.Tests.{ne-eqb}
 use Rattle.spec_lists.specs.Lists.{bit, within, count, range, all, Each, In}
 use Rattle.spec_text.specs.Numbers.{lineFeed, space, digits, digit, number}
 use Rattle.spec_table.specs.Board.{Board, holderOf, stands, jobsHeld, load}
@@ -24,7 +23,7 @@ use Rattle.spec_lists.proofs.Counting.{count-append, total-same, total-flatMap,
 use Rattle.spec_text.proofs.Numbers.{written, number-exact}
 use Rattle.spec_table.proofs.Named.{stands-by-holder}
 use Rattle.spec_table.proofs.Held.{held-length, held-once, held-exact}
-use Rattle.spec_sheet.proofs.SheetLengths.{field-wide, head-length, line-length, held-most, load-most, bench-length, sheet-lines}
+use Rattle.spec_sheet.proofs.SheetLengths.{field-wide, head-length, line-length, moreLines, moreCount, lines-first, more-first, held-most, load-most, bench-length, sheet-lines}
 
 -- blanks in front do not show ..
 unpadded-blanks : (w : ℕ) (l : List ℕ) → unpadded (replicate w space ++ l) ≡ unpadded l
@@ -37,17 +36,12 @@ unpadded-digits [] t = refl
 unpadded-digits (c ∷ l) t =
     rw (ne-eqb c space (λ e. omega (arith, within-low (code "0") (code "9") c (left (digit c) (all digit l) t))))
 
--- a field is read as its number ..
+-- a field is read as its number
 pub read-field : (w n : ℕ) → n < 65536 → readField (field w n) ≡ some n
 read-field w n h =
     let ds = digits n n in
     ap number (unpadded-blanks (w - length ds) ds ∙ unpadded-digits ds ((written n n (omega arith)) .only))
     ∙ (number-exact ds n) .1 (h, refl)
-
--- .. and blanks as none
-pub read-blank : (w : ℕ) → readField (replicate w space) ≡ none
-unfolding number
-read-blank w = ap number (ap unpadded (sym (append-nil (replicate w space))) ∙ unpadded-blanks w [])
 
 -- m fields of blanks have no jobs ..
 read-none : (m : ℕ) (rest : List ℕ) → readJobs m (replicate (5 * m) space ++ rest) ≡ []
@@ -133,30 +127,32 @@ read-line n before x head js rest g e u = λ i. withBench (bench i) (jobs i) ++ 
     others : drop 69 line ≡ rest
     others = drop-at (lineWith head js) rest 69 (line-length head js (g .long) short u)
 
--- the lines of a bench have its jobs, and the lines after them go on with it
+-- so do a line of the first twelve and the lines behind it, if those have the jobs that are left
+read-first : (m n before x : ℕ) (head js rest : List ℕ) → LineBegins before x head → Each (λ j. j < 65536) js → readLines m x (moreLines (drop 12 js) ++ rest) ≡ withBench x (drop 12 js) ++ readLines n x rest → readLines (suc m) before ((lineWith head (take 12 js) ++ moreLines (drop 12 js)) ++ rest) ≡ withBench x js ++ readLines n x rest
+read-first m n before x head js rest g e behind =
+    ap (readLines (suc m) before) (append-assoc (lineWith head (take 12 js)) (moreLines (drop 12 js)) rest)
+    ∙ read-line m before x head (take 12 js) (moreLines (drop 12 js) ++ rest) g (each-take (λ j. j < 65536) 12 js e) (omega (arith, length-take 12 js))
+    ∙ ap (λ (l : List (ℕ × ℕ)). withBench x (take 12 js) ++ l) behind
+    ∙ sym (append-assoc (withBench x (take 12 js)) (withBench x (drop 12 js)) (readLines n x rest))
+    ∙ ap (λ (l : List (ℕ × ℕ)). l ++ readLines n x rest) (sym (map-append (λ j. (j, x)) (take 12 js) (drop 12 js)) ∙ ap (withBench x) (take-append-drop 12 js))
+
+-- the lines behind a line have the jobs that are left ..
+read-more : (m n x : ℕ) (js rest : List ℕ) → Each (λ j. j < 65536) js → m ≡ moreCount js + n → readLines m x (moreLines js ++ rest) ≡ withBench x js ++ readLines n x rest
+read-more zero n x [] rest e d = let q : n ≡ 0 = omega arith in rw q
+read-more zero n x (j ∷ js) rest e d = absurd (omega arith)
+read-more (suc m) n x [] rest e d = let q : n ≡ suc m = omega arith in rw q
+read-more (suc m) n x (j ∷ js) rest e d =
+    ap (λ (l : List ℕ). readLines (suc m) x (l ++ rest)) (more-first (j ∷ js) (omega arith))
+    ∙ read-first m n x x moreHead (j ∷ js) rest (more-begins x) e
+    (read-more m n x (drop 12 (j ∷ js)) rest (each-drop (λ j. j < 65536) 12 (j ∷ js) e) (omega (arith, length-drop 12 (j ∷ js))))
+
+-- .. so the lines of a bench have its jobs, and the lines after them go on with it
 read-lines : (k m n before x : ℕ) (head js rest : List ℕ) → LineBegins before x head → Each (λ j. j < 65536) js → length js ≤ k → m ≡ lineCount (length js) + n → readLines m before (linesOf k head js ++ rest) ≡ withBench x js ++ readLines n x rest
 read-lines k zero n before x head js rest g e u d = absurd (omega arith)
-read-lines zero (suc m) n before x head js rest g e u d =
-    let q : m ≡ n = omega arith in rw q (read-line n before x head js rest g e (omega arith))
-read-lines (suc k) (suc m) n before x head js rest g e u d =
-    elim (decLe (length js) 12) [
-      | yes h ↦ let q : m ≡ n = omega arith in rw (le-leb (length js) 12 h, append-nil (lineWith head (take 12 js)), take-all 12 js h, q) (read-line n before x head js rest g e h)
-      | no h ↦ rw (lt-leb (length js) 12 (omega arith), append-assoc (lineWith head (take 12 js)) more rest) (
-          read-line m before x head (take 12 js) (more ++ rest) g (each-take (λ j. j < 65536) 12 js e) (omega (arith, length-take 12 js))
-          ∙ ap (λ (l : List (ℕ × ℕ)). withBench x (take 12 js) ++ l) (read-lines k m n x x moreHead (drop 12 js) rest (more-begins x) (each-drop (λ j. j < 65536) 12 js e) (omega (arith, length-drop 12 js)) (omega (arith, length-drop 12 js)))
-          ∙ joined)
-    ]
-  where
-    more : List ℕ
-    more = linesOf k moreHead (drop 12 js)
-
-    after : List (ℕ × ℕ)
-    after = readLines n x rest
-
-    joined : withBench x (take 12 js) ++ (withBench x (drop 12 js) ++ after) ≡ withBench x js ++ after
-    joined =
-        sym (append-assoc (withBench x (take 12 js)) (withBench x (drop 12 js)) after)
-        ∙ ap (λ (l : List (ℕ × ℕ)). l ++ after) (sym (map-append (λ j. (j, x)) (take 12 js) (drop 12 js)) ∙ ap (withBench x) (take-append-drop 12 js))
+read-lines k (suc m) n before x head js rest g e u d =
+    ap (λ (l : List ℕ). readLines (suc m) before (l ++ rest)) (lines-first k head js u)
+    ∙ read-first m n before x head js rest g e
+    (read-more m n x (drop 12 js) rest (each-drop (λ j. j < 65536) 12 js e) (omega (arith, length-drop 12 js)))
 
 module _ (b : Board) (s : Storable b) where
   -- the jobs that bench x holds
