@@ -68,7 +68,8 @@ fn write_first(
     requires { ⌜ load < 10000 ⌝ }
     requires { ⌜ Listed (now next) first ⌝ }
     requires { ⌜ at + 69 ≤ length (now page) ⌝ }
-    ensures { λ r. ⌜ LineWritten (now (next .entry)) (now (page .entry)) (now (page .exit)) (benchHead x load) at first r ⌝ }
+    ensures { λ r. ⌜ LineWritten (now (next .entry)) (now (page .entry)) (now (page .exit)) (benchHead x load) at
+        first r ⌝ }
 {
     sheet_fields::write_bench_number(page, at, x);
     sheet_fields::write_number(page, at + 3, load);
@@ -98,7 +99,8 @@ fn write_bench(
     requires { ⌜ x < 1000 ⌝ }
     requires { ⌜ load < 10000 ⌝ }
     requires { ⌜ PageRoom (now next) (now page) at first ⌝ }
-    ensures { λ r. ⌜ BenchWritten (now (next .entry)) (now (page .entry)) (now (page .exit)) (benchHead x load) at first r ⌝ }
+    ensures { λ r. ⌜ BenchWritten (now (next .entry)) (now (page .entry)) (now (page .exit)) (benchHead x load) at
+        first r ⌝ }
 {
     let mut j = write_first(page, at, x, load, first, next);
     let mut end = at + LINE;
