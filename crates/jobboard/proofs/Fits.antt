@@ -8,7 +8,7 @@ use lib.Dec.{T, eqb}
 use lib.ListN.{length}
 use Rattle.spec_lists.specs.Lists.{bit, member, range, all, empty}
 use Rattle.spec_table.specs.Board.{Board, holderOf, namesOf, stands, load, heaviest}
-use Rattle.spec_table.specs.Table.{mostBenches, mostJobs, sound, decode}
+use Rattle.spec_table.specs.Table.{mostBenches, mostJobs, sound, decode, Storable}
 use Rattle.spec_sharing.specs.Sharing.{Levelled, close, relevel, level, tightSet, inside}
 use Rattle.spec_calls.specs.Answers.{Answer, Outcome, isRefused, refused, arrived, closed, said, levelYes, levelNo, levelled, stopped}
 use Rattle.spec_calls.specs.Calls.{Arriving, Closing, Question, loadOf, heaviestLoad, tightSetOf, formCheck, levelCheck, wallSheet, Call, arrival, closing, levelling, ask, asked, accepted, outcome, arrivalOutcome, closingOutcome, levellingOutcome, tightSetTold, sheetTold}
@@ -16,8 +16,8 @@ use Rattle.spec_sharing.specs.Demand2.{handed}
 use Rattle.spec_lists.proofs.Tests.{true→T, false→not, within-high}
 use Rattle.spec_lists.proofs.Elements.{is-empty, length-filter}
 use Rattle.spec_lists.proofs.NumberLists.{length-range}
-use Rattle.spec_table.proofs.Named.{length-shares}
-use Rattle.spec_lists.proofs.Counting.{bit-le, count-most, total-most, greatest-most}
+use Rattle.spec_lists.proofs.Counting.{bit-le, total-most, greatest-most}
+use Rattle.spec_table.proofs.Loads.{benches-most, named-most, load-most}
 use Rattle.spec_table.proofs.Sound.{sound-storable}
 use Rattle.spec_sheet.proofs.Longest.{sheet-most}
 use Rattle.spec_sharing.proofs.Paths.{holder-bench, holder-none}
@@ -42,52 +42,37 @@ tight-most : (b : Board) (h : ℕ) → length (tightSet b h) ≤ b .benches
 tight-most b h =
     omega (arith, ap length (tight-rising b h), length-filter (λ x. member x (tightSet b h)) (range 1 (b .benches)), length-range 1 (b .benches))
 
-module _ (t : List ℕ) (s : T (sound t)) where
-  -- a sound table has at most 500 benches ..
-  benches-small : (decode t) .benches ≤ 500
-  benches-small = within-high 1 mostBenches ((decode t) .benches) ((sound-storable t s) .benches)
-
-  -- .. and at most 4,000 jobs
-  jobs-small : length ((decode t) .named) ≤ 4000
-  jobs-small = within-high 1 mostJobs (length ((decode t) .named)) ((sound-storable t s) .jobs)
-
+module _ (b : Board) (s : Storable b) where
   -- a holder is 0 or a bench
-  holder-small : (j : ℕ) → holderOf (decode t) j ≤ 500
-  holder-small j = go (stands b j) refl
+  holder-most : (j : ℕ) → holderOf b j ≤ mostBenches
+  holder-most j = go (stands b j) refl
     where
-      b : Board
-      b = decode t
+      go : (z : Bool) → stands b j ≡ z → holderOf b j ≤ mostBenches
+      go true e = omega (arith, benches-most b s, within-high 1 (b .benches) (holderOf b j) (holder-bench b (s .valid) j (true→T (stands b j) e)))
+      go false e = omega (arith, holder-none b (s .valid) j (is-empty (namesOf b j) (false→not (stands b j) e)))
 
-      go : (z : Bool) → stands b j ≡ z → holderOf b j ≤ 500
-      go true e = omega (arith, benches-small, within-high 1 (b .benches) (holderOf b j) (holder-bench b ((sound-storable t s) .valid) j (true→T (stands b j) e)))
-      go false e = omega (arith, holder-none b ((sound-storable t s) .valid) j (is-empty (namesOf b j) (false→not (stands b j) e)))
-
-  -- at most all jobs are on one bench ..
-  load-small : (x : ℕ) → load ((decode t) .holders) x ≤ 4000
-  load-small x =
-      let b = decode t in
-      omega (arith, jobs-small, count-most x (b .holders), length-shares (b .named) (b .holders) ((sound-storable t s) .valid .shares))
-
-  -- .. also on the heaviest
-  heaviest-small : heaviest (decode t) ≤ 4000
+  -- at most all jobs are on the heaviest bench
+  heaviest-most : heaviest b ≤ mostJobs
   unfolding heaviest
-  heaviest-small = greatest-most ((decode t) .benches) (load ((decode t) .holders)) 4000 (λ x l h. load-small x)
+  heaviest-most = greatest-most (b .benches) (load (b .holders)) mostJobs (λ x l h. load-most b s x)
 
 -- an arrival: the holder, the bench that rose, the moved jobs
 arrival-fits : (t : List ℕ) (a : Arriving) (holder rose moved : ℕ) → (outcome (arrival a) t) .answer ≡ arrived holder rose moved → (holder < 65536) × (rose < 65536) × (moved < 65536)
 arrival-fits t a holder rose moved e =
     let s = accepted-sound (arrival a) tt t (ap isRefused e) in
     let u = (outcome (arrival a) t) .table in
+    let b = sound-storable t s in
     let r = arrival-result t s a holder rose moved e in
-    let after = (arrival-accepted t s a (ap isRefused e)) .writes .sound in
-    (omega (arith, r .inTheEnd, holder-small u after (a .job)), omega (arith, r .oneRose .bench, benches-small t s), omega (arith, r .others, handed-most (a .job) (decode t) (decode u), jobs-small t s))
+    let after = sound-storable u ((arrival-accepted t s a (ap isRefused e)) .writes .sound) in
+    (omega (arith, r .inTheEnd, holder-most (decode u) after (a .job)), omega (arith, r .oneRose .bench, benches-most (decode t) b), omega (arith, r .others, handed-most (a .job) (decode t) (decode u), named-most (decode t) b))
 
 -- a closing: the bench that fell, the moved jobs
 closing-fits : (t : List ℕ) (c : Closing) (fell moved : ℕ) → (outcome (closing c) t) .answer ≡ closed fell moved → (fell < 65536) × (moved < 65536)
 closing-fits t c fell moved e =
     let s = accepted-sound (closing c) tt t (ap isRefused e) in
+    let b = sound-storable t s in
     let r = closing-result t s c fell moved e in
-    (omega (arith, r .oneFell .bench, benches-small t s), omega (arith, r .others, handed-most (c .job) (decode t) (decode ((outcome (closing c) t) .table)), jobs-small t s))
+    (omega (arith, r .oneFell .bench, benches-most (decode t) b), omega (arith, r .others, handed-most (c .job) (decode t) (decode ((outcome (closing c) t) .table)), named-most (decode t) b))
 
 -- a refusal has no values
 unless-refused : (a : Answer) → (isRefused a ≡ false → Fitting a) → Fitting a
@@ -103,20 +88,20 @@ Bounded (closing c) = Unit {0}
 Bounded (levelling allowance) = allowance < 4294967296
 Bounded (ask q lent) = Unit {0}
 
--- the values that a question tells of a sound table
-asked-fits : (q : Question) (lent t : List ℕ) → T (sound t) → Fitting (said ((asked q lent (decode t)) .fact))
+-- the values that a question tells of a storable board
+asked-fits : (q : Question) (lent : List ℕ) (b : Board) → Storable b → Fitting (said ((asked q lent b) .fact))
 unfolding asked tightSetTold sheetTold
-asked-fits (loadOf x) lent t s = (omega (arith, load-small t s x), tt)
-asked-fits heaviestLoad lent t s = (omega (arith, heaviest-small t s), tt)
-asked-fits (tightSetOf h) lent t s =
-    (omega (arith, tight-most (decode t) h, benches-small t s), (omega (arith, inside-most (tightSet (decode t) h) ((decode t) .named), jobs-small t s), tt))
-asked-fits formCheck lent t s = tt
-asked-fits levelCheck lent t s = go (level (decode t))
+asked-fits (loadOf x) lent b s = (omega (arith, load-most b s x), tt)
+asked-fits heaviestLoad lent b s = (omega (arith, heaviest-most b s), tt)
+asked-fits (tightSetOf h) lent b s =
+    (omega (arith, tight-most b h, benches-most b s), (omega (arith, inside-most (tightSet b h) (b .named), named-most b s), tt))
+asked-fits formCheck lent b s = tt
+asked-fits levelCheck lent b s = go (level b)
   where
     go : (z : Bool) → Fitting (said (cond z levelYes levelNo))
     go true = (omega arith, tt)
     go false = (omega arith, tt)
-asked-fits wallSheet page t s = (omega (arith, sheet-most (decode t) (sound-storable t s)), tt)
+asked-fits wallSheet page b s = (omega (arith, sheet-most b s), tt)
 
 -- the values of an accepted call
 accepted-fits : (c : Call) (t : List ℕ) → Bounded c → T (sound t) → outcome c t ≡ accepted c t (decode t) → Fitting ((accepted c t (decode t)) .answer)
@@ -140,7 +125,7 @@ accepted-fits (levelling allowance) t b s e = go (level (r .board))
     go : (z : Bool) → Fitting (said (cond z (levelled (r .paths)) (stopped (r .paths))))
     go true = (small, (omega arith, tt))
     go false = (small, (omega arith, tt))
-accepted-fits (ask q lent) t b s e = asked-fits q lent t s
+accepted-fits (ask q lent) t b s e = asked-fits q lent (decode t) (sound-storable t s)
 
 -- the values of any call's answer fit 32 bits
 pub values-fit : (c : Call) (t : List ℕ) → Bounded c → Fitting ((outcome c t) .answer)

@@ -11,9 +11,10 @@ use Rattle.spec_lists.proofs.Tests.{within-high, within-both}
 use Rattle.spec_lists.proofs.Counting.{total-same}
 use Rattle.spec_table.specs.Board.{Board, jobsHeld, load}
 use Rattle.spec_table.specs.Table.{mostBenches, mostJobs}
+use Rattle.spec_table.proofs.Loads.{load-most}
 use Rattle.spec_table.proofs.Held.{held-length}
 use Rattle.spec_sheet.specs.Sheet.{benchHead, linesOf, benchLines, sheet, lineCount, sheetLines}
-use Rattle.spec_sheet.proofs.SheetLengths.{load-most, bench-length, sheet-lines}
+use Rattle.spec_sheet.proofs.SheetLengths.{bench-length, sheet-lines}
 use Rattle.table_size.specs.declared.Size.{Size}
 use Rattle.sheet_fields.specs.Page.{withText}
 use Rattle.sheet_fields.proofs.Page.{text-none, text-then}

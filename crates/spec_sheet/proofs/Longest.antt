@@ -10,10 +10,10 @@ use Rattle.spec_lists.specs.Lists.{within, total}
 use Rattle.spec_table.specs.Board.{Board, load, namesFit, mayHold, Shares}
 use Rattle.spec_table.specs.Table.{mostBenches, mostJobs, paired, Storable}
 use Rattle.spec_sheet.specs.Sheet.{sheet, lineCount, sheetLines}
-use Rattle.spec_lists.proofs.Tests.{within-high}
 use Rattle.spec_lists.proofs.Elements.{each-replicate}
 use Rattle.spec_lists.proofs.Counting.{bit-other, count-replicate, total-each, total-but-one, total-count-le}
-use Rattle.spec_sheet.proofs.SheetLengths.{jobs-most, sheet-lines}
+use Rattle.spec_table.proofs.Loads.{benches-most, jobs-most}
+use Rattle.spec_sheet.proofs.SheetLengths.{sheet-lines}
 
 -- benches that share jobs take a line each, and together at most the further lines of one bench with all of them
 lines-most : (n : ℕ) (loads : ℕ → ℕ) → total n (λ x. lineCount (loads x)) ≤ n + (total n loads - 1) / 12
@@ -30,7 +30,7 @@ sheet-most b s =
       lines-most (b .benches) (load (b .holders)),
       total-count-le (b .benches) (b .holders),
       jobs-most b s,
-      within-high 1 mostBenches (b .benches) (s .benches),
+      benches-most b s,
     )
 
 -- a board of that many benches and jobs: the jobs name benches 1 and 2, and bench 1 holds all of them

@@ -13,17 +13,18 @@ use borrow.Author.Tests.{ne-eqb}
 use Rattle.spec_lists.specs.Lists.{bit, within, count, range, all, Each, In}
 use Rattle.spec_text.specs.Numbers.{lineFeed, space, digits, digit, number}
 use Rattle.spec_table.specs.Board.{Board, holderOf, stands, jobsHeld, load}
-use Rattle.spec_table.specs.Table.{mostBenches, Storable}
+use Rattle.spec_table.specs.Table.{Storable}
 use Rattle.spec_sheet.specs.Sheet.{field, benchHead, moreHead, lineWith, linesOf, benchLines, sheet, lineCount}
 use Rattle.spec_sheet.specs.Reading.{unpadded, readField, readJobs, readBench, readLines, readSheet}
-use Rattle.spec_lists.proofs.Tests.{left, within-low, within-high}
+use Rattle.spec_lists.proofs.Tests.{left, within-low}
 use Rattle.spec_lists.proofs.Elements.{each-in, in-each, each-take, each-drop, in-map, map-in, in-flatMap, flatMap-in}
 use Rattle.spec_lists.proofs.NumberLists.{range-low, bench-listed, listed-bench}
 use Rattle.spec_lists.proofs.Counting.{count-append, total-same, total-flatMap, total-within}
 use Rattle.spec_text.proofs.Numbers.{written, number-exact}
 use Rattle.spec_table.proofs.Named.{stands-by-holder}
+use Rattle.spec_table.proofs.Loads.{benches-most, held-most, load-most}
 use Rattle.spec_table.proofs.Held.{held-length, held-once, held-exact}
-use Rattle.spec_sheet.proofs.SheetLengths.{field-wide, head-length, line-length, moreLines, moreCount, lines-first, more-first, held-most, load-most, bench-length, sheet-lines}
+use Rattle.spec_sheet.proofs.SheetLengths.{field-wide, head-length, line-length, moreLines, moreCount, lines-first, more-first, bench-length, sheet-lines}
 
 -- blanks in front do not show ..
 unpadded-blanks : (w : ℕ) (l : List ℕ) → unpadded (replicate w space ++ l) ≡ unpadded l
@@ -164,7 +165,7 @@ module _ (b : Board) (s : Storable b) where
   unfolding benchLines
   read-bench m n before x rest l u d =
       read-lines (length (held x)) m n before x (benchHead x load-x) (held x) rest
-      (own-begins before x load-x (omega (arith, within-high 1 mostBenches (b .benches) (s .benches))) (omega (arith, load-most b s x)))
+      (own-begins before x load-x (omega (arith, benches-most b s)) (omega (arith, load-most b s x)))
       (in-each (λ j. j < 65536) (held x) (λ j i. omega (arith, held-most b s x j l i)))
       (omega arith)
       (d ∙ ap (λ (k : ℕ). lineCount k + n) (sym (held-length 1 x (b .holders))))

@@ -5,20 +5,19 @@ use native.Mathlib.Decide.{decLe}
 use mathlib.Core.Path.{_≡_, refl, sym, ap, _∙_}
 use mathlib.Core.Bool.{cond}
 use mathlib.Core.List.{List, [], _∷_, _++_, flatMap, append-nil}
-use lib.Dec.{T, leb}
+use lib.Dec.{leb}
 use lib.ListN.{length, take, drop, replicate, length-append, length-replicate, length-take, length-drop, drop-of-length-le}
 use borrow.Author.Tests.{le-leb, lt-leb}
-use Rattle.spec_lists.specs.Lists.{within, Each, In}
+use Rattle.spec_lists.specs.Lists.{Each}
 use Rattle.spec_text.specs.Numbers.{lineFeed, space, digits}
 use Rattle.spec_table.specs.Board.{Board, jobsHeld, load}
-use Rattle.spec_table.specs.Table.{mostBenches, mostJobs, Storable}
+use Rattle.spec_table.specs.Table.{Storable}
 use Rattle.spec_sheet.specs.Sheet.{field, benchHead, moreHead, lineWith, linesOf, benchLines, sheet, lineCount, sheetLines}
-use Rattle.spec_lists.proofs.Tests.{within-high}
-use Rattle.spec_lists.proofs.Elements.{each-in, in-each, each-take, each-drop}
-use Rattle.spec_lists.proofs.Counting.{count-most, total-same, total-times, total-flatMap}
+use Rattle.spec_lists.proofs.Elements.{in-each, each-take, each-drop}
+use Rattle.spec_lists.proofs.Counting.{total-same, total-times, total-flatMap}
 use Rattle.spec_text.proofs.Numbers.{digits-short}
-use Rattle.spec_table.proofs.Named.{length-shares}
-use Rattle.spec_table.proofs.Held.{held-length, held-within}
+use Rattle.spec_table.proofs.Loads.{benches-most, held-most, load-most}
+use Rattle.spec_table.proofs.Held.{held-length}
 
 -- a number whose digits fit fills its columns ..
 field-length : (w n : ℕ) → length (digits n n) ≤ w → length (field w n) ≡ w
@@ -127,40 +126,24 @@ lines-length k head js h e u =
       length-drop 12 js,
     )
 
-module _ (b : Board) (s : Storable b) where
-  -- there are at most 4,000 job numbers ..
-  pub jobs-most : length (b .holders) ≤ mostJobs
-  jobs-most =
-      omega (arith, within-high 1 mostJobs (length (b .named)) (s .jobs), length-shares (b .named) (b .holders) (s .valid .shares))
+-- the lines of a bench are as many as its load takes
+pub bench-length : (b : Board) → Storable b → (x : ℕ) → 1 ≤ x → x ≤ b .benches → length (benchLines b x) ≡ 69 * lineCount (load (b .holders) x)
+unfolding benchLines
+bench-length b s x l u =
+    lines-length (length js) (benchHead x n) js (head-length x n few (omega (arith, load-most b s x))) jobs (omega arith)
+    ∙ ap (λ (k : ℕ). 69 * lineCount k) (held-length 1 x (b .holders))
+  where
+    n : ℕ
+    n = load (b .holders) x
 
-  -- .. so a bench's jobs are 4,000 at the most ..
-  pub held-most : (x j : ℕ) → 1 ≤ x → In j (jobsHeld 1 x (b .holders)) → j ≤ mostJobs
-  held-most x j l i =
-      let J : ℕ = length (b .holders) in
-      omega (arith, within-high 1 J j (each-in (λ j. T (within 1 J j)) j (jobsHeld 1 x (b .holders)) (held-within x (b .holders) l) i), jobs-most)
+    js : List ℕ
+    js = jobsHeld 1 x (b .holders)
 
-  -- .. and so is its load
-  pub load-most : (x : ℕ) → load (b .holders) x ≤ mostJobs
-  load-most x = omega (arith, count-most x (b .holders), jobs-most)
+    few : x < 1000
+    few = omega (arith, benches-most b s)
 
-  -- the lines of a bench are as many as its load takes
-  pub bench-length : (x : ℕ) → 1 ≤ x → x ≤ b .benches → length (benchLines b x) ≡ 69 * lineCount (load (b .holders) x)
-  unfolding benchLines
-  bench-length x l u =
-      lines-length (length js) (benchHead x n) js (head-length x n few (omega (arith, load-most x))) jobs (omega arith)
-      ∙ ap (λ (k : ℕ). 69 * lineCount k) (held-length 1 x (b .holders))
-    where
-      n : ℕ
-      n = load (b .holders) x
-
-      js : List ℕ
-      js = jobsHeld 1 x (b .holders)
-
-      few : x < 1000
-      few = omega (arith, within-high 1 mostBenches (b .benches) (s .benches))
-
-      jobs : Each (λ j. j < 100000) js
-      jobs = in-each (λ j. j < 100000) js (λ j i. omega (arith, held-most x j l i))
+    jobs : Each (λ j. j < 100000) js
+    jobs = in-each (λ j. j < 100000) js (λ j i. omega (arith, held-most b s x j l i))
 
 -- the sheet has as many lines as its benches take
 pub sheet-lines : (b : Board) → Storable b → length (sheet b) ≡ 69 * sheetLines b

@@ -14,6 +14,7 @@ use Rattle.spec_lists.proofs.Tests.{five, cond-le, T-eqb, eqb-T, leb-T, within-
 use Rattle.spec_lists.proofs.Elements.{two-elements, in-each, each-append, each-map, length-filter}
 use Rattle.spec_lists.proofs.NumberLists.{length-values}
 use Rattle.spec_table.proofs.Named.{length-shares, fit-bench}
+use Rattle.spec_table.proofs.Loads.{benches-most, named-most}
 
 -- words and bytes
 
@@ -146,8 +147,8 @@ entries-small benches i (names ∷ named) (h ∷ holders) b m f p =
 pub layoutOf-small : (b : Board) → Storable b → Each (λ w. w < 65536) (flat (layoutOf b))
 unfolding flat layoutOf
 layoutOf-small b s =
-    let benches : b .benches ≤ mostBenches = within-high 1 mostBenches (b .benches) (s .benches) in
-    let jobs : length (b .named) ≤ mostJobs = within-high 1 mostJobs (length (b .named)) (s .jobs) in
+    let benches = benches-most b s in
+    let jobs = named-most b s in
     let held : length (b .holders) ≡ length (b .named) = length-shares (b .named) (b .holders) (s .valid .shares) in
     let head : ℕ → ℕ = λ x. firstHeld 1 x (b .holders) in
     let heads : Each SmallWord (map head (range 1 (b .benches))) = each-map SmallWord head (range 1 (b .benches)) (λ x i. omega (arith, firstHeld-le 1 x (b .holders))) in
