@@ -20,7 +20,7 @@ use Rattle.spec_lists.proofs.Counting.{bit-le, total-most, greatest-most}
 use Rattle.spec_table.proofs.Loads.{benches-most, named-most, load-most}
 use Rattle.spec_table.proofs.Sound.{sound-storable}
 use Rattle.spec_sheet.proofs.Longest.{sheet-most}
-use Rattle.spec_sharing.proofs.Paths.{holder-bench, holder-none}
+use Rattle.spec_table.proofs.Named.{holder-bench, holder-none}
 use Rattle.spec_sharing.proofs.TightSet.{tight-rising}
 use Rattle.spec_calls.proofs.Refusals.{accepted-by, on-sound, accepted-sound}
 use Rattle.spec_calls.proofs.Outcomes.{arriveOn, arrival-accepted, levelling-accepted}

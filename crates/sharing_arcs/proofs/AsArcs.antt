@@ -15,10 +15,10 @@ use Rattle.spec_table.specs.Table.{mostBenches, mostJobs, decode}
 use Rattle.spec_sharing.specs.Paths.{Step, stepBy, steps, endOf, Walk}
 use Rattle.spec_lists.proofs.Tests.{T→true, within-low, within-high, within-both}
 use Rattle.spec_lists.proofs.Elements.{is-empty, some-in, each-nth, two-elements}
-use Rattle.spec_table.proofs.Named.{length-shares, pair-fits}
+use Rattle.spec_table.proofs.Named.{length-shares, pair-fits, named-stands, named-bench, shares-nth, held-named, holder-bench}
 use Rattle.spec_lists.proofs.Counting.{count-most}
 use Rattle.spec_sharing.proofs.Distances.{storable-one-other}
-use Rattle.spec_sharing.proofs.Paths.{named-stands, named-bench, shares-nth, held-named, holder-bench, step-is, is-step}
+use Rattle.spec_sharing.proofs.Paths.{step-is, is-step}
 use Rattle.spec_sharing.proofs.Walks.{Reach, reach-here, reach-first}
 use Rattle.table_size.specs.Sizes.{BenchIn}
 use Rattle.table_size.specs.declared.Size.{Size}

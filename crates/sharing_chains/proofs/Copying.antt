@@ -13,7 +13,7 @@ use Rattle.spec_table.specs.Table.{mostJobs, decode}
 use Rattle.spec_lists.proofs.Tests.{within-low, within-high, within-both}
 use Rattle.table_size.specs.Sizes.{SizeOf}
 use Rattle.table_size.specs.declared.Size.{Size}
-use Rattle.spec_sharing.proofs.Paths.{holder-bench}
+use Rattle.spec_table.proofs.Named.{holder-bench}
 use Rattle.table_board.specs.BoardView.{HoldsBoard, HolderOf}
 use Rattle.table_board.proofs.RecordsAsBoard.{stands-job}
 use Rattle.table_chains.proofs.ChainView.{held-stands}

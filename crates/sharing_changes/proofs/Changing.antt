@@ -18,9 +18,9 @@ use Rattle.spec_table.specs.Table.{mostBenches, decode, encode}
 use Rattle.spec_lists.proofs.Tests.{within-low, within-high, within-both}
 use Rattle.spec_lists.proofs.Elements.{nth-update-same, is-empty}
 use Rattle.spec_lists.proofs.NumberLists.{Member, is-in, not-in, membered, in-member}
-use Rattle.spec_table.proofs.Named.{fit-bench}
+use Rattle.spec_table.proofs.Named.{fit-bench, holder-bench, holder-none}
 use Rattle.spec_lists.proofs.Counting.{bit-same, bit-other, count-none, count-some, distinct-count, filter-counts, count-update}
-use Rattle.spec_sharing.proofs.Paths.{holder-bench, holder-none, improvingFrom-only}
+use Rattle.spec_sharing.proofs.Paths.{improvingFrom-only}
 use Rattle.spec_sharing.proofs.Choice.{arrival-choice}
 use Rattle.spec_sharing.proofs.Sets.{lightestNamed-in}
 use Rattle.spec_sharing.proofs.Flip.{path-jobs, flip-moves, flip-keeps}

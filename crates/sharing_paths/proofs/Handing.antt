@@ -13,7 +13,7 @@ use Rattle.spec_table.specs.Table.{mostBenches, mostJobs, decode}
 use Rattle.spec_sharing.specs.Paths.{handOver}
 use Rattle.spec_lists.proofs.Elements.{each-in, in-getD}
 use Rattle.spec_lists.proofs.NumberLists.{member-in}
-use Rattle.spec_sharing.proofs.Paths.{named-bench}
+use Rattle.spec_table.proofs.Named.{named-bench}
 use Rattle.table_size.specs.Sizes.{JobIn}
 use Rattle.table_size.specs.declared.Size.{Size}
 use Rattle.table_size.proofs.Sizes.{board-bench}

@@ -12,7 +12,7 @@ use Rattle.spec_table.specs.Board.{stands, holderOf}
 use Rattle.spec_table.specs.Table.{mostBenches, mostJobs, decode}
 use Rattle.spec_sharing.specs.Paths.{Step, steps}
 use Rattle.spec_lists.proofs.Tests.{within-low, within-both}
-use Rattle.spec_sharing.proofs.Paths.{holder-bench}
+use Rattle.spec_table.proofs.Named.{holder-bench}
 use Rattle.table_size.specs.Sizes.{BenchIn, SoundTable}
 use Rattle.table_size.specs.declared.Size.{Size}
 use Rattle.table_size.proofs.Sizes.{board-bench}

@@ -12,8 +12,7 @@ use Rattle.spec_table.specs.Table.{sound, decode}
 use Rattle.spec_calls.specs.Answers.{isRefused, refused, jobNumber, benchNumber, alreadyStanding, notStanding}
 use Rattle.spec_calls.specs.Calls.{Arriving, Closing, namable, MayArrive, arrival, closing, arrivalConditions, closingConditions, accepted, outcome, arrivalOutcome, closingOutcome}
 use Rattle.spec_lists.proofs.Tests.{T→true, not→false, never→false}
-use Rattle.spec_table.proofs.Named.{pair-fits}
-use Rattle.spec_sharing.proofs.Paths.{stands-within}
+use Rattle.spec_table.proofs.Named.{pair-fits, stands-within}
 use Rattle.spec_calls.proofs.ChainOrder.{sound-outcome}
 use Rattle.spec_calls.proofs.Outcomes.{arrival-accepted, closing-accepted}
 

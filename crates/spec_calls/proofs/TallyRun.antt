@@ -20,7 +20,7 @@ use Rattle.spec_lists.proofs.Tests.{true→T, T→true, not→false, within-low
 use Rattle.spec_lists.proofs.Counting.{filter-update}
 use Rattle.spec_table.proofs.Places.{sized}
 use Rattle.spec_calls.proofs.Blanking.{standing-empty, blank-sound, blank-decodes}
-use Rattle.spec_sharing.proofs.Paths.{stands-within}
+use Rattle.spec_table.proofs.Named.{stands-within}
 use Rattle.spec_calls.proofs.Outcomes.{WritesBoard, namable-some, arriveOn, AcceptedArrival, AcceptedClosing, levelling-quiet, by-call}
 use Rattle.spec_calls.proofs.Tally.{isChange, raised-new, other-noted}
 

@@ -17,9 +17,9 @@ use Rattle.spec_sharing.specs.Demand2.{OneMore, handed}
 use Rattle.spec_lists.proofs.Tests.{both, left, right, differ, within-low, within-high, within-both}
 use Rattle.spec_lists.proofs.Elements.{not-empty, is-empty, nth-update-same, nth-update-other}
 use Rattle.spec_lists.proofs.NumberLists.{Member, is-in, not-in, membered, filter-distinct, others-in}
-use Rattle.spec_table.proofs.Named.{length-shares, fit-bench}
+use Rattle.spec_table.proofs.Named.{length-shares, fit-bench, stands-within, named-may, holder-bench, holder-none}
 use Rattle.spec_lists.proofs.Counting.{total-tested}
-use Rattle.spec_sharing.proofs.Paths.{stands-within, named-may, holder-bench, holder-none, improvingFrom-only, improvingTo-only}
+use Rattle.spec_sharing.proofs.Paths.{improvingFrom-only, improvingTo-only}
 use Rattle.spec_sharing.proofs.Choice.{arrival-choice, closing-choice}
 use Rattle.spec_sharing.proofs.Sets.{lightestNamed-in}
 use Rattle.spec_sharing.proofs.Walks.{path-reach, reach-bench}

@@ -13,7 +13,8 @@ use Rattle.spec_sharing.specs.Paths.{Step, steps, endOf, Walk}
 use Rattle.spec_table.specs.Table.{paired, Storable}
 use Rattle.spec_lists.proofs.Tests.{T-eqb, T-leb, leb-T}
 use Rattle.spec_lists.proofs.Elements.{each-in, in-each, each-nth}
-use Rattle.spec_sharing.proofs.Paths.{shares-nth, held-named, step-is, benchesOf, jobsOf}
+use Rattle.spec_table.proofs.Named.{shares-nth, held-named}
+use Rattle.spec_sharing.proofs.Paths.{step-is, benchesOf, jobsOf}
 use Rattle.spec_sharing.proofs.Choice.{lexLe-lower, lexLe-same}
 use Rattle.spec_sharing.proofs.Walks.{fewest-once}
 

@@ -14,9 +14,9 @@ use Rattle.spec_sharing.specs.Paths.{Step, steps, BenchPath, endOf, last
 use Rattle.spec_lists.proofs.Tests.{true→T, both, within-low, within-high}
 use Rattle.spec_lists.proofs.Elements.{nth-update-same, nth-update-other, length-update, update-same, each-update, map-in}
 use Rattle.spec_lists.proofs.NumberLists.{not-member, distinct-head, distinct-tail}
-use Rattle.spec_table.proofs.Named.{length-shares}
+use Rattle.spec_table.proofs.Named.{length-shares, stands-within, named-stands, named-may}
 use Rattle.spec_lists.proofs.Counting.{count-update}
-use Rattle.spec_sharing.proofs.Paths.{stands-within, named-stands, named-may, step-is, benchesOf, jobsOf}
+use Rattle.spec_sharing.proofs.Paths.{step-is, benchesOf, jobsOf}
 
 -- writing a job's names and its bench anew leaves a sharing ..
 pub shares-written : (named : List (List ℕ)) (holders : List ℕ) (j : ℕ) (names : List ℕ) (a : ℕ) → Shares named holders → T (mayHold names a) → Shares (update named j names) (update holders j a)

@@ -1,71 +1,22 @@
--- Jobs and their benches, steps, paths and improving paths: the lists of the definitions hold exactly what they are to hold.
+-- Steps, paths and improving paths: the lists of the definitions hold exactly what they are to hold.
 use Prim.Native.Nat.{ℕ, zero, suc, _+_, _≤_}
 use native.Mathlib.Omega.{arith}
 use mathlib.Core.Path.{_≡_, refl, sym, ap, subst, _∙_}
 use mathlib.Core.Logic.{inl, inr, _≢_, _↔_}
 use mathlib.Core.Bool.{Bool, true, false, cond, not}
 use mathlib.Core.List.{List, [], _∷_, _++_, map}
-use lib.Dec.{T, eqb, not-T}
+use lib.Dec.{T, eqb}
 use lib.ListN.{length, getD, length-map}
 use borrow.Author.Tests.{eq-eqb}
-use Rattle.spec_lists.specs.Lists.{within, member, distinct, range, filter, Each, In, empty}
-use Rattle.spec_table.specs.Board.{Board, Valid, namesOf, holderOf, stands, load, mayHold, Shares, namesFit}
+use Rattle.spec_lists.specs.Lists.{within, member, distinct, range, filter, Each, In}
+use Rattle.spec_table.specs.Board.{Board, Valid, namesOf, holderOf, stands, load}
 use Rattle.spec_sharing.specs.Paths.{Step, stepBy, stepsFrom, steps, BenchPath, pathBy, endOf, last, Walk, IsPath, routes, pathsFrom, improves, improvingFrom, improving, improvingTo}
 use Rattle.spec_sharing.specs.Sharing.{level}
-use Rattle.spec_lists.proofs.Tests.{true→T, T→true, both, Compared, same, other, compared, T-eqb, eqb-T, T-leb, leb-T, within-both}
-use Rattle.spec_lists.proofs.Elements.{in-left, in-right, in-either, in-filter, filter-in, empty-in, in-empty, some-in, nth-within, each-nth, in-map, map-in, in-flatMap, flatMap-in}
-use Rattle.spec_lists.proofs.NumberLists.{member-in, in-member, bench-listed, listed-bench, not-member, member-not, distinct-head, distinct-tail, others-in}
-use Rattle.spec_table.proofs.Named.{fit-bench}
+use Rattle.spec_lists.proofs.Tests.{true→T, T→true, both, Compared, same, other, compared, T-eqb, eqb-T, T-leb, leb-T}
+use Rattle.spec_lists.proofs.Elements.{in-left, in-right, in-either, in-filter, filter-in, empty-in, in-empty, some-in, in-map, map-in, in-flatMap, flatMap-in}
+use Rattle.spec_lists.proofs.NumberLists.{bench-listed, listed-bench, not-member, member-not, distinct-head, distinct-tail, others-in}
+use Rattle.spec_table.proofs.Named.{named-stands, named-bench, holder-bench}
 use Rattle.spec_lists.proofs.Counting.{few, distinct-count}
-
--- the benches that a job names, and the one that holds it
-
--- a standing job's number is one of 1 to J
-pub stands-within : (b : Board) (j : ℕ) → T (stands b j) → T (within 1 (length (b .named)) j)
-stands-within b j t =
-    let r = nth-within (b .named) j [] (λ e. rw e at t) in
-    within-both 1 (length (b .named)) j (r .0) (r .1)
-
--- a job that names a bench stands ..
-pub named-stands : (b : Board) (j y : ℕ) → In y (namesOf b j) → T (stands b j)
-named-stands b j y i = not-T (empty (namesOf b j)) (λ t. empty-in y (namesOf b j) t i)
-
--- .. and that bench may hold it
-pub named-may : (names : List ℕ) (y : ℕ) → In y names → T (mayHold names y)
-named-may [] y i = absurd i
-named-may (x ∷ names) y i = in-member y (x ∷ names) i
-
--- on a valid board it is a bench of 1 to B
-pub named-bench : (b : Board) → Valid b → (j y : ℕ) → In y (namesOf b j) → T (within 1 (b .benches) y)
-named-bench b v j y =
-    fit-bench (b .benches) (namesOf b j) y (each-nth (λ names. T (namesFit (b .benches) names)) (b .named) j [] tt (v .names))
-
--- a job is held by a bench that may hold it ..
-pub shares-getD : (named : List (List ℕ)) (holders : List ℕ) → Shares named holders → (i : ℕ) → T (mayHold (getD named i []) (getD holders i 0))
-shares-getD [] [] s i = tt
-shares-getD [] (h ∷ holders) s i = absurd s
-shares-getD (names ∷ named) [] s i = absurd s
-shares-getD (names ∷ named) (h ∷ holders) s zero = s .0
-shares-getD (names ∷ named) (h ∷ holders) s (suc i) = shares-getD named holders (s .1) i
-
-pub shares-nth : (b : Board) → Valid b → (j : ℕ) → T (mayHold (namesOf b j) (holderOf b j))
-shares-nth b v zero = tt
-shares-nth b v (suc i) = shares-getD (b .named) (b .holders) (v .shares) i
-
--- .. and if it names any, by one that it names
-pub held-named : (names : List ℕ) (h y : ℕ) → In y names → T (mayHold names h) → In h names
-held-named [] h y i t = absurd i
-held-named (x ∷ names) h y i t = member-in h (x ∷ names) t
-
--- a standing job's holder is a bench of 1 to B
-pub holder-bench : (b : Board) → Valid b → (j : ℕ) → T (stands b j) → T (within 1 (b .benches) (holderOf b j))
-holder-bench b v j t =
-    let y = some-in (namesOf b j) t in
-    named-bench b v j (holderOf b j) (held-named (namesOf b j) (holderOf b j) (y .0) (y .1) (shares-nth b v j))
-
--- where no job stands the holder is 0
-pub holder-none : (b : Board) → Valid b → (j : ℕ) → namesOf b j ≡ [] → holderOf b j ≡ 0
-holder-none b v j e = let t = shares-nth b v j in T-eqb (holderOf b j) 0 (rw e at t)
 
 -- steps
 

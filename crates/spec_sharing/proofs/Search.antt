@@ -13,7 +13,8 @@ use Rattle.spec_table.specs.Board.{Board, Valid, holderOf}
 use Rattle.spec_sharing.specs.Paths.{Step, stepBy, steps, pathBy, endOf, Walk}
 use Rattle.spec_sharing.specs.Sharing.{arrivalChoice, closingChoice}
 use Rattle.spec_lists.proofs.Counting.{distinct-count, few}
-use Rattle.spec_sharing.proofs.Paths.{named-stands, holder-bench, step-is, step-bench, benchesOf, walk-benches}
+use Rattle.spec_table.proofs.Named.{named-stands, holder-bench}
+use Rattle.spec_sharing.proofs.Paths.{step-is, step-bench, benchesOf, walk-benches}
 use Rattle.spec_sharing.proofs.Walks.{walk-join, end-join, fewest-once}
 use Rattle.spec_sharing.proofs.Distances.{To, Away, StepsWithin, Nearer, Next, Smallest, Greedy, OneOther, greedy-walk, smallest-first, greedy-smallest}
 use Rattle.spec_sharing.proofs.Found.{FirstList, ArrivalEnd, ClosingStart, arrival-found, closing-found}

@@ -15,8 +15,7 @@ use Rattle.spec_lists.proofs.Tests.{cond-le, T-eqb, within-low, within-high, wi
 use Rattle.spec_lists.proofs.Elements.{not-empty, two-elements, each-nth, in-getD, in-nth, nth-within, nth-map, map-update, update-same, in-enumerate, enumerate-nth}
 use Rattle.spec_lists.proofs.NumberLists.{member-in}
 use Rattle.spec_lists.proofs.Counting.{count-none}
-use Rattle.spec_table.proofs.Named.{fit-bench, changed-storable}
-use Rattle.spec_sharing.proofs.Paths.{named-may, holder-bench, stands-within, named-stands, named-bench}
+use Rattle.spec_table.proofs.Named.{fit-bench, changed-storable, named-may, holder-bench, stands-within, named-stands, named-bench}
 use Rattle.spec_sharing.proofs.Flip.{put-valid}
 use Rattle.spec_table.proofs.Layouts.{holds-entry, holder-entry}
 use Rattle.spec_table.proofs.Clauses.{vacant-words}

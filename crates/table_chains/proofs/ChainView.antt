@@ -15,7 +15,7 @@ use Rattle.spec_lists.proofs.Counting.{distinct-count, few, total-tested, count
 use Rattle.spec_table.proofs.Sound.{Ends, standing-word, chain-ends, on-chain}
 use Rattle.spec_table.proofs.ChainEnds.{ends-on, ends-next, ends-distinct}
 use lib.ListN.{length}
-use Rattle.spec_sharing.proofs.Paths.{stands-within, holder-bench}
+use Rattle.spec_table.proofs.Named.{stands-within, holder-bench}
 use Rattle.table_board.proofs.RecordsAsBoard.{holders-long, sound-holds-board, stands-job, stands-held}
 use Rattle.table_size.proofs.Sizes.{heads-long, board-bench}
 use Rattle.table_words.specs.Bytes.{layoutIn}
