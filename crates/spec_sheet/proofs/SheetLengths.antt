@@ -20,7 +20,7 @@ use Rattle.spec_table.proofs.Loads.{benches-most, held-most, load-most}
 use Rattle.spec_table.proofs.Held.{held-length}
 
 -- a number whose digits fit fills its columns ..
-field-length : (w n : ℕ) → length (digits n n) ≤ w → length (field w n) ≡ w
+pub field-length : (w n : ℕ) → length (digits n n) ≤ w → length (field w n) ≡ w
 field-length w n h = simp (length-append, length-replicate) (omega arith)
 
 -- .. as those of a number below the power of ten do
@@ -115,7 +115,7 @@ more-length (suc n) (j ∷ js) e u =
     )
 
 -- .. and so are all lines of jobs
-lines-length : (k : ℕ) (head js : List ℕ) → length head ≡ 8 → Each (λ j. j < 100000) js → length js ≤ k → length (linesOf k head js) ≡ 69 * lineCount (length js)
+pub lines-length : (k : ℕ) (head js : List ℕ) → length head ≡ 8 → Each (λ j. j < 100000) js → length js ≤ k → length (linesOf k head js) ≡ 69 * lineCount (length js)
 lines-length k head js h e u =
     omega (
       arith,
