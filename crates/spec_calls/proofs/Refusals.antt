@@ -4,11 +4,11 @@ use Prim.Native.Nat.{ℕ, _≤_}
 use native.Mathlib.Omega.{arith}
 use mathlib.Core.Path.{_≡_, refl, sym, ap, subst, _∙_}
 use mathlib.Core.Logic.{_⊎_, inl, inr}
-use mathlib.Core.Bool.{Bool, true, false, cond, _&&_, false≢true}
+use mathlib.Core.Bool.{Bool, true, false, cond, false≢true}
 use mathlib.Core.List.{List, [], _∷_, _++_, map}
 use mathlib.Core.Option.{Option, none, some, Option·some-injective, Option·none-ne-some, Option·some-ne-none}
-use lib.Dec.{T, ltb}
-use Rattle.spec_lists.specs.Lists.{range, Each}
+use lib.Dec.{T}
+use Rattle.spec_lists.specs.Lists.{range, rises, Each}
 use Rattle.spec_table.specs.Table.{sound, decode}
 use Rattle.spec_table.specs.Board.{Board}
 use Rattle.spec_lists.proofs.Tests.{not-false}
@@ -43,20 +43,14 @@ conditions-ordered (ask q lent) t = asked q
     asked levelCheck = refl
     asked wallSheet = refl
 
--- each number is below the next
-abbrev rise : List ℕ → Bool
-rise [] = true
-rise (m ∷ []) = true
-rise (m ∷ n ∷ l) = ltb m n && rise (n ∷ l)
-
 -- "Where several apply, the lowest number is returned": in each call's order the numbers rise
-pub order-rises : (c : Call) → T (rise (order c))
+pub order-rises : (c : Call) → T (rises (order c))
 order-rises (arrival a) = tt
 order-rises (closing c) = tt
 order-rises (levelling allowance) = tt
 order-rises (ask q lent) = asked q
   where
-    asked : (q : Question) → T (rise (questionOrder q))
+    asked : (q : Question) → T (rises (questionOrder q))
     asked (loadOf x) = tt
     asked heaviestLoad = tt
     asked (tightSetOf h) = tt

@@ -13,7 +13,7 @@ use borrow.Author.Tests.{eq-eqb, ne-eqb}
 use Rattle.spec_lists.specs.Lists.{bit, within, count, member, distinct, range, total, greatest, filter, Each, In, nth, update}
 use Rattle.spec_lists.proofs.Tests.{true→T, Compared, same, other, compared, within-low, within-high, within-both}
 use Rattle.spec_lists.proofs.Elements.{in-each}
-use Rattle.spec_lists.proofs.NumberLists.{member-in, in-member, distinct-head, distinct-tail, flatMap-next}
+use Rattle.spec_lists.proofs.NumberLists.{member-in, in-member, Member, is-in, not-in, membered, distinct-head, distinct-tail, flatMap-next}
 
 -- bits
 
@@ -38,6 +38,14 @@ pub count-some : (x : ℕ) (l : List ℕ) → In x l → 1 ≤ count x l
 count-some x [] i = absurd i
 count-some x (y ∷ l) (inl e) = omega (arith, bit-same y x (sym e))
 count-some x (y ∷ l) (inr i) = omega (arith, count-some x l i)
+
+-- .. what is counted stands in it ..
+pub counted-in : (x : ℕ) (l : List ℕ) → 1 ≤ count x l → In x l
+counted-in x l h = go (membered x l)
+  where
+    go : {z : Bool} → Member x l z → In x l
+    go (is-in i) = i
+    go (not-in n) = absurd (omega (arith, count-none x l n))
 
 -- .. at most as often as the list is long
 pub count-most : (x : ℕ) (l : List ℕ) → count x l ≤ length l

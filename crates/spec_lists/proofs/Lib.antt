@@ -3,4 +3,5 @@ pub mod Tests
 pub mod Elements
 pub mod NumberLists
 pub mod Counting
+pub mod RisingLists
 pub mod Raising

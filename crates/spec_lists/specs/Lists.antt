@@ -47,6 +47,12 @@ abbrev pub greatest : ℕ → (ℕ → ℕ) → ℕ
 greatest zero f = 0
 greatest (suc n) f = max (greatest n f) (f (suc n))
 
+-- each number is below the next
+abbrev pub rises : List ℕ → Bool
+rises [] = true
+rises (m ∷ []) = true
+rises (m ∷ n ∷ l) = ltb m n && rises (n ∷ l)
+
 -- k is l or comes before it in dictionary order
 abbrev pub lexLe : List ℕ → List ℕ → Bool
 lexLe [] l = true

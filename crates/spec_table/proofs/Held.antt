@@ -8,12 +8,12 @@ use mathlib.Core.Bool.{Bool, true, false, cond}
 use mathlib.Core.List.{List, [], _∷_}
 use lib.Dec.{T, eqb}
 use lib.ListN.{length, getD}
-use Rattle.spec_lists.specs.Lists.{bit, within, count, range, filter, Each, In, nth}
+use Rattle.spec_lists.specs.Lists.{bit, within, count, range, rises, filter, Each, In, nth}
 use Rattle.spec_table.specs.Board.{load, jobsHeld}
 use Rattle.spec_lists.proofs.Tests.{Compared, same, other, compared, within-both}
 use Rattle.spec_lists.proofs.Elements.{in-each, nth-within}
-use Rattle.spec_lists.proofs.NumberLists.{Member, is-in, not-in, membered}
-use Rattle.spec_lists.proofs.Counting.{bit-same, bit-other, count-none, count-some}
+use Rattle.spec_lists.proofs.Counting.{bit-same, bit-other, count-some, counted-in}
+use Rattle.spec_lists.proofs.RisingLists.{rises-range, rises-filter}
 
 -- a bench holds as many jobs as its load
 pub held-length : (i x : ℕ) (holders : List ℕ) → length (jobsHeld i x holders) ≡ load holders x
@@ -38,6 +38,12 @@ held-filter f i x (h ∷ holders) g =
 -- "a bench's jobs stand in rising order": of the job numbers, which rise, those that it holds
 pub held-rising : (x : ℕ) (holders : List ℕ) → jobsHeld 1 x holders ≡ filter (λ j. eqb (nth holders j 0) x) (range 1 (length holders))
 held-rising x holders = held-filter (λ j. nth holders j 0) 1 x holders (λ k l. let e : suc k ≡ 1 + k = omega arith in ap (λ j. nth holders j 0) e)
+
+-- so they rise
+pub held-rises : (x : ℕ) (holders : List ℕ) → T (rises (jobsHeld 1 x holders))
+held-rises x holders =
+    let r = rises-filter (λ j. eqb (nth holders j 0) x) (range 1 (length holders)) (rises-range 1 (length holders)) in
+    rw (held-rising x holders) r
 
 -- another number in front, put there or not, changes no count
 pub count-later : (z : Bool) (i j : ℕ) (l : List ℕ) → (i ≡ j → ⊥) → count j (cond z (i ∷ l) l) ≡ count j l
@@ -85,11 +91,7 @@ held-exact j x holders l = (forth, back)
         go (other n) d = absurd (omega (arith, count-some j js i))
 
     back : nth holders j 0 ≡ x → In j js
-    back e = go (membered j js)
-      where
-        go : {z : Bool} → Member j js z → In j js
-        go (is-in i) = i
-        go (not-in n) = absurd (omega (arith, held-once j x holders l, bit-same (nth holders j 0) x e, count-none j js n))
+    back e = counted-in j js (omega (arith, held-once j x holders l, bit-same (nth holders j 0) x e))
 
 -- .. so their numbers are 1 to J
 pub held-within : (x : ℕ) (holders : List ℕ) → 1 ≤ x → Each (λ j. T (within 1 (length holders) j)) (jobsHeld 1 x holders)

@@ -10,3 +10,5 @@ pub mod Sound
 pub mod ChainEnds
 pub mod Layouts
 pub mod Encode
+pub mod AnyOrder
+pub mod RisingChains

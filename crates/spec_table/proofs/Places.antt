@@ -2,15 +2,16 @@
 use Prim.Native.Nat.{ℕ, zero, suc, _+_, _*_, _/_, _%_, _≤_, _<_}
 use native.Mathlib.Omega.{arith}
 use native.Mathlib.Nat.{add-assoc}
-use mathlib.Core.Path.{_≡_, refl, ap, _∙_}
+use mathlib.Core.Path.{_≡_, refl, sym, ap, _∙_}
 use mathlib.Core.Bool.{false}
 use mathlib.Core.List.{List, [], _∷_}
 use lib.Dec.{T, eqb, leb}
 use lib.ListN.{length, getD, drop, length-take, length-drop}
 use lib.Seq.{getD-take, getD-drop}
 use Rattle.spec_lists.specs.Lists.{within, nth}
-use Rattle.spec_table.specs.Table.{words, lengthFor, mostBenches, mostJobs, sizesFit, Entry, vacant, entriesIn, layout, fits}
+use Rattle.spec_table.specs.Table.{words, bytesOf, lengthFor, mostBenches, mostJobs, sizesFit, Entry, vacant, entriesIn, layout, fits, flat}
 use Rattle.spec_lists.proofs.Tests.{never→false, five, T-eqb, T-leb}
+use Rattle.spec_table.proofs.Words.{bytesOf-words, flat-layout}
 
 -- the table's places
 
@@ -131,3 +132,9 @@ unfolding layout
 fits-entries t f =
     let b = getD (words t) 0 0 in
     entriesIn-length (getD (words t) 1 0) (drop (4 + b) (words t)) (omega (arith, fits-length t f, length-words t, length-drop (4 + b) (words t)))
+
+-- a table that fits is its layout, written out: the layout fixes every byte
+pub layout-bytes : (t : List ℕ) → T (fits t) → ((i : ℕ) → getD t i 0 < 256) → t ≡ bytesOf (flat (layout (words t)))
+layout-bytes t f b =
+    let l = layout (words t) in
+    sym (bytesOf-words t ((fits-sized t f) .even) b) ∙ ap bytesOf (sym (flat-layout (words t) (l .jobs) (omega (arith, fits-length t f, length-words t))))

@@ -5,17 +5,18 @@ use native.Mathlib.Decide.{decLe}
 use mathlib.Core.Path.{_≡_, refl, sym, ap, _∙_, subst}
 use mathlib.Core.Logic.{_⊎_, inl, inr, _≢_, _↔_}
 use mathlib.Core.Bool.{Bool, true, false, cond, not, _||_}
-use mathlib.Core.List.{List, [], _∷_, map}
+use mathlib.Core.List.{List, [], _∷_, _++_, map}
 use lib.Dec.{T, eqb}
 use lib.ListN.{length, getD, drop, length-map, List·getD-eq-default}
+use borrow.Author.Tests.{ne-eqb}
 use Rattle.spec_lists.specs.Lists.{filter, bit, within, count, Each, In, empty, nth, enumerate}
-use Rattle.spec_table.specs.Board.{holderOf, stands, standing, Shares, mayHold, namesFit}
-use Rattle.spec_table.specs.Table.{paired, words, mostJobs, Entry, vacant, filled, holderIn, Layout, entriesIn, layout, follow, chains, entryFits, placed, fits, sound, boardOf, decode, entryWords, Storable}
-use Rattle.spec_lists.proofs.Tests.{true→T, both, left, right, or-right, Compared, same, other, compared, T-eqb, eqb-T, within-low, within-high}
-use Rattle.spec_lists.proofs.Elements.{two-elements, in-right, all-in, each-in, each-nth, in-getD, in-nth, in-enumerate, in-enumerate-nth, enumerate-nth, in-map, nth-map, each-map}
+use Rattle.spec_table.specs.Board.{namesOf, holderOf, stands, standing, Shares, mayHold, namesFit, Valid}
+use Rattle.spec_table.specs.Table.{paired, words, mostJobs, Entry, vacant, filled, holderIn, Layout, entriesIn, layout, follow, chains, entryFits, placed, fits, sound, boardOf, decode, positionOf, entryWords, Storable}
+use Rattle.spec_lists.proofs.Tests.{true→T, both, left, right, or-right, Compared, same, other, compared, eqb-refl, T-eqb, eqb-T, within-low, within-high, within-both}
+use Rattle.spec_lists.proofs.Elements.{two-elements, in-right, all-in, each-in, each-nth, in-getD, in-nth, nth-within, in-enumerate, in-enumerate-nth, enumerate-nth, in-map, nth-map, each-map}
 use Rattle.spec_lists.proofs.NumberLists.{in-member, Member, is-in, not-in, membered}
-use Rattle.spec_table.proofs.Named.{pair-fits}
-use Rattle.spec_lists.proofs.Counting.{bit-le, bit-same, bit-other, count-none, count-some, few, filter-counts}
+use Rattle.spec_table.proofs.Named.{pair-fits, holder-bench}
+use Rattle.spec_lists.proofs.Counting.{bit-le, bit-same, bit-other, count-none, count-some, counted-in, few, filter-counts}
 use Rattle.spec_table.proofs.Places.{Sized, fits-sized, fits-heads, fits-entries}
 use Rattle.spec_table.proofs.Clauses.{vacant-words, filled-in, filled-each, Formed, sound-fits, sound-formed}
 
@@ -169,6 +170,14 @@ holder-within benches e r = go (r .holder)
     go (inl q) = rw (r .names, q) (r .first-bench)
     go (inr q) = rw (r .names, q) (r .second-bench)
 
+-- its holder word is the place of its holder among the two, for they differ
+pub holder-place : (benches : ℕ) (e : Entry) → TwoBenches benches e → e .holder ≡ positionOf (holderIn e) (e .names)
+holder-place benches e r = go (r .holder)
+  where
+    go : (e .holder ≡ 1) ⊎ (e .holder ≡ 2) → e .holder ≡ positionOf (holderIn e) (e .names)
+    go (inl q) = rw (r .names, q, eqb-refl (r .first))
+    go (inr q) = rw (r .names, q, ne-eqb (r .first) (r .second) (r .apart), eqb-refl (r .second))
+
 -- every standing job of a sound table has "two different benches of 1 to B and holder 1 or 2"
 pub standing-record : (t : List ℕ) → T (sound t) → (e : Entry) → In e ((layout (words t)) .entries) → T (filled e) → TwoBenches ((layout (words t)) .benches) e
 standing-record t s e i f =
@@ -215,7 +224,7 @@ enumerate-placed cs j h p s i =
     T-eqb (count j (s .1)) (bit (eqb (s .0) h)) (all-in (λ c. eqb (count j (c .1)) (bit (eqb (c .0) h))) s (enumerate 1 cs) p i)
 
 -- .. and on chain x
-count-placed : (cs : List (List ℕ)) (j h x : ℕ) → T (placed cs j h) → 1 ≤ x → x ≤ length cs → count j (nth cs x []) ≡ bit (eqb x h)
+pub count-placed : (cs : List (List ℕ)) (j h x : ℕ) → T (placed cs j h) → 1 ≤ x → x ≤ length cs → count j (nth cs x []) ≡ bit (eqb x h)
 count-placed cs j h x p l u = enumerate-placed cs j h p (x, nth cs x []) (in-enumerate-nth x cs [] l u)
 
 -- a table that fits has a chain for each bench
@@ -268,15 +277,20 @@ pub own-few : (es : List Entry) (x : ℕ) (c : List ℕ) → ((j : ℕ) → coun
 own-few es x c own stand =
     few (length es) c (λ j. omega (arith, own j, bit-le (eqb x (holderIn (nth es j vacant))))) (filled-each es c stand)
 
--- a sound table's chains all end, after at most J jobs: a chain that returns to itself is found unsound
+-- so a sound table's chain has at most J jobs ..
+pub chain-few : (t : List ℕ) → T (sound t) → (c : List ℕ) → In c (chains (layout (words t))) → length c ≤ (layout (words t)) .jobs
+chain-few t s c on =
+    let l = layout (words t) in
+    let f = sound-formed t s in
+    let r = in-enumerate 1 c (chains l) on in
+    omega (arith, own-few (l .entries) (r .0) c (formed-own l f (r .0, c) (r .1)) (f .only c on), fits-entries t (sound-fits t s))
+
+-- .. and ends after them: a chain that returns to itself is found unsound
 pub chain-ends : (t : List ℕ) → T (sound t) → (h : ℕ) → In h ((layout (words t)) .heads) → Ends ((layout (words t)) .entries) ((layout (words t)) .jobs) h
 chain-ends t s h i =
     let l = layout (words t) in
-    let f = sound-formed t s in
     let c = follow (l .entries) (suc (l .jobs)) h in
-    let on : In c (chains l) = in-map (follow (l .entries) (suc (l .jobs))) h (l .heads) i in
-    let r = in-enumerate 1 c (chains l) on in
-    short-ends (l .entries) (l .jobs) h (omega (arith, own-few (l .entries) (r .0) c (formed-own l f (r .0, c) (r .1)) (f .only c on), fits-entries t (sound-fits t s)))
+    short-ends (l .entries) (l .jobs) h (chain-few t s c (in-map (follow (l .entries) (suc (l .jobs))) h (l .heads) i))
 
 -- the board's jobs by their records
 
@@ -285,17 +299,59 @@ pub holder-record : (t : List ℕ) (j : ℕ) → holderOf (decode t) j ≡ holde
 unfolding decode boardOf
 holder-record t j = nth-map holderIn ((layout (words t)) .entries) j vacant
 
--- a job stands on a sound table's board exactly if its record is filled
-pub stands-record : (t : List ℕ) → T (sound t) → (j : ℕ) → stands (decode t) j ≡ filled (nth ((layout (words t)) .entries) j vacant)
+-- the benches it names are those of its record
+pub names-record : (t : List ℕ) (j : ℕ) → namesOf (decode t) j ≡ namesIn (nth ((layout (words t)) .entries) j vacant)
 unfolding decode boardOf
-stands-record t s j =
-    let es = (layout (words t)) .entries in
-    ap (λ (n : List ℕ). not (empty n)) (nth-map namesIn es j vacant) ∙ named-filled (nth es j vacant) (each-nth (λ (e : Entry). length (e .names) ≡ 2) es j vacant refl (layout-pairs (words t)))
+names-record t j = nth-map namesIn ((layout (words t)) .entries) j vacant
+
+-- every record has two words for benches
+pub record-pair : (t : List ℕ) (j : ℕ) → length ((nth ((layout (words t)) .entries) j vacant) .names) ≡ 2
+record-pair t j = each-nth (λ (e : Entry). length (e .names) ≡ 2) ((layout (words t)) .entries) j vacant refl (layout-pairs (words t))
+
+-- a job stands on a table's board exactly if its record is filled
+pub stands-record : (t : List ℕ) (j : ℕ) → stands (decode t) j ≡ filled (nth ((layout (words t)) .entries) j vacant)
+stands-record t j = ap (λ (n : List ℕ). not (empty n)) (names-record t j) ∙ named-filled (nth ((layout (words t)) .entries) j vacant) (record-pair t j)
+
+-- "A job number that is not standing has four zero words"
+zero-vacant : (e : Entry) → length (e .names) ≡ 2 → Each (λ w. w ≡ 0) (entryWords e) → e ≡ vacant
+zero-vacant e two z =
+    let n = two-elements (e .names) two in
+    let w : Each (λ w. w ≡ 0) ((n .0 ∷ n .1 ∷ []) ++ (e .holder ∷ e .next ∷ [])) = rw (n .2) at z in
+    let names : e .names ≡ 0 ∷ 0 ∷ [] = n .2 ∙ (λ i. w .0 i ∷ w .1 .0 i ∷ []) in
+    λ i. record { names = names i; holder = w .1 .1 .0 i; next = w .1 .1 .1 .0 i }
+
+-- a standing job's record: it is filled, and names two benches
+pub record Standing (benches : ℕ) (e : Entry) : Type 0 where
+  pub is-filled : filled e ≡ true
+  pub benches-two : TwoBenches benches e
+
+-- where a table has a board, whatever its chains are, each record that is filled fits ..
+pub stored-fits : (t : List ℕ) → Valid (decode t) → (j : ℕ) → filled (nth ((layout (words t)) .entries) j vacant) ≡ true → T (entryFits ((layout (words t)) .benches) (nth ((layout (words t)) .entries) j vacant))
+unfolding decode boardOf
+stored-fits t v j q =
+    let b = decode t in
+    let e = nth ((layout (words t)) .entries) j vacant in
+    let named : namesOf b j ≡ e .names = names-record t j ∙ ap (λ z. cond z (e .names) []) q in
+    let fit = each-nth (λ names. T (namesFit (b .benches) names)) (b .named) j [] tt (v .names) in
+    let bench = holder-bench b v j (true→T (stands b j) (stands-record t j ∙ q)) in
+    let place = nth-within (e .names) (e .holder) 0 (λ d. omega (arith, within-low 1 (b .benches) (holderOf b j) bench, holder-record t j)) in
+    (entry-tests (b .benches) e) .1 (rw named at fit, within-both 1 (length (e .names)) (e .holder) (place .0) (place .1))
+
+-- .. and a record is no job's, all words zero, or a standing job's
+pub stored-record : (t : List ℕ) → Valid (decode t) → (j : ℕ) → (nth ((layout (words t)) .entries) j vacant ≡ vacant) ⊎ Standing ((layout (words t)) .benches) (nth ((layout (words t)) .entries) j vacant)
+stored-record t v j = go (filled e) refl
+  where
+    e : Entry
+    e = nth ((layout (words t)) .entries) j vacant
+
+    go : (z : Bool) → filled e ≡ z → (e ≡ vacant) ⊎ Standing ((layout (words t)) .benches) e
+    go true q = inr (record { is-filled = q; benches-two = two-benches ((layout (words t)) .benches) e (record-pair t j) (stored-fits t v j q) })
+    go false q = inl (zero-vacant e (record-pair t j) (vacant-words e q))
 
 -- a job is on bench x's chain exactly if it stands and x holds it
 pub on-chain : (t : List ℕ) → T (sound t) → (j x : ℕ) → 1 ≤ x → x ≤ (decode t) .benches → In j (nth (chains (layout (words t))) x []) ↔ (T (stands (decode t) j) × (holderOf (decode t) j ≡ x))
 unfolding decode boardOf
-on-chain t s j x low high = (λ i. let f = filled-on i in (rw (stands-record t s j) f, holder-record t j ∙ held f i (compared x h)), λ p. there p (membered j c))
+on-chain t s j x low high = (λ i. let f = filled-on i in (rw (stands-record t j) f, holder-record t j ∙ held f i (compared x h)), there)
   where
     l : Layout
     l = layout (words t)
@@ -316,9 +372,8 @@ on-chain t s j x low high = (λ i. let f = filled-on i in (rw (stands-record t s
     held f i (same q) = sym q
     held f i (other d) = absurd (omega (arith, other-chain t s j x f d, count-some j c i))
 
-    there : T (stands (decode t) j) × (holderOf (decode t) j ≡ x) → {z : Bool} → Member j c z → In j c
-    there p (is-in i) = i
-    there p (not-in n) =
+    there : T (stands (decode t) j) × (holderOf (decode t) j ≡ x) → In j c
+    there p =
         let q : h ≡ x = sym (holder-record t j) ∙ p .1 in
-        let one = subst (λ (y : ℕ). count j (nth (chains l) y []) ≡ 1) q (own-chain t s j (subst T (stands-record t s j) (p .0))) in
-        absurd (omega (arith, count-none j c n, one))
+        let one = subst (λ (y : ℕ). count j (nth (chains l) y []) ≡ 1) q (own-chain t s j (subst T (stands-record t j) (p .0))) in
+        counted-in j c (omega (arith, one))

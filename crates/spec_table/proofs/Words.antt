@@ -1,12 +1,13 @@
 -- Words and bytes: what is written reads back, a board's words fit its table, and a blanked table is the board without jobs.
-use Prim.Native.Nat.{ℕ, suc, _+_, _*_, _/_, _%_, _≤_, _<_}
+use Prim.Native.Nat.{ℕ, zero, suc, _+_, _*_, _/_, _%_, _≤_, _<_}
 use native.Mathlib.Omega.{arith}
+use native.Mathlib.Nat.{mod-eq-of-lt}
 use mathlib.Core.Path.{_≡_, refl, sym, ap, _∙_}
 use mathlib.Core.Bool.{not}
 use mathlib.Core.List.{List, [], _∷_, _++_, map, flatMap, append-nil}
 use lib.Dec.{T, eqb, leb}
-use lib.ListN.{length, take, drop, length-append}
-use lib.Seq.{take-at, drop-at}
+use lib.ListN.{length, getD, take, drop, length-append, length-drop, take-append-drop}
+use lib.Seq.{take-at, drop-at, drop-append-add}
 use Rattle.spec_lists.specs.Lists.{within, range, Each, empty}
 use Rattle.spec_table.specs.Board.{Board, Shares, namesFit}
 use Rattle.spec_table.specs.Table.{paired, words, bytesOf, mostBenches, mostJobs, lengthFor, sizesFit, Entry, Layout, entriesIn, layout, fits, firstHeld, positionOf, entryFor, entriesFrom, layoutOf, entryWords, flat, encode, Storable}
@@ -36,6 +37,18 @@ length-bytesOf (w ∷ ws) = omega (arith, length-bytesOf ws)
 pub bytesOf-bytes : (ws : List ℕ) → Each (λ y. y < 256) (bytesOf ws)
 bytesOf-bytes [] = tt
 bytesOf-bytes (w ∷ ws) = (omega arith, (omega arith, bytesOf-bytes ws))
+
+-- bytes are the bytes of their words
+pub bytesOf-words : (t : List ℕ) → length t % 2 ≡ 0 → ((i : ℕ) → getD t i 0 < 256) → bytesOf (words t) ≡ t
+bytesOf-words [] e b = refl
+bytesOf-words (x ∷ []) e b = absurd (omega arith)
+bytesOf-words (x ∷ y ∷ t) e b =
+    let low : x < 256 = b 0 in
+    let high : y < 256 = b 1 in
+    let p : (x + 256 * y) % 256 ≡ x = omega arith in
+    let d : (x + 256 * y) / 256 ≡ y = omega arith in
+    let q : (x + 256 * y) / 256 % 256 ≡ y = rw d (mod-eq-of-lt high) in
+    rw (p, q, bytesOf-words t (omega arith) (λ i. b (suc (suc i))))
 
 -- layouts
 
@@ -82,6 +95,27 @@ layout-flat l r = λ i. record { benches = l .benches; jobs = l .jobs; standing 
 pub length-flat : (l : Layout) → WellSized l → length (flat l) ≡ 4 + l .benches + 4 * length (l .entries)
 unfolding flat
 length-flat l r = omega (arith, length-entryWords (l .entries) (r .entries), length-append (l .heads) (flatMap entryWords (l .entries)))
+
+-- four words a record, and none left over
+entriesIn-all : (n : ℕ) (ws : List ℕ) → length ws ≡ 4 * n → flatMap entryWords (entriesIn ws) ≡ ws
+unfolding flatMap
+entriesIn-all n [] e = refl
+entriesIn-all n (a ∷ []) e = absurd (omega arith)
+entriesIn-all n (a ∷ b ∷ []) e = absurd (omega arith)
+entriesIn-all n (a ∷ b ∷ h ∷ []) e = absurd (omega arith)
+entriesIn-all zero (a ∷ b ∷ h ∷ m ∷ ws) e = absurd (omega arith)
+entriesIn-all (suc n) (a ∷ b ∷ h ∷ m ∷ ws) e = ap (λ (l : List ℕ). a ∷ b ∷ h ∷ m ∷ l) (entriesIn-all n ws (omega arith))
+
+-- and 4 + B + 4 × J words are those of their layout
+pub flat-layout : (ws : List ℕ) (jobs : ℕ) → length ws ≡ 4 + (layout ws) .benches + 4 * jobs → flat (layout ws) ≡ ws
+unfolding layout flat
+flat-layout [] jobs e = absurd (omega arith)
+flat-layout (a ∷ []) jobs e = absurd (omega arith)
+flat-layout (a ∷ b ∷ []) jobs e = absurd (omega arith)
+flat-layout (a ∷ b ∷ c ∷ []) jobs e = absurd (omega arith)
+flat-layout (a ∷ b ∷ c ∷ d ∷ ws) jobs e =
+    let r : flatMap entryWords (entriesIn (drop a ws)) ≡ drop a ws = entriesIn-all jobs (drop a ws) (omega (arith, length-drop a ws)) in
+    rw (drop-append-add (a ∷ b ∷ c ∷ d ∷ []) ws a, r, take-append-drop a ws)
 
 -- the layout of a board
 

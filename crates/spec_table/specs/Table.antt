@@ -1,11 +1,12 @@
 -- 01, "The table": words, sizes, records, chains, the sound table; the board that a table holds, and the table of a
 -- board.
-use Prim.Native.Nat.{ℕ, zero, suc, _+_, _*_, _/_, _%_}
+use Prim.Native.Nat.{ℕ, zero, suc, _+_, _*_, _/_, _%_, _<_}
+use mathlib.Core.Path.{_≡_}
 use mathlib.Core.Bool.{Bool, cond, not, _&&_, _||_}
 use mathlib.Core.List.{List, [], _∷_, _++_, map, flatMap}
 use lib.Dec.{T, eqb, leb}
 use lib.ListN.{length, getD, take, drop, replicate}
-use Rattle.spec_lists.specs.Lists.{bit, within, count, range, filter, all, Each, empty, nth, enumerate}
+use Rattle.spec_lists.specs.Lists.{bit, within, count, range, rises, filter, all, Each, empty, nth, enumerate}
 use Rattle.spec_table.specs.Board.{Board, Valid, namesFit, standing}
 
 -- "A word is 16 bits, two bytes, low byte first"
@@ -195,6 +196,18 @@ encode b = bytesOf (flat (layoutOf b))
 -- "Blanking writes the B and J it is given into words 0 and 1 and zero into all others"
 unfoldable pub blankTable : ℕ → ℕ → List ℕ
 blankTable benches jobs = bytesOf (benches ∷ jobs ∷ replicate (2 + benches + 4 * jobs) 0)
+
+-- 02: a table with "all its chains rising"
+unfoldable pub allRise : List ℕ → Bool
+allRise t = all rises (chains (layout (words t)))
+
+-- 02: u is the table t "in another order": as long, with the same words 0 to 3, benches, jobs and holders, and on each
+-- bench's chain the same jobs
+pub record Reordered (t u : List ℕ) : Type 0 where
+  pub long : length u ≡ length t
+  pub header : (i : ℕ) → i < 4 → getD (words u) i 0 ≡ getD (words t) i 0
+  pub board : decode u ≡ decode t
+  pub onChains : (x j : ℕ) → count j (nth (chains (layout (words u))) x []) ≡ count j (nth (chains (layout (words t))) x [])
 
 -- no job, or a job that names two benches, as a record holds it
 abbrev pub paired : List ℕ → Bool

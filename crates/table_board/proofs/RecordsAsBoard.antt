@@ -4,22 +4,21 @@ use native.Mathlib.Omega.{arith}
 use mathlib.Core.Path.{_≡_, refl, sym, ap, _∙_, subst}
 use mathlib.Core.Logic.{_⊎_, inl, inr, _≢_}
 use mathlib.Core.Bool.{Bool, true, false, cond, not}
-use mathlib.Core.List.{List, [], _∷_, _++_}
+use mathlib.Core.List.{List, [], _∷_}
 use lib.Dec.{T, eqb}
 use lib.ListN.{length, getD, length-map}
 use borrow.Author.Tests.{eq-eqb, ne-eqb}
-use Rattle.spec_lists.specs.Lists.{member, Each, In, empty, nth, update}
+use Rattle.spec_lists.specs.Lists.{member, In, empty, nth, update}
 use Rattle.spec_table.specs.Board.{Board, namesOf, holderOf, stands, put, load, heldBy, mayHold, namesFit}
-use Rattle.spec_table.specs.Table.{words, Entry, vacant, filled, holderIn, entryWords, positionOf, entryFor, boardOf, decode, paired, entryFits, Storable}
-use Rattle.spec_lists.proofs.Tests.{cond-le, T-eqb, within-low, within-high, within-both}
-use Rattle.spec_lists.proofs.Elements.{not-empty, two-elements, each-nth, in-getD, in-nth, nth-within, nth-map, map-update, update-same, in-enumerate, enumerate-nth}
+use Rattle.spec_table.specs.Table.{Entry, vacant, filled, holderIn, positionOf, entryFor, boardOf, decode, paired, Storable}
+use Rattle.spec_lists.proofs.Tests.{cond-le, T-eqb, within-high}
+use Rattle.spec_lists.proofs.Elements.{two-elements, each-nth, in-getD, in-nth, map-update, update-same, in-enumerate, enumerate-nth}
 use Rattle.spec_lists.proofs.NumberLists.{member-in}
 use Rattle.spec_lists.proofs.Counting.{count-none}
-use Rattle.spec_table.proofs.Named.{fit-bench, changed-storable, named-may, holder-bench, stands-within, named-stands, named-bench}
+use Rattle.spec_table.proofs.Named.{fit-bench, changed-storable, named-may, stands-within, named-stands, named-bench}
 use Rattle.spec_sharing.proofs.Flip.{put-valid}
 use Rattle.spec_table.proofs.Layouts.{holds-entry, holder-entry}
-use Rattle.spec_table.proofs.Clauses.{vacant-words}
-use Rattle.spec_table.proofs.Sound.{namesIn, two-paired, entry-tests, layout-pairs, TwoBenches, two-benches, holder-within, holder-record}
+use Rattle.spec_table.proofs.Sound.{namesIn, two-paired, holder-within, holder-record, record-pair, names-record, Standing, stored-record}
 use Rattle.table_words.specs.Bytes.{layoutIn}
 use Rattle.table_size.specs.Sizes.{Limits, JobIn, SoundTable, SizeOf}
 use Rattle.table_size.specs.Written.{recordIn, withHolder, withEntry, HasLayout}
@@ -53,15 +52,6 @@ name-of t s j k x z l e =
 
 -- one record
 
--- every record has two words for benches
-record-pair : (t : List ℕ) (j : ℕ) → length ((recordIn t j) .names) ≡ 2
-record-pair t j = each-nth (λ (e : Entry). length (e .names) ≡ 2) ((layoutIn t) .entries) j vacant refl (layout-pairs (words t))
-
--- what the board says of job j is what its record says
-pub names-record : (t : List ℕ) (j : ℕ) → let e = nth ((layoutIn t) .entries) j vacant in namesOf (decode t) j ≡ cond (filled e) (e .names) []
-unfolding decode boardOf
-names-record t j = nth-map namesIn ((layoutIn t) .entries) j vacant
-
 -- a job that names a bench names those of its record
 named-record : (t : List ℕ) (j x : ℕ) → In x (namesOf (decode t) j) → namesOf (decode t) j ≡ (recordIn t j) .names
 named-record t j x i = go (filled (recordIn t j)) (names-record t j)
@@ -77,42 +67,9 @@ names-fit t s j k =
     let f = each-nth (λ names. T (namesFit (b .benches) names)) (b .named) j [] tt (k .storable .valid .names) in
     rw (k .size .board-benches) at f
 
--- "A job number that is not standing has four zero words"
-zero-vacant : (e : Entry) → length (e .names) ≡ 2 → Each (λ w. w ≡ 0) (entryWords e) → e ≡ vacant
-zero-vacant e two z =
-    let n = two-elements (e .names) two in
-    let w : Each (λ w. w ≡ 0) ((n .0 ∷ n .1 ∷ []) ++ (e .holder ∷ e .next ∷ [])) = rw (n .2) at z in
-    let names : e .names ≡ 0 ∷ 0 ∷ [] = n .2 ∙ (λ i. w .0 i ∷ w .1 .0 i ∷ []) in
-    λ i. record { names = names i; holder = w .1 .1 .0 i; next = w .1 .1 .1 .0 i }
-
--- a standing job's record: it is filled, and names two benches
-pub record Standing (benches : ℕ) (e : Entry) : Type 0 where
-  pub is-filled : filled e ≡ true
-  pub benches-two : TwoBenches benches e
-
 -- a record of a board that is kept: no job's, all words zero, or a standing job's
 pub holds-record : (t : List ℕ) (s : Size) (j : ℕ) → HoldsBoard t s → (nth ((layoutIn t) .entries) j vacant ≡ vacant) ⊎ Standing (s .benches) (nth ((layoutIn t) .entries) j vacant)
-holds-record t s j k = go (filled e) refl
-  where
-    b : Board
-    b = decode t
-
-    e : Entry
-    e = recordIn t j
-
-    fits : namesOf b j ≡ e .names → T (entryFits (s .benches) e)
-    fits named =
-        let fit = names-fit t s j k in
-        let stood : T (stands b j) = rw named (not-empty (e .names) (λ d. omega (arith, record-pair t j, ap length d))) in
-        let bench = holder-bench b (k .storable .valid) j stood in
-        let place = nth-within (e .names) (e .holder) 0 (λ d. omega (arith, within-low 1 (b .benches) (holderOf b j) bench, holder-record t j)) in
-        (entry-tests (s .benches) e) .1 (rw named at fit, within-both 1 (length (e .names)) (e .holder) (place .0) (place .1))
-
-    go : (z : Bool) → filled e ≡ z → (e ≡ vacant) ⊎ Standing (s .benches) e
-    go true q =
-        let named = names-record t j ∙ ap (λ z. cond z (e .names) []) q in
-        inr (record { is-filled = q; benches-two = two-benches (s .benches) e (record-pair t j) (fits named) })
-    go false q = inl (zero-vacant e (record-pair t j) (vacant-words e q))
+holds-record t s j k = rw (sym (k .size .benches)) (stored-record t (k .storable .valid) j)
 
 -- one job
 

@@ -11,12 +11,12 @@ use lib.Seq.{length-take-le, take-length, drop-length, take-suc, drop-cons, appe
 use borrow.Author.Tests.{ne-eqb}
 use Rattle.spec_lists.specs.Lists.{bit, range, filter, empty, nth, update}
 use Rattle.spec_table.specs.Board.{Board, namesOf, holderOf, standing, stands}
-use Rattle.spec_table.specs.Table.{Entry, vacant, filled, holderIn, Layout, layoutOf, boardOf, decode, encode, firstHeld, positionOf, entryFor, entriesFrom, bytesOf, flat, Storable}
-use Rattle.spec_lists.proofs.Tests.{eqb-refl}
+use Rattle.spec_table.specs.Table.{Entry, vacant, filled, holderIn, Layout, layoutOf, boardOf, decode, encode, firstHeld, entryFor, entriesFrom, bytesOf, flat, Storable}
 use Rattle.spec_lists.proofs.Elements.{length-filter}
 use Rattle.spec_lists.proofs.NumberLists.{nth-range, values-replicate, update-range}
 use Rattle.spec_lists.proofs.Counting.{filter-counts}
-use Rattle.spec_table.proofs.Sound.{namesIn, TwoBenches, holder-within, holder-record}
+use Rattle.spec_table.proofs.Places.{layout-bytes}
+use Rattle.spec_table.proofs.Sound.{namesIn, TwoBenches, holder-within, holder-place, Standing, holder-record}
 use Rattle.spec_table.proofs.Encode.{encode-sound, decode-encode}
 use Rattle.table_words.specs.Bytes.{layoutIn}
 use Rattle.table_size.specs.Sizes.{SizeOf, JobIn, BenchIn}
@@ -24,20 +24,11 @@ use Rattle.table_size.specs.Written.{HeadOf, withHead, withEntry, withStanding,
 use Rattle.table_board.specs.BoardView.{HoldsBoard, HolderOf}
 use Rattle.table_chains.specs.Chains.{ChainsRebuilt, pushAt, pushFor, pushed, pushedFrom, Pushed, Linked}
 use Rattle.table_size.specs.declared.Size.{Size}
-use Rattle.table_words.proofs.Bytes.{bytesOf-words}
 use Rattle.table_size.proofs.Sizes.{entries-long}
-use Rattle.table_size.proofs.Written.{withBoth, flat-table}
-use Rattle.table_board.proofs.RecordsAsBoard.{Standing, holds-record, stands-held}
+use Rattle.table_size.proofs.Written.{withBoth}
+use Rattle.table_board.proofs.RecordsAsBoard.{holds-record, stands-held}
 
 -- a standing job's record: "two different benches of 1 to B and holder 1 or 2"
-
--- its holder word is the place of its holder among the two, for they differ
-holder-place : (benches : ℕ) (e : Entry) → TwoBenches benches e → e .holder ≡ positionOf (holderIn e) (e .names)
-holder-place benches e r = go (r .holder)
-  where
-    go : (e .holder ≡ 1) ⊎ (e .holder ≡ 2) → e .holder ≡ positionOf (holderIn e) (e .names)
-    go (inl q) = rw (r .names, q, eqb-refl (r .first))
-    go (inr q) = rw (r .names, q, ne-eqb (r .first) (r .second) (r .apart), eqb-refl (r .second))
 
 -- with another next job it is a standing job's too
 filled-next : (benches : ℕ) (e : Entry) (n : ℕ) → TwoBenches benches e → filled (withNext e n) ≡ true
@@ -300,7 +291,7 @@ pub rebuild-bytes : (t u : List ℕ) (s : Size) → HoldsBoard t s → SizeOf u 
 unfolding encode
 rebuild-bytes t u s k z b l =
     let bytes : u ≡ encode (decode t) =
-    sym (bytesOf-words u (omega (arith, z .long)) b) ∙ ap bytesOf (sym (flat-table u s z)) ∙ ap (λ (m : Layout). bytesOf (flat m)) l in
+    layout-bytes u (z .fit) b ∙ ap (λ (m : Layout). bytesOf (flat m)) l in
     let board : decode u ≡ decode t = ap decode bytes ∙ decode-encode (decode t) (k .storable) in
     record {
       bytes = bytes;

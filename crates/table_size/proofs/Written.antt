@@ -3,11 +3,11 @@ use Prim.Native.Nat.{ℕ, zero, suc, _+_, _-_, _*_, _≤_, _<_}
 use native.Mathlib.Omega.{arith}
 use mathlib.Core.Path.{_≡_, refl, sym, ap, _∙_, subst}
 use mathlib.Core.Logic.{_⊎_, ⊎-elim}
-use mathlib.Core.List.{List, [], _∷_, _++_, flatMap}
-use lib.ListN.{length, getD, set, take, drop, replicate, length-append, length-take, length-drop, length-replicate, take-append-drop}
+use mathlib.Core.List.{List, [], _∷_, _++_}
+use lib.ListN.{length, getD, set, take, drop, replicate, length-append, length-take, length-drop, length-replicate}
 use lib.Seq.{take-set-le, take-set-lt, drop-set-lt, drop-set-add, getD-set-other, take-at, drop-at, drop-append-add}
 use Rattle.spec_lists.specs.Lists.{nth, update}
-use Rattle.spec_table.specs.Table.{words, Entry, vacant, holderIn, entriesIn, entryWords, Layout, layout, flat}
+use Rattle.spec_table.specs.Table.{words, Entry, vacant, holderIn, entriesIn, Layout, layout}
 use Rattle.spec_lists.proofs.Elements.{nth-update-same, update-again, each-replicate}
 use Rattle.spec_table.proofs.Words.{words-append}
 use Rattle.spec_table.proofs.Places.{two-more, length-words, entryFrom, head-at, entry-at}
@@ -212,33 +212,6 @@ has-layout-cleared t s z =
     let l : layoutIn u ≡ cleared (layoutIn t) = rw (ws, f) c in
     let long : length u ≡ length t = omega (arith, z .long, length-append (take 8 t) (zeros ++ rest), length-append zeros rest, length-take 8 t, length-drop (8 + 2 * b) t, length-replicate {A = ℕ} (2 * b) 0) in
     record { size = size-kept t u s z long (ap (λ (l : Layout). l .benches) l) (ap (λ (l : Layout). l .jobs) l); layout = l }
-
--- all words
-
--- four words a record, and none left over
-entriesIn-all : (n : ℕ) (ws : List ℕ) → length ws ≡ 4 * n → flatMap entryWords (entriesIn ws) ≡ ws
-unfolding flatMap
-entriesIn-all n [] e = refl
-entriesIn-all n (a ∷ []) e = absurd (omega arith)
-entriesIn-all n (a ∷ b ∷ []) e = absurd (omega arith)
-entriesIn-all n (a ∷ b ∷ h ∷ []) e = absurd (omega arith)
-entriesIn-all zero (a ∷ b ∷ h ∷ m ∷ ws) e = absurd (omega arith)
-entriesIn-all (suc n) (a ∷ b ∷ h ∷ m ∷ ws) e = ap (λ (l : List ℕ). a ∷ b ∷ h ∷ m ∷ l) (entriesIn-all n ws (omega arith))
-
--- 4 + B + 4 × J words are those of their layout ..
-flat-layout : (ws : List ℕ) (jobs : ℕ) → length ws ≡ 4 + (layout ws) .benches + 4 * jobs → flat (layout ws) ≡ ws
-unfolding layout flat
-flat-layout [] jobs e = absurd (omega arith)
-flat-layout (a ∷ []) jobs e = absurd (omega arith)
-flat-layout (a ∷ b ∷ []) jobs e = absurd (omega arith)
-flat-layout (a ∷ b ∷ c ∷ []) jobs e = absurd (omega arith)
-flat-layout (a ∷ b ∷ c ∷ d ∷ ws) jobs e =
-    let r : flatMap entryWords (entriesIn (drop a ws)) ≡ drop a ws = entriesIn-all jobs (drop a ws) (omega (arith, length-drop a ws)) in
-    rw (drop-append-add (a ∷ b ∷ c ∷ d ∷ []) ws a, r, take-append-drop a ws)
-
--- .. and so are a table's
-pub flat-table : (t : List ℕ) (s : Size) → SizeOf t s → flat (layoutIn t) ≡ words t
-flat-table t s z = flat-layout (words t) (s .jobs) (omega (arith, words-long t s z, z .benches))
 
 -- words read
 

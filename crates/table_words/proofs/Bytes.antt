@@ -1,10 +1,9 @@
 -- Words and bytes: what a written word does to the words, and the bytes that words stand for.
 use Prim.Native.Nat.{ℕ, zero, suc, _+_, _*_, _/_, _%_, _<_}
 use native.Mathlib.Omega.{arith}
-use native.Mathlib.Nat.{mod-eq-of-lt}
 use mathlib.Core.Path.{_≡_, refl, ap}
 use mathlib.Core.List.{List, [], _∷_}
-use lib.ListN.{length, getD, set, replicate, length-set}
+use lib.ListN.{length, set, replicate, length-set}
 use Rattle.spec_table.specs.Table.{words, bytesOf, lengthFor, blankTable}
 use Rattle.spec_table.proofs.Places.{two-more, two-more-high}
 use Rattle.table_words.specs.Bytes.{setWord}
@@ -22,18 +21,6 @@ words-setWord (a ∷ b ∷ t) (suc i) w l s =
 pub length-setWord : (t : List ℕ) (i w : ℕ) → length (setWord t i w) ≡ length t
 unfolding setWord
 length-setWord t i w = simp length-set
-
--- bytes are the bytes of their words
-pub bytesOf-words : (t : List ℕ) → length t % 2 ≡ 0 → ((i : ℕ) → getD t i 0 < 256) → bytesOf (words t) ≡ t
-bytesOf-words [] e b = refl
-bytesOf-words (x ∷ []) e b = absurd (omega arith)
-bytesOf-words (x ∷ y ∷ t) e b =
-    let low : x < 256 = b 0 in
-    let high : y < 256 = b 1 in
-    let p : (x + 256 * y) % 256 ≡ x = omega arith in
-    let d : (x + 256 * y) / 256 ≡ y = omega arith in
-    let q : (x + 256 * y) / 256 % 256 ≡ y = rw d (mod-eq-of-lt high) in
-    rw (p, q, bytesOf-words t (omega arith) (λ i. b (suc (suc i))))
 
 -- zero bytes are the bytes of zero words
 pub zero-bytes : (n : ℕ) → replicate (2 * n) 0 ≡ bytesOf (replicate n 0)
