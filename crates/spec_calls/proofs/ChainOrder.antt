@@ -1,5 +1,5 @@
--- "The order of jobs on a chain is free and no answer depends on it": two sound tables that hold the same board are
--- answered alike, get the same bytes beside them, and are changed into the same bytes.
+-- "no answer depends on it", the order of jobs on a chain: a sound table and the same in another order are answered alike, get
+-- the same bytes beside them, and are changed into the same bytes.
 use mathlib.Core.Path.{_≡_, refl, sym, ap, subst, _∙_}
 use mathlib.Core.Bool.{false, not}
 use mathlib.Core.List.{List, _++_}
@@ -7,12 +7,13 @@ use mathlib.Core.Option.{Option, none, some}
 use Prim.Native.Nat.{ℕ}
 use lib.Dec.{T}
 use Rattle.spec_table.specs.Board.{Board}
-use Rattle.spec_table.specs.Table.{fits, sound, decode}
+use Rattle.spec_table.specs.Table.{fits, sound, decode, Reordered}
 use Rattle.spec_calls.specs.Answers.{Refusal, Outcome, Condition, firstHolding, isRefused, refusedOr}
-use Rattle.spec_calls.specs.Calls.{Call, arrival, closing, levelling, ask, formConditions, lentTo, accepted, outcome}
+use Rattle.spec_calls.specs.Calls.{Call, arrival, closing, levelling, ask, formConditions, isQuestion, lentTo, accepted, outcome}
 use Rattle.spec_lists.proofs.Tests.{T→true}
 use Rattle.spec_table.proofs.Clauses.{sound-fits}
-use Rattle.spec_calls.proofs.Refusals.{isQuestion, accepted-by, onSound, conditions, formed-first}
+use Rattle.spec_table.proofs.AnyOrder.{reordered-sound}
+use Rattle.spec_calls.proofs.Refusals.{accepted-by, onSound, conditions, formed-first}
 
 -- on a sound table refusals 1 and 2 do not apply
 pub form-passes : (t : List ℕ) → T (sound t) → (cs : List Condition) → firstHolding (formConditions t ++ cs) ≡ firstHolding cs
@@ -38,9 +39,9 @@ accepted-alike (levelling allowance) t u b = record { answer = refl; lent = refl
 accepted-alike (ask q lent) t u b = record { answer = refl; lent = refl }
 
 -- no answer depends on the order of the chains, and no byte lent beside the table
-pub answer-order-free : (c : Call) → T (onSound c) → (t u : List ℕ) → T (sound t) → T (sound u) → decode t ≡ decode u → Alike (outcome c t) (outcome c u)
-answer-order-free c f t u s r e =
-    subst (λ o. Alike o (outcome c u)) (sym (sound-outcome c f t s ∙ ap on e)) (subst (Alike (on (decode u))) (sym (sound-outcome c f u r)) (other (firstHolding (conditions c (decode u)))))
+pub answer-order-free : (c : Call) → T (onSound c) → (t u : List ℕ) → T (sound t) → Reordered t u → Alike (outcome c t) (outcome c u)
+answer-order-free c f t u s r =
+    subst (λ o. Alike o (outcome c u)) (sym (sound-outcome c f t s ∙ ap on (sym (r .board)))) (subst (Alike (on (decode u))) (sym (sound-outcome c f u (reordered-sound t u s r))) (other (firstHolding (conditions c (decode u)))))
   where
     on : Board → Outcome
     on b = refusedOr (firstHolding (conditions c b)) t (lentTo c) (accepted c t b)
@@ -58,10 +59,10 @@ accepted-table (levelling allowance) t u b q = refl
 accepted-table (ask k lent) t u b q = absurd q
 
 -- and no byte that such a call leaves does
-pub change-order-free : (c : Call) → T (onSound c) → (t u : List ℕ) → T (sound t) → T (sound u) → decode t ≡ decode u → T (not (isQuestion c)) → isRefused ((outcome c t) .answer) ≡ false → (outcome c t) .table ≡ (outcome c u) .table
-change-order-free c f t u s r e q n =
-    let m : isRefused ((outcome c u) .answer) ≡ false = ap isRefused (sym ((answer-order-free c f t u s r e) .answer)) ∙ n in
+pub change-order-free : (c : Call) → T (onSound c) → (t u : List ℕ) → T (sound t) → Reordered t u → T (not (isQuestion c)) → isRefused ((outcome c t) .answer) ≡ false → (outcome c t) .table ≡ (outcome c u) .table
+change-order-free c f t u s r q n =
+    let m : isRefused ((outcome c u) .answer) ≡ false = ap isRefused (sym ((answer-order-free c f t u s r) .answer)) ∙ n in
     ap (λ o. o .table) ((accepted-by c t n) .1)
-    ∙ ap (λ b. (accepted c t b) .table) e
+    ∙ ap (λ b. (accepted c t b) .table) (sym (r .board))
     ∙ accepted-table c t u (decode u) q
     ∙ ap (λ o. o .table) (sym ((accepted-by c u m) .1))

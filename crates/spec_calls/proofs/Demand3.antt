@@ -11,7 +11,7 @@ use Rattle.spec_lists.specs.Lists.{empty}
 use Rattle.spec_table.specs.Table.{sizesFit, lengthFor, sound, decode}
 use Rattle.spec_sharing.specs.Sharing.{close, level, Levelled, relevel}
 use Rattle.spec_calls.specs.Answers.{Answer, Outcome, isRefused}
-use Rattle.spec_calls.specs.Calls.{Arriving, Closing, Call, arrival, closing, levelling, ask, blanking, outcome, arrivalOutcome, closingOutcome, levellingOutcome}
+use Rattle.spec_calls.specs.Calls.{Arriving, Closing, Call, arrival, closing, levelling, ask, isQuestion, blanking, outcome, arrivalOutcome, closingOutcome, levellingOutcome}
 use Rattle.spec_sharing.specs.Demand2.{Demand2}
 use Rattle.spec_calls.specs.JobBook.{Book, entered, tableAfter, OneLoad, Runs, AsDefined, Start, fromBlank, fromLevel, Claim, Demand3}
 use Rattle.spec_lists.proofs.Tests.{true→T}
@@ -19,11 +19,11 @@ use Rattle.spec_sharing.proofs.Paths.{jobless-level}
 use Rattle.spec_table.proofs.Places.{sized}
 use Rattle.spec_table.proofs.Sound.{sound-storable}
 use Rattle.spec_calls.proofs.Blanking.{blanking-blank, emptyBoard, storable-empty, blank-sound, blank-decodes}
-use Rattle.spec_calls.proofs.Refusals.{isQuestion}
 use Rattle.spec_calls.proofs.JobBook.{refused-enters, question-enters}
 use Rattle.spec_sharing.proofs.Levels.{level-least, level-demand2}
 use Rattle.spec_sharing.proofs.KeepsLevel.{arrival-keeps-level, closing-keeps-level}
 use Rattle.spec_sharing.proofs.Levelling.{level-rests}
+use Rattle.spec_calls.proofs.ChangedTables.{run-rises, run-fixed}
 use Rattle.spec_calls.proofs.Outcomes.{WritesBoard, namable-some, namable-fit, arriveOn, AcceptedArrival, AcceptedClosing, Relevelled, Left, by-call}
 
 -- what a call leaves of a sound level table: such a table again, its jobs as the book has them, one load changed as the answer says
@@ -115,6 +115,8 @@ ended t k s l e [] [] r =
         shares = subst (λ (named : Book). Shares named ((decode t) .holders)) e (v .shares);
         least = λ h holders m. level-least (decode t) v l h holders (subst (λ (named : Book). Shares named holders) (sym e) m);
         oneLoad = tt;
+        rising = run-rises t [] [] r;
+        fixed = λ p. run-fixed t [] [] r (inr p);
         answered = tt;
       };
       form = s;
@@ -133,6 +135,8 @@ ended t k s l e (c ∷ cs) (o ∷ os) r =
         shares = j .shares;
         least = λ h holders m. subst (λ (n : ℕ). excess n ((decode (tableAfter (o .table) os)) .holders) h ≤ excess n holders h) (d .benches) (j .least h holders m);
         oneLoad = (d .oneLoad, j .oneLoad);
+        rising = run-rises t (c ∷ cs) (o ∷ os) r;
+        fixed = λ p. run-fixed t (c ∷ cs) (o ∷ os) r (inr p);
         answered = r;
       };
       form = i .form;

@@ -8,6 +8,7 @@ pub mod JobBook
 pub mod Questions
 pub mod Sheets
 pub mod Outcomes
+pub mod ChangedTables
 pub mod Refused
 pub mod Results
 pub mod Demand3

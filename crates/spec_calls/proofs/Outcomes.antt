@@ -10,13 +10,13 @@ use lib.ListN.{length}
 use Rattle.spec_lists.specs.Lists.{within, Each, empty}
 use Rattle.spec_table.specs.Board.{Board, stands, namesFit}
 use Rattle.spec_table.specs.Table.{paired, sound, decode, encode, Storable}
-use Rattle.spec_sharing.specs.Sharing.{Change, arrive, close, Levelled, relevel, level}
+use Rattle.spec_sharing.specs.Sharing.{Change, arrive, close, Levelled, relevel}
 use Rattle.spec_calls.specs.Answers.{Refusal, Outcome, firstHolding, isRefused, refusedOr, said, levelled}
-use Rattle.spec_calls.specs.Calls.{Arriving, Closing, namable, MayArrive, Call, arrival, closing, levelling, ask, arrivalConditions, closingConditions, refusals, lentTo, accepted, outcome, arrivalOutcome, closingOutcome, levellingOutcome}
+use Rattle.spec_calls.specs.Calls.{Arriving, Closing, namable, MayArrive, Call, arrival, closing, levelling, ask, arrivalConditions, closingConditions, refusals, isQuestion, lentTo, accepted, outcome, arrivalOutcome, closingOutcome, levellingOutcome}
 use Rattle.spec_sharing.specs.Demand2.{OneMore}
 use Rattle.spec_lists.proofs.Tests.{not-false, false→not, left, right, or-right}
 use Rattle.spec_table.proofs.Named.{resized, changed-storable}
-use Rattle.spec_calls.proofs.Refusals.{accepted-by, accepted-answers, on-sound, conditions, isQuestion, question-leaves}
+use Rattle.spec_calls.proofs.Refusals.{accepted-by, accepted-answers, on-sound, conditions, question-leaves}
 use Rattle.spec_calls.proofs.ChainOrder.{sound-outcome}
 use Rattle.spec_calls.proofs.Tally.{isChange}
 use Rattle.spec_table.proofs.Sound.{sound-storable}

@@ -181,13 +181,6 @@ refusal-positive countFull = omega arith
 refusal-positive unreadable = omega arith
 refusal-positive pageTooShort = omega arith
 
--- the calls that ask and change nothing
-abbrev pub isQuestion : Call → Bool
-isQuestion (arrival a) = false
-isQuestion (closing c) = false
-isQuestion (levelling allowance) = false
-isQuestion (ask q lent) = true
-
 -- "the questions, which change no table byte"
 pub question-leaves : (q : Question) (lent t : List ℕ) → (outcome (ask q lent) t) .table ≡ t
 unfolding outcome accepted

@@ -1,7 +1,7 @@
 -- Each call as a function from what it is lent (table bytes, bytes beside them, numbers of any size) to what it
 -- leaves: its answer, and every lent byte.
 use Prim.Native.Nat.{ℕ, _*_}
-use mathlib.Core.Bool.{Bool, cond, not, _&&_, _||_}
+use mathlib.Core.Bool.{Bool, true, false, cond, not, _&&_, _||_}
 use mathlib.Core.List.{List, [], _∷_, _++_}
 use lib.Dec.{T, eqb, ltb}
 use lib.ListN.{length, drop}
@@ -37,6 +37,13 @@ pub data Call : Type 0 where
   closing : Closing → Call
   levelling : ℕ → Call
   ask : Question → List ℕ → Call
+
+-- "the questions, which change no table byte"
+abbrev pub isQuestion : Call → Bool
+isQuestion (arrival a) = false
+isQuestion (closing c) = false
+isQuestion (levelling allowance) = false
+isQuestion (ask q lent) = true
 
 -- 1 and 2: the form of a table
 abbrev pub formConditions : List ℕ → List Condition

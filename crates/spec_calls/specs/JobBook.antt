@@ -1,16 +1,17 @@
 -- 01, "The job book": what is kept beside the board, a list of calls, and what demand 3 claims of it.
 use Prim.Native.Nat.{ℕ, _≤_}
 use mathlib.Core.Path.{_≡_}
-use mathlib.Core.Bool.{Bool, true, false}
+use mathlib.Core.Bool.{Bool, true, false, not, _&&_, _||_}
 use mathlib.Core.List.{List, [], _∷_, map}
+use lib.Dec.{T}
 use lib.ListN.{replicate}
 use Rattle.spec_lists.specs.Lists.{update}
 use Rattle.spec_table.specs.Board.{Board, excess, Shares}
-use Rattle.spec_table.specs.Table.{lengthFor, sizesFit, sound, decode, blankTable}
+use Rattle.spec_table.specs.Table.{lengthFor, sizesFit, sound, decode, encode, blankTable, allRise}
 use Rattle.spec_sharing.specs.Sharing.{level}
 use Rattle.spec_sharing.specs.Demand2.{OneMore}
 use Rattle.spec_calls.specs.Answers.{Answer, Outcome, isRefused, arrived, closed}
-use Rattle.spec_calls.specs.Calls.{Call, outcome, arrival, closing, levelling, ask}
+use Rattle.spec_calls.specs.Calls.{Call, outcome, arrival, closing, levelling, ask, isQuestion}
 
 -- "For each job number it has nothing, or the benches the job names, in their order"
 abbrev pub Book : Type 0
@@ -36,6 +37,17 @@ bookAfter k (c ∷ cs) (r ∷ rs) = bookAfter (entered c r k) cs rs
 -- whether each call was refused
 abbrev pub refusedEach : List Outcome → List Bool
 refusedEach os = map (λ o. isRefused (o .answer)) os
+
+-- 02: "the first accepted arrival, closing or levelling puts every chain in order": such a call, fed whether it was
+-- refused
+abbrev pub putsInOrder : Call → Bool → Bool
+putsInOrder c refused = not (isQuestion c) && not refused
+
+-- one of the calls did
+abbrev pub onceInOrder : List Call → List Bool → Bool
+onceInOrder [] rs = false
+onceInOrder (c ∷ cs) [] = false
+onceInOrder (c ∷ cs) (r ∷ rs) = putsInOrder c r || onceInOrder cs rs
 
 -- each call gets the table as the last one left it
 abbrev pub run : List ℕ → List Call → List Outcome
@@ -98,6 +110,10 @@ pub record Claim (t : List ℕ) (k : Book) (cs : List Call) (os : List Outcome) 
       excess ((decode t) .benches) ((decode (tableAfter t os)) .holders) h ≤ excess ((decode t) .benches) holders h
   -- each accepted arrival or closing changes one bench's load by one
   pub oneLoad : OneLoadEach t cs os
+  -- 02: all chains rise, if they did at the start or were put in order since ..
+  pub rising : T (allRise t || onceInOrder cs (refusedEach os)) → T (allRise (tableAfter t os))
+  -- .. and once they were, benches, jobs and holders fix every byte
+  pub fixed : T (onceInOrder cs (refusedEach os)) → tableAfter t os ≡ encode (decode (tableAfter t os))
   -- every call is answered as defined
   pub answered : Runs AsDefined t cs os
 
