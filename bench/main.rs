@@ -9,6 +9,7 @@ mod each;
 mod figures;
 mod growth;
 mod independent;
+mod order;
 mod plain;
 mod proved;
 mod scratch;
@@ -26,6 +27,7 @@ const INDEPENDENT: Perform = |c, t, room| answer!(independent, c, t, room);
 fn measure(process: usize) {
     timing::shift(process);
     each::measure();
+    order::measure();
     scratch::measure();
     growth::measure();
 }
@@ -33,6 +35,7 @@ fn measure(process: usize) {
 /// Prints the tables of the processes whose lines are in these files.
 fn report(files: &[String]) {
     each::print(files);
+    order::print(files);
     scratch::print(files);
     growth::print(files);
 }

@@ -1,7 +1,7 @@
 //! What was to be reached, and whether it was.
 use crate::each::is_of;
 use crate::figures::{head, Row, Spread};
-use crate::trials::{NEARLY, NO_ORDER, REFUSED, SIZES};
+use crate::trials::{NEARLY, NO_ORDER, ORDERING, REFUSED, SIZES};
 
 /// Boards that a target is for: how they are called, and which they are.
 struct Boards(&'static str, fn(&str) -> bool);
@@ -67,10 +67,10 @@ const GOALS: [Target; 3] = [
 ];
 
 impl Target {
-    /// Tells whether it is for a row's call and board; none is for refused calls.
+    /// Tells whether it is for a row's call and board; none is for refused calls, nor for levelling with allowance 0.
     fn is_for(&self, row: &Row) -> bool {
         let call = &row.cells[0];
-        call.starts_with(self.0) && !call.ends_with(REFUSED) && self.1 .1(&row.cells[1])
+        call.starts_with(self.0) && !call.ends_with(REFUSED) && call != ORDERING && self.1 .1(&row.cells[1])
     }
 
     /// Finds the ratio whose median is greatest at a size, and the board.

@@ -11,6 +11,9 @@ pub const SIZES: [(usize, usize); 3] = [(10, 60), (100, 1000), (500, 4000)];
 pub const NO_ORDER: &str = "chains in no order";
 pub const NEARLY: &str = "one chain out of order";
 
+/// The name of levelling with allowance 0, which moves no job and leaves every chain rising.
+pub const ORDERING: &str = "levelling, allowance 0";
+
 /// What stands after the name of a call that is refused.
 pub const REFUSED: &str = ", refused";
 
@@ -58,6 +61,12 @@ pub fn first_named(t: &[u8]) -> Vec<u8> {
     let (benches, jobs) = boards::sizes(t);
     let given: Vec<_> = standing(t).into_iter().map(|(j, names, _)| (j, names, 1)).collect();
     boards::table(benches, jobs, &given)
+}
+
+/// Makes the same board, its chains rising.
+pub fn rising(t: &[u8]) -> Vec<u8> {
+    let (benches, jobs) = boards::sizes(t);
+    boards::table(benches, jobs, &standing(t))
 }
 
 /// Makes the same board, its chains in no order.
@@ -134,6 +143,12 @@ fn sound(board: impl Into<String>, t: Vec<u8>, lists: Vec<Vec<Call>>) -> Trial {
     Trial(board.into(), t, [lists, vec![vec![Call::Sheet(ROOM)]]].concat(), ACCEPTED)
 }
 
+/// Adds levelling with allowance 0 to the calls of a sound table, before the sheet.
+fn with_ordering(Trial(board, t, mut lists, number): Trial) -> Trial {
+    lists.insert(lists.len() - 1, vec![Call::Levelling(0)]);
+    Trial(board, t, lists, number)
+}
+
 /// Makes the trial of the form check of a board whose word 2, the number of the standing jobs, is one too high: known only when
 /// all records are counted.
 fn miscounted(Trial(_, t, ..): &Trial) -> Trial {
@@ -185,9 +200,9 @@ fn trials(benches: usize, jobs: usize) -> Vec<Trial> {
     let any = Trial("any".into(), boards::blank(benches, jobs), vec![vec![blanking]], ACCEPTED);
     let [pairs, ring] = KINDS.map(|kind| nearly_full(kind, benches, jobs, random));
     let mut trials = vec![any, miscounted(&pairs[0])];
-    trials.extend(pairs);
+    trials.extend(pairs.map(with_ordering));
     trials.extend(ring);
-    trials.extend(out_of_order(benches, jobs, random));
+    trials.extend(out_of_order(benches, jobs, random).map(with_ordering));
     trials.extend(special(benches, jobs));
     trials
 }
@@ -204,8 +219,10 @@ pub fn each(measure: fn(&str, &[u8], &[Call], u32)) {
     }
 }
 
-fn name(call: Call) -> &'static str {
+/// Gives the name of a call in the tables.
+pub fn name(call: Call) -> &'static str {
     match call {
+        Call::Levelling(0) => ORDERING,
         Call::TightSet(1, _) => "tight set, height 1",
         Call::TightSet(..) => "tight set, heaviest",
         _ => NAMES[kind(call)],
