@@ -1,7 +1,11 @@
 /*
  * Random calls through the archive and through reference.c, on copies of the same table, list and page: answers, tables, lists and pages
  * must be the same, byte by byte, and a page read back by columns must name each job's holder. Boards are mostly small, now and then 500
- * benches and 4,000 jobs; level and not; chains in any order; some tables are damaged, some lengths wrong, some numbers out of range.
+ * benches and 4,000 jobs; level and not; some tables are damaged, some lengths wrong, some numbers out of range.
+ *
+ * Every byte of a changed table is fixed: the reference keeps no chain of the table it is lent, and writes all of them anew, rising, from
+ * benches, jobs and holders alone. Half the boards start with chains in a random order, so that accepted arrivals, closings and levellings
+ * meet chains that do not rise; each must have met some.
  *
  * Arguments: the seed, the number of calls.
  */
@@ -20,44 +24,7 @@ static uint32_t calls_made;
 static uint32_t returned[12];     /* how often each number was */
 static uint32_t accepted[KINDS];  /* how often each call was accepted */
 static uint32_t handed;           /* arrivals and closings that handed jobs along */
-
-/* Chooses the sizes of the next board. */
-static void choose_sizes(struct random *r, uint32_t *benches, uint32_t *jobs)
-{
-    uint32_t kind = random_below(r, 1000);
-    if (kind < 600) {
-        *benches = random_within(r, 1, 6);
-        *jobs = random_within(r, 1, 12);
-    } else if (kind < 960) {
-        *benches = random_within(r, 1, 30);
-        *jobs = random_within(r, 1, 90);
-    } else if (kind < 990) {
-        *benches = random_within(r, 30, 150);
-        *jobs = random_within(r, 90, 1200);
-    } else {
-        *benches = JOBBOARD_MOST_BENCHES;
-        *jobs = JOBBOARD_MOST_JOBS;
-    }
-}
-
-/* Makes a sound table: empty, or with random jobs and holders (heavy ones on few benches), chains rising or not. */
-static void make_board(struct table *t, struct random *r)
-{
-    uint32_t benches, jobs;
-    choose_sizes(r, &benches, &jobs);
-    make_empty(t, benches, jobs);
-    if (benches == 1 || random_below(r, 8) == 0)
-        return;
-    uint32_t full = random_within(r, 1, 10), lean = random_below(r, 3), near = random_within(r, 1, benches - 1);
-    for (uint32_t j = 1; j <= jobs; j++) {
-        uint32_t first = random_within(r, 1, benches);
-        uint32_t second = (first - 1 + random_within(r, 1, near)) % benches + 1;
-        uint32_t holder = lean == 0 ? random_within(r, 1, 2) : (first < second) == (lean == 1) ? 1 : 2;
-        if (random_below(r, 10) < full)
-            make_stand(t, j, first, second, holder);
-    }
-    make_chains(t, random_below(r, 2) == 0 ? NULL : r);
-}
+static uint32_t unordered[KINDS]; /* how often an accepted arrival, closing or levelling met chains that did not all rise */
 
 /*
  * Picks a number of 1 to `most`, now and then one out of range: 0, the next ones, one that fits after a cut to 16
@@ -90,15 +57,8 @@ static uint32_t random_allowance(struct random *r, uint32_t benches)
 /* Picks a job number of any kind; three times out of four one that stands, or one that does not. */
 static uint32_t random_job(struct random *r, const struct table *t, bool stands)
 {
-    uint32_t benches = word_at(t->bytes, 0), jobs = word_at(t->bytes, 1), start = random_below(r, jobs);
-    uint32_t tries = random_below(r, 4) > 0 ? jobs : 0;
-    for (uint32_t i = 0; i < tries; i++) {
-        uint32_t job = (start + i) % jobs + 1;
-        bool standing = word_at(t->bytes, 4 + benches + 4 * (size_t)(job - 1)) != 0;
-        if (standing == stands)
-            return job;
-    }
-    return random_number(r, jobs);
+    uint32_t job = random_below(r, 4) > 0 ? pick_job(t, r, stands) : 0;
+    return job != 0 ? job : random_number(r, word_at(t->bytes, 1));
 }
 
 /* Picks a bench number of any kind, rather a heavy bench than a light one: from there jobs are handed along. */
@@ -209,13 +169,16 @@ static void stop(const struct call *call, struct answer a, struct answer b, cons
     fail("against: seed %" PRIu64 ", call %u: %s: %s: archive %s, reference %s", seed, (unsigned)calls_made, text, what, first, second);
 }
 
-static void count(const struct call *call, struct answer a)
+/* Counts a call; `before` is its table as it was. */
+static void count(const struct call *call, struct answer a, const uint8_t *before)
 {
     returned[a.returned]++;
     if (a.returned != JOBBOARD_OK)
         return;
     accepted[call->kind]++;
     handed += (call->kind == ARRIVAL && a.values[2] > 0) || (call->kind == CLOSING && a.values[1] > 0);
+    if (call->kind == ARRIVAL || call->kind == CLOSING || call->kind == LEVELLING)
+        unordered[call->kind] += !chains_rise(before);
 }
 
 /* Makes one call through both, on copies of exactly the lent length; t is what the archive left. */
@@ -239,8 +202,8 @@ static void compare(struct call call, struct table *t)
         stop(&call, a, b, call.kind == SHEET ? "other page" : "other list");
     if (call.kind == SHEET && a.returned == JOBBOARD_OK && !sheet_names_holders(lent[0], a.values[0], table))
         stop(&call, a, b, "the page read back has other holders than the table");
+    count(&call, a, t->bytes);
     memcpy(t->bytes, table, t->length);
-    count(&call, a);
     free(table);
     free(other);
     free(lent[0]);
@@ -252,6 +215,7 @@ static void run_board(struct random *r, uint32_t calls)
 {
     static struct table t, damaged;
     make_board(&t, r);
+    make_chains(&t, random_below(r, 2) == 0 ? NULL : r);
     if (random_below(r, 3) == 0 && word_at(t.bytes, 0) < 100)
         compare((struct call){LEVELLING, {UINT32_MAX, 0, 0}, NULL, 0}, &t);
     for (; calls > 0; calls--) {
@@ -280,6 +244,20 @@ static void level_largest(struct random *r)
     compare((struct call){LEVELLING, {JOBBOARD_ENOUGH_PATHS, 0, 0}, NULL, 0}, &t);
 }
 
+/* Expects that each refusal was met, each call accepted, and each change accepted on chains that did not rise. */
+static void expect_all_met(void)
+{
+    for (int n = 1; n <= 11; n++)
+        if (returned[n] == 0 && n != JOBBOARD_COUNT_FULL && n != JOBBOARD_UNREADABLE)
+            fail("against: no call was refused with %d", n);
+    for (int kind = 0; kind < KINDS; kind++) {
+        if (accepted[kind] == 0)
+            fail("against: no call of kind %d was accepted", kind);
+        if (unordered[kind] == 0 && (kind == ARRIVAL || kind == CLOSING || kind == LEVELLING))
+            fail("against: no call of kind %d was accepted on chains that did not rise", kind);
+    }
+}
+
 int main(int argc, char **argv)
 {
     seed = seed_of(argc, argv, 20260101);
@@ -288,18 +266,14 @@ int main(int argc, char **argv)
     while (calls_made + 1 < calls)
         run_board(&r, random_within(&r, 5, 60));
     level_largest(&r);
-    printf("against: %u calls, same answers, tables, lists and pages; %u handed jobs along; %u pages read back; refused",
-           (unsigned)calls_made, (unsigned)handed, (unsigned)accepted[SHEET]);
-    for (int n = 1; n <= 11; n++) {
-        if (n == JOBBOARD_COUNT_FULL || n == JOBBOARD_UNREADABLE)
-            continue;
-        printf("%s %u with %d", n == 1 ? "" : ",", (unsigned)returned[n], n);
-        if (returned[n] == 0)
-            fail("against: no call was refused with %d", n);
-    }
-    for (int kind = 0; kind < KINDS; kind++)
-        if (accepted[kind] == 0)
-            fail("against: no call of kind %d was accepted", kind);
+    expect_all_met();
+    printf("against: %u calls, same answers, tables, lists and pages; %u handed jobs along; %u pages read back; ", (unsigned)calls_made,
+           (unsigned)handed, (unsigned)accepted[SHEET]);
+    printf("%u arrivals, %u closings and %u levellings met chains that did not rise; refused", (unsigned)unordered[ARRIVAL],
+           (unsigned)unordered[CLOSING], (unsigned)unordered[LEVELLING]);
+    for (int n = 1; n <= 11; n++)
+        if (n != JOBBOARD_COUNT_FULL && n != JOBBOARD_UNREADABLE)
+            printf("%s %u with %d", n == 1 ? "" : ",", (unsigned)returned[n], n);
     puts("");
     return 0;
 }

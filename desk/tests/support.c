@@ -1,5 +1,7 @@
 #include "support.h"
 
+#include "jobboard.h"
+
 #include <stdarg.h>
 #include <stdio.h>
 #include <stdlib.h>
@@ -84,7 +86,7 @@ void make_empty(struct table *t, uint32_t benches, uint32_t jobs)
     put_word(t->bytes, 1, jobs);
 }
 
-static size_t record_of(const struct table *t, uint32_t job)
+size_t record_of(const struct table *t, uint32_t job)
 {
     return 4 + word_at(t->bytes, 0) + 4 * ((size_t)job - 1);
 }
@@ -129,6 +131,67 @@ void make_chains(struct table *t, struct random *r)
         standing++;
     }
     put_word(t->bytes, 2, standing);
+}
+
+/* Chooses the sizes of a board. */
+static void choose_sizes(struct random *r, uint32_t *benches, uint32_t *jobs)
+{
+    uint32_t kind = random_below(r, 1000);
+    if (kind < 600) {
+        *benches = random_within(r, 1, 6);
+        *jobs = random_within(r, 1, 12);
+    } else if (kind < 960) {
+        *benches = random_within(r, 1, 30);
+        *jobs = random_within(r, 1, 90);
+    } else if (kind < 990) {
+        *benches = random_within(r, 30, 150);
+        *jobs = random_within(r, 90, 1200);
+    } else {
+        *benches = JOBBOARD_MOST_BENCHES;
+        *jobs = JOBBOARD_MOST_JOBS;
+    }
+}
+
+void make_board(struct table *t, struct random *r)
+{
+    uint32_t benches, jobs;
+    choose_sizes(r, &benches, &jobs);
+    make_empty(t, benches, jobs);
+    if (benches == 1 || random_below(r, 8) == 0)
+        return;
+    uint32_t full = random_within(r, 1, 10), lean = random_below(r, 3), near = random_within(r, 1, benches - 1);
+    for (uint32_t j = 1; j <= jobs; j++) {
+        uint32_t first = random_within(r, 1, benches);
+        uint32_t second = (first - 1 + random_within(r, 1, near)) % benches + 1;
+        uint32_t holder = lean == 0 ? random_within(r, 1, 2) : (first < second) == (lean == 1) ? 1 : 2;
+        if (random_below(r, 10) < full)
+            make_stand(t, j, first, second, holder);
+    }
+}
+
+uint32_t pick_job(const struct table *t, struct random *r, bool stands)
+{
+    uint32_t jobs = word_at(t->bytes, 1), start = random_below(r, jobs);
+    for (uint32_t i = 0; i < jobs; i++) {
+        uint32_t job = (start + i) % jobs + 1;
+        if ((word_at(t->bytes, record_of(t, job)) != 0) == stands)
+            return job;
+    }
+    return 0;
+}
+
+bool chains_rise(const uint8_t *table)
+{
+    uint32_t benches = word_at(table, 0), jobs = word_at(table, 1);
+    for (uint32_t b = 1; b <= benches; b++) {
+        uint32_t last = 0;
+        for (uint32_t j = word_at(table, 3 + b); j != 0; j = word_at(table, 4 + benches + 4 * (size_t)(j - 1) + 3)) {
+            if (j <= last || j > jobs)
+                return false;
+            last = j;
+        }
+    }
+    return true;
 }
 
 /* Reads the number in some columns, blanks and then digits; 0 where all are blank. False for anything else. */

@@ -1,4 +1,4 @@
-/* What the tests share: failing, random numbers, words, tables made by hand, and a wall sheet read back. */
+/* What the tests share: failing, random numbers, words, tables made by hand and by chance, chains walked, and a wall sheet read back. */
 #ifndef SUPPORT_H
 #define SUPPORT_H
 
@@ -54,6 +54,24 @@ void make_stand(struct table *t, uint32_t job, uint32_t first, uint32_t second, 
 
 /* Makes all chains and counts the standing jobs. Chains rise, or are in a random order if r is not NULL. */
 void make_chains(struct table *t, struct random *r);
+
+/*
+ * Makes a board by chance: mostly small, now and then 500 benches and 4,000 jobs; without jobs, or with random ones and random holders
+ * (heavy ones on few benches). Chains are made afterwards.
+ */
+void make_board(struct table *t, struct random *r);
+
+/* Gives the place of the first word of a job's record; the holder is the third word, the next job on the chain the fourth. */
+size_t record_of(const struct table *t, uint32_t job);
+
+/* Picks a job that stands, or one that does not; 0 where there is none. */
+uint32_t pick_job(const struct table *t, struct random *r, bool stands);
+
+/*
+ * Walks all chains, word by word, and tells whether every one rises. The sizes must fit; nothing else is asked of the table, as a walk
+ * ends at the first number that does not rise or is above the greatest.
+ */
+bool chains_rise(const uint8_t *table);
 
 /*
  * Reads a wall sheet by columns, as people do: the number in columns 1 to 3 is the bench of the line, or where they are blank the bench

@@ -3,9 +3,11 @@
  * data/calls, from before the change requests, and those of data/requests, from the newest request.
  *
  * `index` has for each table its form check, level check, heaviest load and a hash of its loads; `calls` has calls, each on a fresh copy,
- * with the answer and two hashes of what is left: of the table with rising chains (for a refused call and a load: of the bytes as they
- * were), and of the same with chain heads and next words zero. For a tight set both are of its list; for a wall sheet they are of the
- * table and of the page. List and page are filled with a5 before.
+ * with the answer and two hashes. The first is of the whole table, and it is compared with that of the bytes as the call leaves them:
+ * nothing is put in order here. From request 02 on an accepted arrival, closing or levelling leaves every chain rising, so every byte is
+ * compared, in the older files too; a refused call and a load leave the bytes as they were. The second hash is of the same table with
+ * chain heads and next words zero, and only says which part differs. For a tight set both are of its list; for a wall sheet they are of
+ * the table and of the page. List and page are filled with a5 before.
  *
  * Arguments: the folder of tables and the folder of index and calls; the folder of the newest request, which has all.
  */
@@ -235,6 +237,6 @@ int main(int argc, char **argv)
     if (argc != 4)
         fail("vectors: three arguments: the folder of tables, the folder of index and calls, the folder of the newest request");
     run_all(argv[1], argv[2], 96, 720);
-    run_all(argv[3], argv[3], 60, 564);
+    run_all(argv[3], argv[3], 60, 576);
     return 0;
 }
