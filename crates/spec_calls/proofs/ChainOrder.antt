@@ -12,6 +12,7 @@ use Rattle.spec_calls.specs.Answers.{Refusal, Outcome, Condition, firstH
 use Rattle.spec_calls.specs.Calls.{Call, arrival, closing, levelling, ask, formConditions, isQuestion, lentTo, accepted, outcome}
 use Rattle.spec_lists.proofs.Tests.{T→true}
 use Rattle.spec_table.proofs.Clauses.{sound-fits}
+use Rattle.spec_table.proofs.Encode.{same-board}
 use Rattle.spec_table.proofs.AnyOrder.{reordered-sound}
 use Rattle.spec_calls.proofs.Refusals.{accepted-by, onSound, conditions, formed-first}
 
@@ -20,7 +21,8 @@ pub form-passes : (t : List ℕ) → T (sound t) → (cs : List Condition) → f
 form-passes t s cs = rw (T→true (fits t) (sound-fits t s), T→true (sound t) s)
 
 -- what is left of a call's outcome on a sound table
-pub sound-outcome : (c : Call) → T (onSound c) → (t : List ℕ) → T (sound t) → outcome c t ≡ refusedOr (firstHolding (conditions c (decode t))) t (lentTo c) (accepted c t (decode t))
+pub sound-outcome : (c : Call) → T (onSound c) → (t : List ℕ) → T (sound t) →
+    outcome c t ≡ refusedOr (firstHolding (conditions c (decode t))) t (lentTo c) (accepted c t (decode t))
 unfolding outcome
 sound-outcome c f t s =
     ap (λ o. refusedOr o t (lentTo c) (accepted c t (decode t))) (ap firstHolding (formed-first c f t) ∙ form-passes t s (conditions c (decode t)))
@@ -41,7 +43,9 @@ accepted-alike (ask q lent) t u b = record { answer = refl; lent = refl }
 -- no answer depends on the order of the chains, and no byte lent beside the table
 pub answer-order-free : (c : Call) → T (onSound c) → (t u : List ℕ) → T (sound t) → Reordered t u → Alike (outcome c t) (outcome c u)
 answer-order-free c f t u s r =
-    subst (λ o. Alike o (outcome c u)) (sym (sound-outcome c f t s ∙ ap on (sym (r .board)))) (subst (Alike (on (decode u))) (sym (sound-outcome c f u (reordered-sound t u s r))) (other (firstHolding (conditions c (decode u)))))
+    let before = sound-outcome c f t s ∙ ap on (sym (same-board u t (r .sharing))) in
+    let after = sound-outcome c f u (reordered-sound t u s r) in
+    subst (λ o. Alike o (outcome c u)) (sym before) (subst (Alike (on (decode u))) (sym after) (other (firstHolding (conditions c (decode u)))))
   where
     on : Board → Outcome
     on b = refusedOr (firstHolding (conditions c b)) t (lentTo c) (accepted c t b)
@@ -59,10 +63,11 @@ accepted-table (levelling allowance) t u b q = refl
 accepted-table (ask k lent) t u b q = absurd q
 
 -- and no byte that such a call leaves does
-pub change-order-free : (c : Call) → T (onSound c) → (t u : List ℕ) → T (sound t) → Reordered t u → T (not (isQuestion c)) → isRefused ((outcome c t) .answer) ≡ false → (outcome c t) .table ≡ (outcome c u) .table
+pub change-order-free : (c : Call) → T (onSound c) → (t u : List ℕ) → T (sound t) → Reordered t u → T (not (isQuestion c)) →
+    isRefused ((outcome c t) .answer) ≡ false → (outcome c t) .table ≡ (outcome c u) .table
 change-order-free c f t u s r q n =
     let m : isRefused ((outcome c u) .answer) ≡ false = ap isRefused (sym ((answer-order-free c f t u s r) .answer)) ∙ n in
     ap (λ o. o .table) ((accepted-by c t n) .1)
-    ∙ ap (λ b. (accepted c t b) .table) (sym (r .board))
+    ∙ ap (λ b. (accepted c t b) .table) (sym (same-board u t (r .sharing)))
     ∙ accepted-table c t u (decode u) q
     ∙ ap (λ o. o .table) (sym ((accepted-by c u m) .1))

@@ -8,8 +8,9 @@ use mathlib.Core.Bool.{Bool, true, false, not, _||_, false≢true}
 use mathlib.Core.List.{List, [], _∷_}
 use mathlib.Core.Option.{Option, none, some}
 use lib.Dec.{T}
+use Rattle.spec_lists.specs.Lists.{within}
 use Rattle.spec_table.specs.Board.{Board}
-use Rattle.spec_table.specs.Table.{sound, decode, encode, allRise, Reordered}
+use Rattle.spec_table.specs.Table.{mostBenches, mostJobs, sound, decode, encode, blankTable, allRise, SameSharing, Reordered}
 use Rattle.spec_sharing.specs.Sharing.{close, level, Levelled, relevel}
 use Rattle.spec_sharing.specs.Demand2.{Flips, noFlip, flipThen}
 use Rattle.spec_calls.specs.Answers.{Refusal, Outcome, firstHolding, isRefused, refusedOr}
@@ -21,6 +22,7 @@ use Rattle.spec_table.proofs.Encode.{same-bytes}
 use Rattle.spec_table.proofs.AnyOrder.{encoded-reordered}
 use Rattle.spec_table.proofs.RisingChains.{encode-rises}
 use Rattle.spec_sharing.proofs.Levelling.{level-rests}
+use Rattle.spec_calls.proofs.Blanking.{blank-is-encoded, blank-sound, blank-decodes}
 use Rattle.spec_calls.proofs.Refusals.{on-sound, accepted-sound}
 use Rattle.spec_calls.proofs.Outcomes.{WritesBoard, arriveOn, AcceptedArrival, AcceptedClosing, Relevelled, levelling-accepted, Left, by-call}
 
@@ -33,8 +35,14 @@ pub record InOrder (u : List ℕ) : Type 0 where
 pub in-order-rises : (u : List ℕ) → InOrder u → T (allRise u)
 in-order-rises u o = subst (λ u. T (allRise u)) (sym (o .encoded)) (encode-rises (decode u) (sound-storable u (o .sound)))
 
+-- a blank table is in order from the start
+pub blank-in-order : (benches jobs : ℕ) → T (within 1 mostBenches benches) → T (within 1 mostJobs jobs) → InOrder (blankTable benches jobs)
+blank-in-order benches jobs b j =
+    record { sound = blank-sound benches jobs b j; encoded = blank-is-encoded benches jobs ∙ ap encode (sym (blank-decodes benches jobs b j)) }
+
 -- a question, accepted, keeps the table
-question-keeps : (c : Call) (t : List ℕ) → putsInOrder c (isRefused ((accepted c t (decode t)) .answer)) ≡ false → (accepted c t (decode t)) .table ≡ t
+question-keeps : (c : Call) (t : List ℕ) → putsInOrder c (isRefused ((accepted c t (decode t)) .answer)) ≡ false →
+    (accepted c t (decode t)) .table ≡ t
 unfolding accepted arrivalOutcome closingOutcome levellingOutcome
 question-keeps (arrival a) t n = absurd (false≢true (sym n))
 question-keeps (closing c) t n = absurd (false≢true (sym n))
@@ -92,15 +100,18 @@ module _ (c : Call) (t : List ℕ) where
   unfolding outcome
   order-left n = go (firstHolding (refusals c t)) n
     where
-      go : (o : Option Refusal) → putsInOrder c (isRefused ((refusedOr o t (lentTo c) (accepted c t (decode t))) .answer)) ≡ false → (refusedOr o t (lentTo c) (accepted c t (decode t))) .table ≡ t
+      go : (o : Option Refusal) → putsInOrder c (isRefused ((refusedOr o t (lentTo c) (accepted c t (decode t))) .answer)) ≡ false →
+          (refusedOr o t (lentTo c) (accepted c t (decode t))) .table ≡ t
       go none m = question-keeps c t m
       go (some r) m = refl
 
--- "No order is left free: benches, jobs and holders fix every byte": two tables left by such calls, with the same benches, jobs
--- and holders, are the same bytes
-pub changed-fixed : (c d : Call) (t u : List ℕ) → T (putsInOrder c (isRefused ((outcome c t) .answer))) → T (putsInOrder d (isRefused ((outcome d u) .answer))) → (decode ((outcome c t) .table)) .benches ≡ (decode ((outcome d u) .table)) .benches → (decode ((outcome c t) .table)) .named ≡ (decode ((outcome d u) .table)) .named → (decode ((outcome c t) .table)) .holders ≡ (decode ((outcome d u) .table)) .holders → (outcome c t) .table ≡ (outcome d u) .table
-changed-fixed c d t u p q benches named holders =
-    (changed-in-order c t p) .encoded ∙ same-bytes ((outcome c t) .table) ((outcome d u) .table) benches named holders ∙ sym ((changed-in-order d u q) .encoded)
+-- "No order is left free: benches, jobs and holders fix every byte": two tables left by such calls that hold the same sharing are
+-- the same bytes
+pub changed-fixed : (c d : Call) (t u : List ℕ) → T (putsInOrder c (isRefused ((outcome c t) .answer))) →
+    T (putsInOrder d (isRefused ((outcome d u) .answer))) → SameSharing ((outcome c t) .table) ((outcome d u) .table) →
+    (outcome c t) .table ≡ (outcome d u) .table
+changed-fixed c d t u p q e =
+    (changed-in-order c t p) .encoded ∙ same-bytes ((outcome c t) .table) ((outcome d u) .table) e ∙ sym ((changed-in-order d u q) .encoded)
 
 -- without a path nothing moves
 flips-none : (n : ℕ) (b d : Board) → Flips n b d → n ≡ 0 → d ≡ b
@@ -113,7 +124,8 @@ pub record OnlyReorders (t : List ℕ) (c : Call) : Type 0 where
   pub table : (outcome c t) .table ≡ encode (decode t)
   pub reordered : Reordered t ((outcome c t) .table)
 
-pub levelling-reorders : (t : List ℕ) → T (sound t) → (allowance : ℕ) → (relevel allowance (decode t)) .paths ≡ 0 → OnlyReorders t (levelling allowance)
+pub levelling-reorders : (t : List ℕ) → T (sound t) → (allowance : ℕ) → (relevel allowance (decode t)) .paths ≡ 0 →
+    OnlyReorders t (levelling allowance)
 unfolding levellingOutcome
 levelling-reorders t s allowance e =
     let k = levelling-accepted t s allowance in
@@ -142,7 +154,8 @@ module _ (P : List ℕ → Type 0) (holds : (u : List ℕ) → InOrder u → P u
       go true e = holds ((outcome c t) .table) (changed-in-order c t (true→T (putsInOrder c (isRefused ((outcome c t) .answer))) e))
       go false e = subst P (sym (order-left c t e)) p
 
-  first-keeps : (c : Call) (t : List ℕ) (o : Outcome) (later : Bool) → o ≡ outcome c t → P t ⊎ T (putsInOrder c (isRefused (o .answer)) || later) → P (o .table) ⊎ T later
+  first-keeps : (c : Call) (t : List ℕ) (o : Outcome) (later : Bool) → o ≡ outcome c t → P t ⊎ T (putsInOrder c (isRefused (o .answer)) || later) →
+      P (o .table) ⊎ T later
   first-keeps c t o later e (inl p) = inl (subst (λ o. P (o .table)) (sym e) (call-keeps c t (inl p)))
   first-keeps c t o later e (inr q) = go (either (putsInOrder c (isRefused (o .answer))) later q)
     where
@@ -150,7 +163,8 @@ module _ (P : List ℕ → Type 0) (holds : (u : List ℕ) → InOrder u → P u
       go (inl d) = inl (subst (λ o. P (o .table)) (sym e) (call-keeps c t (inr (subst (λ o. T (putsInOrder c (isRefused (o .answer)))) e d))))
       go (inr l) = inr l
 
-  run-keeps : (t : List ℕ) (cs : List Call) (os : List Outcome) → Runs AsDefined t cs os → P t ⊎ T (onceInOrder cs (refusedEach os)) → P (tableAfter t os)
+  run-keeps : (t : List ℕ) (cs : List Call) (os : List Outcome) → Runs AsDefined t cs os → P t ⊎ T (onceInOrder cs (refusedEach os)) →
+      P (tableAfter t os)
   run-keeps t [] [] r (inl p) = p
   run-keeps t [] [] r (inr q) = absurd q
   run-keeps t [] (o ∷ os) r p = absurd r
@@ -158,15 +172,19 @@ module _ (P : List ℕ → Type 0) (holds : (u : List ℕ) → InOrder u → P u
   run-keeps t (c ∷ cs) (o ∷ os) r p = run-keeps (o .table) cs os (r .1) (first-keeps c t o (onceInOrder cs (refusedEach os)) (r .0) p)
 
 -- so all chains rise, if they did before or were put in order ..
-pub run-rises : (t : List ℕ) (cs : List Call) (os : List Outcome) → Runs AsDefined t cs os → T (allRise t || onceInOrder cs (refusedEach os)) → T (allRise (tableAfter t os))
+pub run-rises : (t : List ℕ) (cs : List Call) (os : List Outcome) → Runs AsDefined t cs os → T (allRise t || onceInOrder cs (refusedEach os)) →
+    T (allRise (tableAfter t os))
 run-rises t cs os r p = run-keeps (λ u. T (allRise u)) in-order-rises t cs os r (either (allRise t) (onceInOrder cs (refusedEach os)) p)
 
 -- .. the table is that of the board it holds, if it was before or was put in order ..
-pub run-fixed : (t : List ℕ) (cs : List Call) (os : List Outcome) → Runs AsDefined t cs os → (t ≡ encode (decode t)) ⊎ T (onceInOrder cs (refusedEach os)) → tableAfter t os ≡ encode (decode (tableAfter t os))
+pub run-fixed : (t : List ℕ) (cs : List Call) (os : List Outcome) → Runs AsDefined t cs os →
+    (t ≡ encode (decode t)) ⊎ T (onceInOrder cs (refusedEach os)) → tableAfter t os ≡ encode (decode (tableAfter t os))
 run-fixed = run-keeps (λ u. u ≡ encode (decode u)) (λ u o. o .encoded)
 
 -- .. and two counters that hold the same sharing have the same bytes, each after a list of calls in which its table was put in
 -- order: "stored copies" can be matched
-pub runs-match : (t u : List ℕ) (cs ds : List Call) (os ps : List Outcome) → Runs AsDefined t cs os → Runs AsDefined u ds ps → T (onceInOrder cs (refusedEach os)) → T (onceInOrder ds (refusedEach ps)) → (decode (tableAfter t os)) .benches ≡ (decode (tableAfter u ps)) .benches → (decode (tableAfter t os)) .named ≡ (decode (tableAfter u ps)) .named → (decode (tableAfter t os)) .holders ≡ (decode (tableAfter u ps)) .holders → tableAfter t os ≡ tableAfter u ps
-runs-match t u cs ds os ps r s p q benches named holders =
-    run-fixed t cs os r (inr p) ∙ same-bytes (tableAfter t os) (tableAfter u ps) benches named holders ∙ sym (run-fixed u ds ps s (inr q))
+pub runs-match : (t u : List ℕ) (cs ds : List Call) (os ps : List Outcome) → Runs AsDefined t cs os → Runs AsDefined u ds ps →
+    T (onceInOrder cs (refusedEach os)) → T (onceInOrder ds (refusedEach ps)) → SameSharing (tableAfter t os) (tableAfter u ps) →
+    tableAfter t os ≡ tableAfter u ps
+runs-match t u cs ds os ps r s p q e =
+    run-fixed t cs os r (inr p) ∙ same-bytes (tableAfter t os) (tableAfter u ps) e ∙ sym (run-fixed u ds ps s (inr q))

@@ -9,7 +9,7 @@ use lib.Dec.{T, eqb}
 use lib.ListN.{length, getD, length-map, List·getD-eq-default}
 use Rattle.spec_lists.specs.Lists.{bit, count, In, nth, enumerate}
 use Rattle.spec_table.specs.Board.{Board, holderOf, stands, standing, jobsHeld, Valid}
-use Rattle.spec_table.specs.Table.{words, Entry, vacant, filled, holderIn, Layout, layout, chains, entryFits, placed, fits, sound, boardOf, decode, encode, Reordered}
+use Rattle.spec_table.specs.Table.{words, Entry, vacant, filled, holderIn, Layout, layout, chains, entryFits, placed, fits, sound, boardOf, decode, encode, benchChain, Reordered}
 use Rattle.spec_lists.proofs.Tests.{true→T, T→true, Compared, same, other, compared, eqb-T}
 use Rattle.spec_lists.proofs.Elements.{in-all, in-nth, in-enumerate, enumerate-nth}
 use Rattle.spec_lists.proofs.Counting.{bit-other, count-none, count-some, counted-in}
@@ -17,10 +17,11 @@ use Rattle.spec_table.proofs.Held.{held-once}
 use Rattle.spec_table.proofs.Places.{fits-length, fits-entries}
 use Rattle.spec_table.proofs.Clauses.{sound-fits, sound-formed, sound-exact}
 use Rattle.spec_table.proofs.Sound.{sound-storable, standing-count, standing-word, count-placed, fits-chains, own-chain, other-chain, not-held, holder-record, stands-record, stored-fits}
-use Rattle.spec_table.proofs.Encode.{encode-sound, decode-encode}
+use Rattle.spec_table.proofs.Encode.{encode-sound, decode-encode, same-board}
 
 -- on the chain of bench x are the jobs that x holds, each once, in whatever order
-pub chain-count : (t : List ℕ) → T (sound t) → (x j : ℕ) → 1 ≤ x → x ≤ (layout (words t)) .benches → count j (nth (chains (layout (words t))) x []) ≡ count j (jobsHeld 1 x ((decode t) .holders))
+pub chain-count : (t : List ℕ) → T (sound t) → (x j : ℕ) → 1 ≤ x → x ≤ (layout (words t)) .benches →
+    count j (benchChain t x) ≡ count j (jobsHeld 1 x ((decode t) .holders))
 chain-count t s x j low high = on (filled e) refl ∙ sym held
   where
     l : Layout
@@ -32,18 +33,28 @@ chain-count t s x j low high = on (filled e) refl ∙ sym held
     held : count j (jobsHeld 1 x ((decode t) .holders)) ≡ bit (eqb (holderIn e) x)
     held = held-once j x ((decode t) .holders) low ∙ ap (λ y. bit (eqb y x)) (holder-record t j)
 
-    stored : T (filled e) → {z : Bool} → Compared (holderIn e) x z → count j (nth (chains l) x []) ≡ bit z
-    stored f (same d) = subst (λ y. count j (nth (chains l) y []) ≡ 1) d (own-chain t s j f)
+    stored : T (filled e) → {z : Bool} → Compared (holderIn e) x z → count j (benchChain t x) ≡ bit z
+    stored f (same d) = subst (λ y. count j (benchChain t y) ≡ 1) d (own-chain t s j f)
     stored f (other d) = other-chain t s j x f (λ q. d (sym q))
 
-    on : (z : Bool) → filled e ≡ z → count j (nth (chains l) x []) ≡ bit (eqb (holderIn e) x)
+    on : (z : Bool) → filled e ≡ z → count j (benchChain t x) ≡ bit (eqb (holderIn e) x)
     on true q = stored (true→T (filled e) q) (compared (holderIn e) x)
     on false q =
-        let only = (sound-formed t s) .only (nth (chains l) x []) (in-nth (chains l) x [] low (omega (arith, fits-chains t (sound-fits t s)))) in
-        let none = count-none j (nth (chains l) x []) (λ i. subst T q (only j i)) in
+        let only = (sound-formed t s) .only (benchChain t x) (in-nth (chains l) x [] low (omega (arith, fits-chains t (sound-fits t s)))) in
+        let none = count-none j (benchChain t x) (λ i. subst T q (only j i)) in
         none ∙ sym (bit-other (holderIn e) x (λ d. omega (arith, not-held e q)))
 
--- two sound tables of one board are the same table in two orders
+-- two tables of one board: the same jobs stand ..
+pub same-filled : (t u : List ℕ) → decode u ≡ decode t → (j : ℕ) →
+    filled (nth ((layout (words u)) .entries) j vacant) ≡ filled (nth ((layout (words t)) .entries) j vacant)
+same-filled t u e j = sym (stands-record u j) ∙ ap (λ (b : Board). stands b j) e ∙ stands-record t j
+
+-- .. with the same holders
+pub same-holder : (t u : List ℕ) → decode u ≡ decode t → (j : ℕ) →
+    holderIn (nth ((layout (words u)) .entries) j vacant) ≡ holderIn (nth ((layout (words t)) .entries) j vacant)
+same-holder t u e j = sym (holder-record u j) ∙ ap (λ (b : Board). holderOf b j) e ∙ holder-record t j
+
+-- if both are sound: the same sizes, header and jobs on each chain ..
 module _ (t u : List ℕ) (s : T (sound t)) (r : T (sound u)) (e : decode u ≡ decode t) where
   pub same-benches : (layout (words u)) .benches ≡ (layout (words t)) .benches
   unfolding decode boardOf
@@ -54,7 +65,11 @@ module _ (t u : List ℕ) (s : T (sound t)) (r : T (sound u)) (e : decode u ≡ 
   same-jobs =
       let m = layout (words u) in
       let l = layout (words t) in
-      sym (fits-entries u (sound-fits u r)) ∙ sym (length-map (m .entries) holderIn) ∙ ap (λ (b : Board). length (b .holders)) e ∙ length-map (l .entries) holderIn ∙ fits-entries t (sound-fits t s)
+      sym (fits-entries u (sound-fits u r))
+      ∙ sym (length-map (m .entries) holderIn)
+      ∙ ap (λ (b : Board). length (b .holders)) e
+      ∙ length-map (l .entries) holderIn
+      ∙ fits-entries t (sound-fits t s)
 
   same-long : length u ≡ length t
   same-long = omega (arith, fits-length u (sound-fits u r), fits-length t (sound-fits t s), same-benches, same-jobs)
@@ -67,20 +82,29 @@ module _ (t u : List ℕ) (s : T (sound t)) (r : T (sound u)) (e : decode u ≡ 
   same-header (suc (suc (suc zero))) h = (sound-formed u r) .spare ∙ sym ((sound-formed t s) .spare)
   same-header (suc (suc (suc (suc i)))) h = absurd (omega arith)
 
-  same-on : (x j : ℕ) → count j (nth (chains (layout (words u))) x []) ≡ count j (nth (chains (layout (words t))) x [])
+  same-on : (x j : ℕ) → count j (benchChain u x) ≡ count j (benchChain t x)
   same-on zero j = refl
   same-on (suc i) j = go (decLe (suc i) ((layout (words t)) .benches))
     where
       none : (v : List ℕ) → T (sound v) → (layout (words v)) .benches ≤ i → getD (chains (layout (words v))) i [] ≡ []
       none v q h = List·getD-eq-default (chains (layout (words v))) [] (omega (arith, fits-chains v (sound-fits v q)))
 
-      go : Dec (suc i ≤ (layout (words t)) .benches) → count j (nth (chains (layout (words u))) (suc i) []) ≡ count j (nth (chains (layout (words t))) (suc i) [])
+      go : Dec (suc i ≤ (layout (words t)) .benches) → count j (benchChain u (suc i)) ≡ count j (benchChain t (suc i))
       go (yes h) =
-          chain-count u r (suc i) j (omega arith) (omega (arith, same-benches)) ∙ ap (λ (b : Board). count j (jobsHeld 1 (suc i) (b .holders))) e ∙ sym (chain-count t s (suc i) j (omega arith) h)
+          chain-count u r (suc i) j (omega arith) (omega (arith, same-benches))
+          ∙ ap (λ (b : Board). count j (jobsHeld 1 (suc i) (b .holders))) e
+          ∙ sym (chain-count t s (suc i) j (omega arith) h)
       go (no h) = ap (count j) (none u r (omega (arith, same-benches)) ∙ sym (none t s (omega arith)))
 
+  -- .. so they are one table in two orders
   pub sound-reordered : Reordered t u
-  sound-reordered = record { long = same-long; header = same-header; board = e; onChains = same-on }
+  sound-reordered =
+      record {
+        long = same-long;
+        header = same-header;
+        sharing = record { benches = ap (λ (b : Board). b .benches) e; jobs = ap (λ (b : Board). b .named) e; holders = ap (λ (b : Board). b .holders) e };
+        onChains = same-on;
+      }
 
 -- so is its encoding, every chain rising
 pub encoded-reordered : (t : List ℕ) → T (sound t) → Reordered t (encode (decode t))
@@ -96,16 +120,12 @@ module _ (t u : List ℕ) (s : T (sound t)) (r : Reordered t u) where
   abbrev m : Layout
   m = layout (words u)
 
+  board : decode u ≡ decode t
+  board = same-board u t (r .sharing)
+
   fits-too : T (fits u)
   unfolding fits
   fits-too = rw (r .long, r .header 0 (omega arith), r .header 1 (omega arith)) (sound-fits t s)
-
-  -- the same jobs stand, with the same holders
-  filled-too : (j : ℕ) → filled (nth (m .entries) j vacant) ≡ filled (nth (l .entries) j vacant)
-  filled-too j = sym (stands-record u j) ∙ ap (λ (b : Board). stands b j) (r .board) ∙ stands-record t j
-
-  holder-too : (j : ℕ) → holderIn (nth (m .entries) j vacant) ≡ holderIn (nth (l .entries) j vacant)
-  holder-too j = sym (holder-record u j) ∙ ap (λ (b : Board). holderOf b j) (r .board) ∙ holder-record t j
 
   chains-too : length (chains m) ≡ length (chains l)
   unfolding layout
@@ -115,15 +135,20 @@ module _ (t u : List ℕ) (s : T (sound t)) (r : Reordered t u) where
   entry-too e i f =
       let n = in-enumerate 1 e (m .entries) i in
       let p = enumerate-nth (n .0, e) (m .entries) vacant (n .1) in
-      let v = subst Valid (sym (r .board)) ((sound-storable t s) .valid) in
+      let v = subst Valid (sym board) ((sound-storable t s) .valid) in
       rw (p .2) (stored-fits u v (n .0) (rw (p .2) at (T→true (filled e) f)))
 
   place-too : (j : ℕ) → T (filled (nth (m .entries) j vacant)) → T (placed (chains m) j (holderIn (nth (m .entries) j vacant)))
   place-too j f =
       let h = holderIn (nth (m .entries) j vacant) in
-      let p = (sound-formed t s) .place j (subst T (filled-too j) f) in
-      in-all (λ c. eqb (count j (c .1)) (bit (eqb (c .0) h))) (enumerate 1 (chains m))
-      (λ c i. let n = enumerate-nth c (chains m) [] i in eqb-T (count j (c .1)) (bit (eqb (c .0) h)) (ap (count j) (n .2) ∙ r .onChains (c .0) j ∙ count-placed (chains l) j (holderIn (nth (l .entries) j vacant)) (c .0) p (n .0) (omega (arith, n .1, chains-too)) ∙ ap (λ y. bit (eqb (c .0) y)) (sym (holder-too j))))
+      let p = (sound-formed t s) .place j (subst T (same-filled t u board j) f) in
+      let here : (c : ℕ × List ℕ) → In c (enumerate 1 (chains m)) → count j (c .1) ≡ bit (eqb (c .0) h) =
+      λ c i. let n = enumerate-nth c (chains m) [] i in
+      ap (count j) (n .2)
+      ∙ r .onChains (c .0) j
+      ∙ count-placed (chains l) j (holderIn (nth (l .entries) j vacant)) (c .0) p (n .0) (omega (arith, n .1, chains-too))
+      ∙ ap (λ y. bit (eqb (c .0) y)) (sym (same-holder t u board j)) in
+      in-all (λ c. eqb (count j (c .1)) (bit (eqb (c .0) h))) (enumerate 1 (chains m)) (λ c i. eqb-T (count j (c .1)) (bit (eqb (c .0) h)) (here c i))
 
   only-too : (c : List ℕ) → In c (chains m) → (j : ℕ) → In j c → T (filled (nth (m .entries) j vacant))
   only-too c i j k =
@@ -131,16 +156,18 @@ module _ (t u : List ℕ) (s : T (sound t)) (r : Reordered t u) where
       let n = enumerate-nth (q .0, c) (chains m) [] (q .1) in
       let d = nth (chains l) (q .0) [] in
       let there : In j d = counted-in j d (omega (arith, count-some j c k, ap (count j) (n .2), r .onChains (q .0) j)) in
-      subst T (sym (filled-too j)) ((sound-formed t s) .only d (in-nth (chains l) (q .0) [] (n .0) (omega (arith, n .1, chains-too))) j there)
+      subst T (sym (same-filled t u board j)) ((sound-formed t s) .only d (in-nth (chains l) (q .0) [] (n .0) (omega (arith, n .1, chains-too))) j there)
 
   pub reordered-sound : T (sound u)
   unfolding layout
   reordered-sound =
-      (sound-exact u) .1
-      (fits-too, record {
-        entry = entry-too;
-        place = place-too;
-        only = only-too;
-        standing = r .header 2 (omega arith) ∙ standing-word t s ∙ ap standing (sym (r .board)) ∙ sym (standing-count u);
-        spare = r .header 3 (omega arith) ∙ (sound-formed t s) .spare;
-      })
+      (sound-exact u) .1 (
+        fits-too,
+        record {
+          entry = entry-too;
+          place = place-too;
+          only = only-too;
+          standing = r .header 2 (omega arith) ∙ standing-word t s ∙ ap standing (sym board) ∙ sym (standing-count u);
+          spare = r .header 3 (omega arith) ∙ (sound-formed t s) .spare;
+        },
+      )

@@ -4,7 +4,7 @@ use mathlib.Core.Path.{_≡_, ap}
 use mathlib.Core.List.{List}
 use lib.Dec.{T}
 use Rattle.spec_table.specs.Board.{Board}
-use Rattle.spec_table.specs.Table.{words, layout, formed, fits, sound, decode, encode, Storable}
+use Rattle.spec_table.specs.Table.{words, layout, formed, fits, sound, decode, encode, SameSharing, Storable}
 use Rattle.spec_lists.proofs.Tests.{both}
 use Rattle.spec_table.proofs.Words.{layout-encode, fits-encode}
 use Rattle.spec_table.proofs.Layouts.{boardOf-layoutOf, formed-layoutOf}
@@ -19,6 +19,10 @@ pub decode-encode : (b : Board) → Storable b → decode (encode b) ≡ b
 unfolding decode
 decode-encode b s = rw (layout-encode b s) (boardOf-layoutOf b (s .valid))
 
--- two tables with the same benches, jobs and holders encode to the same bytes
-pub same-bytes : (t u : List ℕ) → (decode t) .benches ≡ (decode u) .benches → (decode t) .named ≡ (decode u) .named → (decode t) .holders ≡ (decode u) .holders → encode (decode t) ≡ encode (decode u)
-same-bytes t u b n h = ap encode (λ i. record { benches = b i; named = n i; holders = h i })
+-- benches, jobs and holders are all of a board ..
+pub same-board : (t u : List ℕ) → SameSharing t u → decode t ≡ decode u
+same-board t u e = λ i. record { benches = e .benches i; named = e .jobs i; holders = e .holders i }
+
+-- .. so two tables that hold the same sharing encode to the same bytes
+pub same-bytes : (t u : List ℕ) → SameSharing t u → encode (decode t) ≡ encode (decode u)
+same-bytes t u e = ap encode (same-board t u e)

@@ -10,20 +10,20 @@ use lib.Dec.{T}
 use lib.ListN.{length, getD}
 use lib.Seq.{ext-getD}
 use Rattle.spec_lists.specs.Lists.{range, rises, In, nth}
-use Rattle.spec_table.specs.Board.{Board, namesOf, holderOf, stands, standing, jobsHeld}
-use Rattle.spec_table.specs.Table.{words, bytesOf, Entry, vacant, filled, holderIn, Layout, layout, follow, chains, sound, boardOf, decode, positionOf, flat, encode, Storable, allRise}
+use Rattle.spec_table.specs.Board.{Board, namesOf, standing, jobsHeld}
+use Rattle.spec_table.specs.Table.{words, bytesOf, Entry, vacant, filled, holderIn, Layout, layout, follow, chains, sound, boardOf, decode, positionOf, flat, encode, Storable, allRise, SameSharing}
 use Rattle.spec_lists.proofs.Elements.{all-in, in-all, in-getD, in-nth, nth-map, map-in}
 use Rattle.spec_lists.proofs.NumberLists.{values-same}
 use Rattle.spec_lists.proofs.RisingLists.{rises-same}
 use Rattle.spec_table.proofs.Held.{held-rises}
 use Rattle.spec_table.proofs.Words.{layout-encode}
 use Rattle.spec_table.proofs.Places.{fits-heads, fits-entries, layout-bytes}
-use Rattle.spec_table.proofs.Clauses.{sound-fits, sound-formed}
-use Rattle.spec_table.proofs.Sound.{sound-storable, standing-word, fits-chains, chain-few, on-chain, holder-within, holder-place, holder-record, names-record, stands-record, Standing, stored-record}
+use Rattle.spec_table.proofs.Clauses.{sound-fits}
+use Rattle.spec_table.proofs.Sound.{sound-storable, fits-chains, chain-few, on-chain, holder-within, holder-place, holder-record, names-record, stands-record, Standing, stored-record}
 use Rattle.spec_table.proofs.ChainEnds.{after}
 use Rattle.spec_table.proofs.Layouts.{chains-layoutOf}
 use Rattle.spec_table.proofs.Encode.{encode-sound, decode-encode, same-bytes}
-use Rattle.spec_table.proofs.AnyOrder.{chain-count, same-benches, same-jobs}
+use Rattle.spec_table.proofs.AnyOrder.{chain-count, same-filled, same-holder, same-benches, same-jobs, sound-reordered}
 
 -- the table of a board has all its chains rising
 pub encode-rises : (b : Board) → Storable b → T (allRise (encode b))
@@ -37,7 +37,8 @@ encode-rises b s = rw (layout-encode b s, chains-layoutOf b (s .valid)) (in-all 
     each c i = let m = map-in held c (range 1 (b .benches)) i in rw (m .2) (held-rises (m .0) (b .holders))
 
 -- chains that list the same jobs begin with the same job, and the same job comes after each of them
-follow-same : (es fs : List Entry) (k h g : ℕ) → length (follow es k h) < k → follow es k h ≡ follow fs k g → (h ≡ g) × ((j : ℕ) → In j (follow es k h) → after es j ≡ after fs j)
+follow-same : (es fs : List Entry) (k h g : ℕ) → length (follow es k h) < k → follow es k h ≡ follow fs k g →
+    (h ≡ g) × ((j : ℕ) → In j (follow es k h) → after es j ≡ after fs j)
 follow-same es fs zero h g l e = absurd (omega arith)
 follow-same es fs (suc k) zero zero l e = (refl, λ j i. absurd i)
 follow-same es fs (suc k) zero (suc m) l e = absurd (omega (arith, ap length e))
@@ -48,7 +49,8 @@ follow-same es fs (suc k) (suc i) (suc m) l e =
     let later = follow-same es fs k (after es (suc i)) (after fs (suc m)) (omega arith) tail in
     (first, each first later)
   where
-    each : suc i ≡ suc m → (after es (suc i) ≡ after fs (suc m)) × ((j : ℕ) → In j (follow es k (after es (suc i))) → after es j ≡ after fs j) → (j : ℕ) → In j (follow es (suc k) (suc i)) → after es j ≡ after fs j
+    each : suc i ≡ suc m → (after es (suc i) ≡ after fs (suc m)) × ((j : ℕ) → In j (follow es k (after es (suc i))) → after es j ≡ after fs j) →
+        (j : ℕ) → In j (follow es (suc k) (suc i)) → after es j ≡ after fs j
     each first later j (inl q) = ap (after es) q ∙ later .0 ∙ ap (after fs) (sym first ∙ sym q)
     each first later j (inr o) = later .1 j o
 
@@ -61,7 +63,8 @@ module _ (t u : List ℕ) (s : T (sound t)) (r : T (sound u)) (e : decode u ≡ 
   m = layout (words u)
 
   -- so the chain of bench x begins and goes on alike
-  links-same : (x : ℕ) → 1 ≤ x → x ≤ l .benches → (nth (m .heads) x 0 ≡ nth (l .heads) x 0) × ((j : ℕ) → In j (nth (chains m) x []) → after (m .entries) j ≡ after (l .entries) j)
+  links-same : (x : ℕ) → 1 ≤ x → x ≤ l .benches →
+      (nth (m .heads) x 0 ≡ nth (l .heads) x 0) × ((j : ℕ) → In j (nth (chains m) x []) → after (m .entries) j ≡ after (l .entries) j)
   links-same x low high =
       let on : (n : Layout) → nth (chains n) x [] ≡ follow (n .entries) (suc (n .jobs)) (nth (n .heads) x 0) = λ n. nth-map (follow (n .entries) (suc (n .jobs))) (n .heads) x 0 in
       let few = chain-few u r (nth (chains m) x []) (in-nth (chains m) x [] low (omega (arith, fits-chains u (sound-fits u r), same-benches t u s r e))) in
@@ -75,13 +78,14 @@ module _ (t u : List ℕ) (s : T (sound t)) (r : T (sound u)) (e : decode u ≡ 
       (λ i h. (links-same (suc i) (omega arith) (omega (arith, fits-heads u (sound-fits u r), same-benches t u s r e))) .0)
 
   -- a standing job's record has the same benches, holder and next job
-  standing-same : (j : ℕ) → Standing (m .benches) (nth (m .entries) j vacant) → Standing (l .benches) (nth (l .entries) j vacant) → nth (m .entries) j vacant ≡ nth (l .entries) j vacant
+  standing-same : (j : ℕ) → Standing (m .benches) (nth (m .entries) j vacant) → Standing (l .benches) (nth (l .entries) j vacant) →
+      nth (m .entries) j vacant ≡ nth (l .entries) j vacant
   unfolding decode boardOf
   standing-same j p q =
       let a = nth (m .entries) j vacant in
       let b = nth (l .entries) j vacant in
       let names : a .names ≡ b .names = sym (rw (p .is-filled) at (names-record u j)) ∙ ap (λ (n : Board). namesOf n j) e ∙ rw (q .is-filled) at (names-record t j) in
-      let held : holderIn a ≡ holderIn b = sym (holder-record u j) ∙ ap (λ (n : Board). holderOf n j) e ∙ holder-record t j in
+      let held : holderIn a ≡ holderIn b = same-holder t u e j in
       let holder : a .holder ≡ b .holder = holder-place (m .benches) a (p .benches-two) ∙ (λ i. positionOf (held i) (names i)) ∙ sym (holder-place (l .benches) b (q .benches-two)) in
       let x = holderIn a in
       let bench = holder-within (m .benches) a (p .benches-two) in
@@ -92,13 +96,12 @@ module _ (t u : List ℕ) (s : T (sound t)) (r : T (sound u)) (e : decode u ≡ 
   record-same : (j : ℕ) → nth (m .entries) j vacant ≡ nth (l .entries) j vacant
   record-same j = go (stored-record u ((sound-storable u r) .valid) j) (stored-record t ((sound-storable t s) .valid) j)
     where
-      stands-both : filled (nth (m .entries) j vacant) ≡ filled (nth (l .entries) j vacant)
-      stands-both = sym (stands-record u j) ∙ ap (λ (b : Board). stands b j) e ∙ stands-record t j
-
-      go : (nth (m .entries) j vacant ≡ vacant) ⊎ Standing (m .benches) (nth (m .entries) j vacant) → (nth (l .entries) j vacant ≡ vacant) ⊎ Standing (l .benches) (nth (l .entries) j vacant) → nth (m .entries) j vacant ≡ nth (l .entries) j vacant
+      go : (nth (m .entries) j vacant ≡ vacant) ⊎ Standing (m .benches) (nth (m .entries) j vacant) →
+          (nth (l .entries) j vacant ≡ vacant) ⊎ Standing (l .benches) (nth (l .entries) j vacant) →
+          nth (m .entries) j vacant ≡ nth (l .entries) j vacant
       go (inl p) (inl q) = p ∙ sym q
-      go (inl p) (inr q) = absurd (false≢true (sym (ap filled p) ∙ stands-both ∙ q .is-filled))
-      go (inr p) (inl q) = absurd (false≢true (sym (ap filled q) ∙ sym stands-both ∙ p .is-filled))
+      go (inl p) (inr q) = absurd (false≢true (sym (ap filled p) ∙ same-filled t u e j ∙ q .is-filled))
+      go (inr p) (inl q) = absurd (false≢true (sym (ap filled q) ∙ sym (same-filled t u e j) ∙ p .is-filled))
       go (inr p) (inr q) = standing-same j p q
 
   entries-same : m .entries ≡ l .entries
@@ -107,15 +110,14 @@ module _ (t u : List ℕ) (s : T (sound t)) (r : T (sound u)) (e : decode u ≡ 
       (λ i h. record-same (suc i))
 
   layout-same : m ≡ l
+  unfolding layout
   layout-same =
-      let benches = same-benches t u s r e in
-      let jobs = same-jobs t u s r e in
-      let count : m .standing ≡ l .standing = standing-word u r ∙ ap standing e ∙ sym (standing-word t s) in
-      let spare : m .spare ≡ l .spare = (sound-formed u r) .spare ∙ sym ((sound-formed t s) .spare) in
-      λ i. record { benches = benches i; jobs = jobs i; standing = count i; spare = spare i; heads = heads-same i; entries = entries-same i }
+      let h = (sound-reordered t u s r e) .header in
+      λ i. record { benches = h 0 (omega arith) i; jobs = h 1 (omega arith) i; standing = h 2 (omega arith) i; spare = h 3 (omega arith) i; heads = heads-same i; entries = entries-same i }
 
 -- where a sound table's chains rise, each is the rising list of the jobs that its bench holds
-rising-chains : (t : List ℕ) → T (sound t) → T (allRise t) → chains (layout (words t)) ≡ map (λ x. jobsHeld 1 x ((decode t) .holders)) (range 1 ((decode t) .benches))
+rising-chains : (t : List ℕ) → T (sound t) → T (allRise t) →
+    chains (layout (words t)) ≡ map (λ x. jobsHeld 1 x ((decode t) .holders)) (range 1 ((decode t) .benches))
 unfolding allRise decode boardOf
 rising-chains t s a = values-same held 1 (b .benches) cs [] long (λ k h. here k h ∙ ap held (omega arith))
   where
@@ -153,7 +155,7 @@ rising-encoded t bytes s = (forth, λ e. subst (λ u. T (allRise u)) (sym e) (en
         let l = layout-same (encode b) t (encode-sound b st) s (sym (decode-encode b st)) cs ∙ layout-encode b st in
         layout-bytes t (sound-fits t s) bytes ∙ ap (λ (m : Layout). bytesOf (flat m)) l
 
--- so two of them with the same benches, jobs and holders are the same bytes: stored copies can be matched
-pub rising-same : (t u : List ℕ) → ((i : ℕ) → getD t i 0 < 256) → ((i : ℕ) → getD u i 0 < 256) → T (sound t) → T (sound u) → T (allRise t) → T (allRise u) → (decode t) .benches ≡ (decode u) .benches → (decode t) .named ≡ (decode u) .named → (decode t) .holders ≡ (decode u) .holders → t ≡ u
-rising-same t u bt bu s r a c benches named holders =
-    (rising-encoded t bt s) .0 a ∙ same-bytes t u benches named holders ∙ sym ((rising-encoded u bu r) .0 c)
+-- so two of them that hold the same sharing are the same bytes: stored copies can be matched
+pub rising-same : (t u : List ℕ) → ((i : ℕ) → getD t i 0 < 256) → ((i : ℕ) → getD u i 0 < 256) → T (sound t) → T (sound u) → T (allRise t) →
+    T (allRise u) → SameSharing t u → t ≡ u
+rising-same t u bt bu s r a c e = (rising-encoded t bt s) .0 a ∙ same-bytes t u e ∙ sym ((rising-encoded u bu r) .0 c)

@@ -201,13 +201,23 @@ blankTable benches jobs = bytesOf (benches ∷ jobs ∷ replicate (2 + benches +
 unfoldable pub allRise : List ℕ → Bool
 allRise t = all rises (chains (layout (words t)))
 
--- 02: u is the table t "in another order": as long, with the same words 0 to 3, benches, jobs and holders, and on each
--- bench's chain the same jobs
+-- the chain of bench x
+abbrev pub benchChain : List ℕ → ℕ → List ℕ
+benchChain t x = nth (chains (layout (words t))) x []
+
+-- 02: two tables that "hold the same sharing": the same "benches, jobs and holders"
+pub record SameSharing (t u : List ℕ) : Type 0 where
+  pub benches : (decode t) .benches ≡ (decode u) .benches
+  pub jobs : (decode t) .named ≡ (decode u) .named
+  pub holders : (decode t) .holders ≡ (decode u) .holders
+
+-- 02: u is the table t "in another order": as long, with the same words 0 to 3, the same sharing, and on each bench's
+-- chain the same jobs
 pub record Reordered (t u : List ℕ) : Type 0 where
   pub long : length u ≡ length t
   pub header : (i : ℕ) → i < 4 → getD (words u) i 0 ≡ getD (words t) i 0
-  pub board : decode u ≡ decode t
-  pub onChains : (x j : ℕ) → count j (nth (chains (layout (words u))) x []) ≡ count j (nth (chains (layout (words t))) x [])
+  pub sharing : SameSharing u t
+  pub onChains : (x j : ℕ) → count j (benchChain u x) ≡ count j (benchChain t x)
 
 -- no job, or a job that names two benches, as a record holds it
 abbrev pub paired : List ℕ → Bool
