@@ -2,23 +2,26 @@
 use Prim.Native.Nat.{ℕ}
 use native.Mathlib.Omega.{arith}
 use mathlib.Core.Path.{_≡_, refl, sym, ap, subst, _∙_}
-use mathlib.Core.Bool.{Bool, true, false, cond}
+use mathlib.Core.Bool.{Bool, true, false, cond, not}
 use mathlib.Core.List.{List, [], _∷_}
+use lib.Dec.{T, eqb}
 use lib.ListN.{replicate, getD}
-use Rattle.spec_table.specs.Table.{decode}
+use borrow.Author.Tests.{ne-eqb}
+use Rattle.spec_table.specs.Table.{decode, SameSharing}
 use Rattle.spec_sharing.specs.Sharing.{level}
-use Rattle.spec_calls.specs.Answers.{Answer, isRefused, refused, arrived, closed, said, levelYes, levelNo}
+use Rattle.spec_calls.specs.Answers.{Answer, Outcome, isRefused, refused, arrived, closed, said, levelYes, levelNo}
 use Rattle.spec_calls.specs.Calls.{Call, ask, levelCheck, outcome, blanking, asked, accepted}
-use Rattle.spec_calls.specs.JobBook.{Book, run, tableAfter, Start}
+use Rattle.spec_calls.specs.JobBook.{Book, refusedEach, onceInOrder, run, tableAfter, Start}
 use Rattle.spec_calls.proofs.Blanking.{blanking-fits}
 use Rattle.spec_calls.proofs.Refusals.{accepted-by, refusal-positive}
+use Rattle.spec_calls.proofs.ChangedTables.{runs-match}
 use Rattle.spec_calls.proofs.Demand3.{blanking-starts}
-use Rattle.spec_calls.proofs.Instance.{run-claim}
+use Rattle.spec_calls.proofs.Instance.{run-runs, run-claim}
 use Rattle.board_answers.specs.Answered.{returned}
 use Rattle.jobboard_report.specs.Report.{results}
 use Rattle.jobboard.specs.Desk.{Reported}
 use Rattle.jobboard.proofs.Contracts.{blank-reports, check-reports, arrival-reports, closing-reports, levelling-reports, level-check-reports, load-reports, heaviest-reports, tight-set-reports, sheet-reports}
-use Rattle.jobboard_runs.specs.CCalls.{Observed, Called, byArrival, byClosing, byLevelling, byLoad, byHeaviest, byTightSet, byCheck, byLevelCheck, bySheet, CallsMade, ReportedEach, lastTable, CStarted, byBlank, byLevel, CClaim}
+use Rattle.jobboard_runs.specs.CCalls.{Observed, Called, byArrival, byClosing, byLevelling, byLoad, byHeaviest, byTightSet, byCheck, byLevelCheck, bySheet, CallsMade, ReportedEach, refusedBy, lastTable, CStarted, byBlank, byLevel, CClaim}
 use Rattle.jobboard_runs.proofs.Done.{level-start}
 
 -- each C call reports the defined outcome
@@ -55,12 +58,39 @@ pub c-demand-3 : (t : List ℕ) (k : Book) → Start t k → (cs : List Call) (v
 c-demand-3 t k s cs vs m =
     record { claim = run-claim t k s cs; reported = reported-each t cs vs m; table = last-table t cs vs m }
 
+-- a call was refused exactly if another number than 0 was returned ..
+refused-number : (a : Answer) → not (eqb (returned a) 0) ≡ isRefused a
+refused-number (refused r) = ap not (ne-eqb (returned (refused r)) 0 (λ e. omega (arith, refusal-positive r)))
+refused-number (arrived holder rose moved) = refl
+refused-number (closed fell moved) = refl
+refused-number (said f) = refl
+
+-- .. so a C program knows of each call whether it was
+refused-by : (os : List Outcome) (vs : List Observed) → ReportedEach os vs → refusedBy vs ≡ refusedEach os
+refused-by [] [] r = refl
+refused-by [] (v ∷ vs) r = absurd r
+refused-by (o ∷ os) [] r = absurd r
+refused-by (o ∷ os) (v ∷ vs) r =
+    let first = ap (λ n. not (eqb n 0)) (r .0 .delivered .number) ∙ refused-number (o .answer) in
+    let rest = refused-by os vs (r .1) in
+    λ i. first i ∷ rest i
+
+-- 02: "stored copies" can be matched: two tables that hold the same sharing are the same bytes, whatever each was to begin with,
+-- once an arrival, closing or levelling of each returned 0
+pub c-match : (t u : List ℕ) (cs ds : List Call) (vs ws : List Observed) → CallsMade t cs vs → CallsMade u ds ws →
+    T (onceInOrder cs (refusedBy vs)) → T (onceInOrder ds (refusedBy ws)) → SameSharing (lastTable t vs) (lastTable u ws) →
+    lastTable t vs ≡ lastTable u ws
+c-match t u cs ds vs ws m n p q e =
+    let here = last-table t cs vs m in
+    let there = last-table u ds ws n in
+    let once = subst (λ rs. T (onceInOrder cs rs)) (refused-by (run t cs) vs (reported-each t cs vs m)) p in
+    let twice = subst (λ rs. T (onceInOrder ds rs)) (refused-by (run u ds) ws (reported-each u ds ws n)) q in
+    let same = subst (λ x. SameSharing x (tableAfter u (run u ds))) here (subst (SameSharing (lastTable t vs)) there e) in
+    here ∙ runs-match t u cs ds (run t cs) (run u ds) (run-runs t cs) (run-runs u ds) once twice same ∙ sym there
+
 -- where 0 is returned, the call was not refused
 zero-accepted : (a : Answer) → returned a ≡ 0 → isRefused a ≡ false
-zero-accepted (refused r) e = absurd (omega (arith, refusal-positive r))
-zero-accepted (arrived holder rose moved) e = refl
-zero-accepted (closed fell moved) e = refl
-zero-accepted (said f) e = refl
+zero-accepted a e = sym (refused-number a) ∙ ap (λ n. not (eqb n 0)) e
 
 -- an accepted level check that says 1 says yes
 one-level : (z : Bool) (n m : ℕ) → m ∷ [] ≡ results (said (cond z levelYes levelNo)) (n ∷ []) → m ≡ 1 → said (cond z levelYes levelNo) ≡ said levelYes

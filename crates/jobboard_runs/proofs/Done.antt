@@ -2,16 +2,18 @@
 use Prim.Native.Nat.{ℕ}
 use mathlib.Core.Path.{_≡_, sym, ap, subst, _∙_}
 use mathlib.Core.List.{List, []}
+use lib.Dec.{T}
 use lib.ListN.{replicate}
 use Rattle.spec_lists.proofs.Tests.{T→true}
-use Rattle.spec_table.specs.Table.{sound, decode}
+use Rattle.spec_table.specs.Table.{sound, decode, SameSharing}
 use Rattle.spec_calls.specs.Answers.{Outcome, isRefused, said, levelYes}
 use Rattle.spec_calls.specs.Calls.{Call, ask, levelCheck, outcome}
-use Rattle.spec_calls.specs.JobBook.{Book, Runs, AsDefined, Start, fromLevel, Claim}
+use Rattle.spec_calls.specs.JobBook.{Book, refusedEach, onceInOrder, tableAfter, Runs, AsDefined, Start, fromLevel, Claim}
 use Rattle.spec_calls.proofs.Blanking.{blanking-fits}
 use Rattle.spec_calls.proofs.Refusals.{accepted-sound}
 use Rattle.spec_calls.proofs.Questions.{level-check-level}
-use Rattle.spec_calls.proofs.Demand3.{demand-3, blanking-starts}
+use Rattle.spec_calls.proofs.ChangedTables.{runs-match}
+use Rattle.spec_calls.proofs.Demand3.{demand-3, runs-defined, blanking-starts}
 use Rattle.board_changes.proofs.Contracts.{blank-meets, arrival-meets, closing-meets, levelling-meets}
 use Rattle.board_questions.proofs.Contracts.{form-check-meets, level-check-meets, load-meets, heaviest-meets, tight-set-meets}
 use Rattle.board_sheet.proofs.Contracts.{sheet-meets}
@@ -43,6 +45,14 @@ board-starts t k (byBlank κs a r s p e) =
     subst (λ (u : List ℕ). Start u (replicate (a .1 .1 .0) [])) (ap (λ (o : Outcome). o .table) (sym o)) (blanking-starts (a .1 .0) (a .1 .1 .0) (a .0 .now) (blanking-fits (a .1 .0) (a .1 .1 .0) (a .0 .now) n))
 board-starts t k (byLevel κs a r s p e) =
     level-start (a .0 .now) (ap (λ (o : Outcome). o .answer) (sym (level-check-meets κs a r s p)) ∙ e)
+
+-- 02: "Two counters hold the same sharing": their tables are the same bytes, whatever each began with, once the functions of each
+-- accepted a change
+pub board-match : (t u : List ℕ) (cs ds : List Call) (os ps : List Outcome) → Runs Done t cs os → Runs Done u ds ps →
+    T (onceInOrder cs (refusedEach os)) → T (onceInOrder ds (refusedEach ps)) → SameSharing (tableAfter t os) (tableAfter u ps) →
+    tableAfter t os ≡ tableAfter u ps
+board-match t u cs ds os ps r s =
+    runs-match t u cs ds os ps (runs-defined Done done-defined t cs os r) (runs-defined Done done-defined u ds ps s)
 
 -- demand 3: whatever calls are made of the board's functions, in whatever order
 pub board-demand-3 : (t : List ℕ) (k : Book) → Start t k → (cs : List Call) (os : List Outcome) → Runs Done t cs os → Claim t k cs os

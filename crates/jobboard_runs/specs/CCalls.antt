@@ -1,9 +1,11 @@
 -- A C call, by its own contract: what a C program observes of it. What it is lent stands in the order of its
 -- parameters, which the comment names: `a .0` is the first, `a .1 .0` the second, `a .1 .1 .0` the third ..
 use mathlib.Core.Path.{_≡_}
-use mathlib.Core.List.{List, [], _∷_}
+use mathlib.Core.Bool.{Bool, not}
+use mathlib.Core.List.{List, [], _∷_, map}
 use Prim.Native.Nat.{ℕ}
 use contract.Lifetimes.{Lfts}
+use lib.Dec.{eqb}
 use lib.ListN.{replicate}
 use Rattle.spec_table.specs.Table.{decode}
 use Rattle.spec_calls.specs.Answers.{Outcome}
@@ -101,6 +103,10 @@ ReportedEach [] (v ∷ vs) = ⊥
 ReportedEach (o ∷ os) [] = ⊥
 ReportedEach (o ∷ os) (v ∷ vs) =
     Reported o (v .number) (v .table) (v .beside) (v .before) (v .after) × ReportedEach os vs
+
+-- whether each call was refused, as a C program sees it: another number than 0 was returned
+abbrev pub refusedBy : List Observed → List Bool
+refusedBy vs = map (λ v. not (eqb (v .number) 0)) vs
 
 -- the table that the C program holds in the end
 abbrev pub lastTable : List ℕ → List Observed → List ℕ
