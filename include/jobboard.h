@@ -36,8 +36,16 @@
  *
  * A job that is not standing has four zero words, and next 0 ends a chain. A table is sound if its sizes fit, every standing job has
  * two different benches of 1 to B and holder 1 or 2, every standing job is on its holder's chain once and on no other, nothing else is
- * on a chain, word 2 is true and word 3 is 0. The order of jobs on a chain is free and no answer depends on it; an accepted arrival,
- * closing or levelling leaves every chain in rising order.
+ * on a chain, word 2 is true and word 3 is 0.
+ *
+ * What a stored copy may be compared with. Every accepted arrival, closing or levelling leaves all chains in rising job number, whether a
+ * job moved or not; a blank table has nothing on its chains. In such tables the sizes, the standing jobs, the benches that each names, in
+ * their order, and its holder fix every byte: two of them agree in these exactly if they are the same bytes. So a stored copy may be
+ * compared with any other, by memcmp, cmp or a hash.
+ *
+ * A table from elsewhere, or from before this was promised, may have a chain in another order. It is sound, and answered like the same
+ * board in order. Questions and refused calls leave its order as it is; the first accepted arrival, closing or levelling puts every
+ * chain in order. To do just that before a comparison, and move no job, call jobboard_levelling with allowance 0.
  */
 #ifndef JOBBOARD_H
 #define JOBBOARD_H
@@ -128,7 +136,8 @@ uint32_t jobboard_closing(uint8_t *table, size_t table_bytes, uint32_t job, uint
 /*
  * Levelling. A path improves if jobs handed along it lead from a bench to one with a load lower by two or more; a table is level if
  * none does. Turns improving paths, one after the other, until none is left or `allowance` of them are turned. Any allowance may be
- * passed: with 0 no job changes holder, and JOBBOARD_ENOUGH_PATHS or more always ends level.
+ * passed: with 0 no job changes holder and the chains are put in order (see FILES), and JOBBOARD_ENOUGH_PATHS or more always
+ * ends level.
  *
  * Results: *paths is the number of paths turned, at most the allowance; *level is 1 for "level" (no improving path is left), 0 for
  * "stopped" (the allowance is used up and one is left).

@@ -155,12 +155,28 @@ expect_kept 0 "The board is not level." room.board level-check
 expect_kept 0 "Bench 1 holds 3 jobs: 1 2 3
 Bench 2 holds no jobs." room.board show
 expect_sheet "  1    3    1    2    3" "  2    0"
+printf '\002\000\003\000\003\000\000\000\001\000\000\000\001\000\002\000\001\000\002\000\001\000\002\000\001\000\003\000\001\000\002\000\001\000\000\000' >ordered
 expect 0 "The board is not level yet; no paths turned." room.board level 0
+cmp -s room.board ordered || fail "level 0: no job moved, and the chain is not in order"
 expect 0 "The board is level; 1 path turned.
 Job 1 moves from bench 1 to bench 2." room.board level
 expect 0 "Job 2 is closed. Bench 1 has one job less; no jobs move." room.board close 2
 expect_kept 0 "Tight at height 1: 2 benches with 2 jobs among themselves: 1 2
 However these jobs are shared, one of these benches holds 1 or more." room.board tight 1
+
+# Two files with the same sharing, reached in other orders and with a job that came and went, can be matched byte for byte.
+do_all() { # FILE COMMANDS...
+    file=$1
+    shift
+    for words; do
+        commands=$((commands + 1))
+        "$program" "$file" $words >/dev/null || fail "$file: $words: status $?"
+    done
+}
+do_all one.board "new 2 4" "take 1 1 2" "take 2 1 2" "take 3 1 2"
+do_all other.board "new 2 4" "take 3 1 2" "take 2 1 2" "take 4 2 1" "take 1 2 1" "close 1" "close 4" "take 1 1 2"
+[ "$("$program" one.board show)" = "$("$program" other.board show)" ] || fail "the two files do not hold the same sharing"
+cmp -s one.board other.board || fail "two files with the same sharing differ"
 
 # The longest answers, whole: bench 1 of 500 holds 4,000 jobs, and all but eight of them leave it.
 printf "$(awk 'function word(n) { printf "\\%03o\\%03o", n % 256, int(n / 256) }
@@ -207,6 +223,6 @@ if [ -e /dev/full ]; then
 fi
 
 # Nothing is left beside the file.
-rm -f kept whole link.board
+rm -f kept whole ordered one.board other.board link.board
 [ "$(ls)" = room.board ] || fail "files were left: $(ls)"
 echo "desk_test: $commands runs of $(basename "$program"), as expected"
