@@ -225,7 +225,7 @@ static const struct command commands[] = {
     {"sheet", 0, 0, ASKS, run_sheet, "sheet                 the wall sheet, to print and pin up: bench, load and jobs in columns"},
     {"check", 0, 0, ASKS, run_check, "check                 whether the board is sound"},
     {"level-check", 0, 0, ASKS, run_level_check, "level-check           whether the board is level: nothing to hand along for the better"},
-    {"level", 0, 1, CHANGES, run_level, "level [PATHS]         hand jobs along, path by path, until the board is level or so many are turned; 0 only orders the file"},
+    {"level", 0, 1, CHANGES, run_level, "level [PATHS]         hand jobs along until the board is level, or so many paths; 0 only orders the file"},
 };
 
 static const size_t count = sizeof commands / sizeof commands[0];

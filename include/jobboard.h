@@ -41,11 +41,11 @@
  * What a stored copy may be compared with. Every accepted arrival, closing or levelling leaves all chains in rising job number, whether a
  * job moved or not; a blank table has nothing on its chains. In such tables the sizes, the standing jobs, the benches that each names, in
  * their order, and its holder fix every byte: two of them agree in these exactly if they are the same bytes. So a stored copy may be
- * compared with any other, by memcmp, cmp or a hash.
+ * compared with any other such table, by memcmp, cmp or a hash.
  *
- * A table from elsewhere, or from before this was promised, may have a chain in another order. It is sound, and answered like the same
- * board in order. Questions and refused calls leave its order as it is; the first accepted arrival, closing or levelling puts every
- * chain in order. To do just that before a comparison, and move no job, call jobboard_levelling with allowance 0.
+ * A table from elsewhere may have a chain in another order. It is as sound as in rising order, and answered alike. Questions and refused
+ * calls leave its order as it is; the first accepted arrival, closing or levelling puts every chain in order. To do just that before a
+ * comparison, and move no job, call jobboard_levelling with allowance 0.
  */
 #ifndef JOBBOARD_H
 #define JOBBOARD_H

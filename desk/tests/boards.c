@@ -156,7 +156,7 @@ static void counter_run(struct table *t)
 /* Expects this holder word of a job. */
 static void expect_holder(const struct table *t, uint32_t job, uint32_t holder)
 {
-    uint32_t word = word_at(t->bytes, 4 + word_at(t->bytes, 0) + 4 * ((size_t)job - 1) + 2);
+    uint32_t word = word_at(t->bytes, record_of(t->bytes, job) + 2);
     if (word != holder)
         fail("boards: %s: holder of job %u is %u, expected %u", board, (unsigned)job, (unsigned)word, (unsigned)holder);
 }

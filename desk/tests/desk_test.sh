@@ -157,14 +157,14 @@ Bench 2 holds no jobs." room.board show
 expect_sheet "  1    3    1    2    3" "  2    0"
 printf '\002\000\003\000\003\000\000\000\001\000\000\000\001\000\002\000\001\000\002\000\001\000\002\000\001\000\003\000\001\000\002\000\001\000\000\000' >ordered
 expect 0 "The board is not level yet; no paths turned." room.board level 0
-cmp -s room.board ordered || fail "level 0: no job moved, and the chain is not in order"
+cmp -s room.board ordered || fail "level 0: the file is not the same board in order"
 expect 0 "The board is level; 1 path turned.
 Job 1 moves from bench 1 to bench 2." room.board level
 expect 0 "Job 2 is closed. Bench 1 has one job less; no jobs move." room.board close 2
 expect_kept 0 "Tight at height 1: 2 benches with 2 jobs among themselves: 1 2
 However these jobs are shared, one of these benches holds 1 or more." room.board tight 1
 
-# Two files with the same sharing, reached in other orders and with a job that came and went, can be matched byte for byte.
+# Two files that came to the same sharing in different ways can be matched byte for byte.
 do_all() { # FILE COMMANDS...
     file=$1
     shift

@@ -87,7 +87,7 @@ static void turn_chains(struct table *t)
     for (uint32_t b = 1; b <= benches; b++) {
         uint32_t turned = 0, job = word_at(t->bytes, 3 + b);
         while (job != 0) {
-            size_t next = 4 + benches + 4 * ((size_t)job - 1) + 3;
+            size_t next = record_of(t->bytes, job) + 3;
             uint32_t behind = word_at(t->bytes, next);
             put_word(t->bytes, next, turned);
             turned = job;

@@ -86,14 +86,14 @@ void make_empty(struct table *t, uint32_t benches, uint32_t jobs)
     put_word(t->bytes, 1, jobs);
 }
 
-size_t record_of(const struct table *t, uint32_t job)
+size_t record_of(const uint8_t *table, uint32_t job)
 {
-    return 4 + word_at(t->bytes, 0) + 4 * ((size_t)job - 1);
+    return 4 + word_at(table, 0) + 4 * ((size_t)job - 1);
 }
 
 void make_stand(struct table *t, uint32_t job, uint32_t first, uint32_t second, uint32_t holder)
 {
-    size_t record = record_of(t, job);
+    size_t record = record_of(t->bytes, job);
     put_word(t->bytes, record, first);
     put_word(t->bytes, record + 1, second);
     put_word(t->bytes, record + 2, holder);
@@ -121,7 +121,7 @@ void make_chains(struct table *t, struct random *r)
     for (uint32_t b = 1; b <= word_at(t->bytes, 0); b++)
         put_word(t->bytes, 3 + b, 0);
     for (uint32_t i = 0; i < n; i++) {
-        size_t record = record_of(t, order[i]);
+        size_t record = record_of(t->bytes, order[i]);
         uint32_t holder = word_at(t->bytes, record + 2);
         if (holder == 0)
             continue;
@@ -174,7 +174,7 @@ uint32_t pick_job(const struct table *t, struct random *r, bool stands)
     uint32_t jobs = word_at(t->bytes, 1), start = random_below(r, jobs);
     for (uint32_t i = 0; i < jobs; i++) {
         uint32_t job = (start + i) % jobs + 1;
-        if ((word_at(t->bytes, record_of(t, job)) != 0) == stands)
+        if ((word_at(t->bytes, record_of(t->bytes, job)) != 0) == stands)
             return job;
     }
     return 0;
@@ -185,7 +185,7 @@ bool chains_rise(const uint8_t *table)
     uint32_t benches = word_at(table, 0), jobs = word_at(table, 1);
     for (uint32_t b = 1; b <= benches; b++) {
         uint32_t last = 0;
-        for (uint32_t j = word_at(table, 3 + b); j != 0; j = word_at(table, 4 + benches + 4 * (size_t)(j - 1) + 3)) {
+        for (uint32_t j = word_at(table, 3 + b); j != 0; j = word_at(table, record_of(table, j) + 3)) {
             if (j <= last || j > jobs)
                 return false;
             last = j;
@@ -228,14 +228,14 @@ static bool read_line(const uint8_t *line, uint32_t *bench, uint32_t holders[400
 
 bool sheet_names_holders(const uint8_t *page, size_t length, const uint8_t *table)
 {
-    uint32_t holders[4001] = {0}, bench = 0, benches = word_at(table, 0), jobs = word_at(table, 1);
+    uint32_t holders[4001] = {0}, bench = 0, jobs = word_at(table, 1);
     if (length % 69 != 0)
         return false;
     for (size_t line = 0; line < length / 69; line++)
         if (!read_line(page + 69 * line, &bench, holders))
             return false;
     for (uint32_t job = 1; job <= 4000; job++) {
-        size_t record = 4 + benches + 4 * ((size_t)job - 1);
+        size_t record = record_of(table, job);
         uint32_t holder = job <= jobs ? word_at(table, record + 2) : 0;
         if (holders[job] != (holder == 0 ? 0 : word_at(table, record + holder - 1)))
             return false;

@@ -4,14 +4,14 @@ use native.Mathlib.Omega.{arith}
 use mathlib.Core.Path.{_≡_, refl, sym, ap, subst, _∙_}
 use mathlib.Core.Bool.{Bool, true, false, cond, not}
 use mathlib.Core.List.{List, [], _∷_}
-use lib.Dec.{T, eqb}
+use lib.Dec.{eqb}
 use lib.ListN.{replicate, getD}
 use borrow.Author.Tests.{ne-eqb}
 use Rattle.spec_table.specs.Table.{decode, SameSharing}
 use Rattle.spec_sharing.specs.Sharing.{level}
 use Rattle.spec_calls.specs.Answers.{Answer, Outcome, isRefused, refused, arrived, closed, said, levelYes, levelNo}
 use Rattle.spec_calls.specs.Calls.{Call, ask, levelCheck, outcome, blanking, asked, accepted}
-use Rattle.spec_calls.specs.JobBook.{Book, refusedEach, onceInOrder, run, tableAfter, Start}
+use Rattle.spec_calls.specs.JobBook.{Book, refusedEach, InOrder, run, tableAfter, Start}
 use Rattle.spec_calls.proofs.Blanking.{blanking-fits}
 use Rattle.spec_calls.proofs.Refusals.{accepted-by, refusal-positive}
 use Rattle.spec_calls.proofs.ChangedTables.{runs-match}
@@ -66,27 +66,27 @@ refused-number (closed fell moved) = refl
 refused-number (said f) = refl
 
 -- .. so a C program knows of each call whether it was
-refused-by : (os : List Outcome) (vs : List Observed) → ReportedEach os vs → refusedBy vs ≡ refusedEach os
-refused-by [] [] r = refl
-refused-by [] (v ∷ vs) r = absurd r
-refused-by (o ∷ os) [] r = absurd r
-refused-by (o ∷ os) (v ∷ vs) r =
+refused-seen : (os : List Outcome) (vs : List Observed) → ReportedEach os vs → refusedBy vs ≡ refusedEach os
+refused-seen [] [] r = refl
+refused-seen [] (v ∷ vs) r = absurd r
+refused-seen (o ∷ os) [] r = absurd r
+refused-seen (o ∷ os) (v ∷ vs) r =
     let first = ap (λ n. not (eqb n 0)) (r .0 .delivered .number) ∙ refused-number (o .answer) in
-    let rest = refused-by os vs (r .1) in
+    let rest = refused-seen os vs (r .1) in
     λ i. first i ∷ rest i
 
--- 02: "stored copies" can be matched: two tables that hold the same sharing are the same bytes, whatever each was to begin with,
--- once an arrival, closing or levelling of each returned 0
+-- 02: "stored copies" can be matched: two tables that hold the same sharing are the same bytes, if each was in order to begin with
+-- or an arrival, closing or levelling of it returned 0 since
 pub c-match : (t u : List ℕ) (cs ds : List Call) (vs ws : List Observed) → CallsMade t cs vs → CallsMade u ds ws →
-    T (onceInOrder cs (refusedBy vs)) → T (onceInOrder ds (refusedBy ws)) → SameSharing (lastTable t vs) (lastTable u ws) →
+    InOrder t cs (refusedBy vs) → InOrder u ds (refusedBy ws) → SameSharing (lastTable t vs) (lastTable u ws) →
     lastTable t vs ≡ lastTable u ws
 c-match t u cs ds vs ws m n p q e =
     let here = last-table t cs vs m in
     let there = last-table u ds ws n in
-    let once = subst (λ rs. T (onceInOrder cs rs)) (refused-by (run t cs) vs (reported-each t cs vs m)) p in
-    let twice = subst (λ rs. T (onceInOrder ds rs)) (refused-by (run u ds) ws (reported-each u ds ws n)) q in
+    let one = subst (InOrder t cs) (refused-seen (run t cs) vs (reported-each t cs vs m)) p in
+    let other = subst (InOrder u ds) (refused-seen (run u ds) ws (reported-each u ds ws n)) q in
     let same = subst (λ x. SameSharing x (tableAfter u (run u ds))) here (subst (SameSharing (lastTable t vs)) there e) in
-    here ∙ runs-match t u cs ds (run t cs) (run u ds) (run-runs t cs) (run-runs u ds) once twice same ∙ sym there
+    here ∙ runs-match t u cs ds (run t cs) (run u ds) (run-runs t cs) (run-runs u ds) one other same ∙ sym there
 
 -- where 0 is returned, the call was not refused
 zero-accepted : (a : Answer) → returned a ≡ 0 → isRefused a ≡ false

@@ -2,13 +2,12 @@
 use Prim.Native.Nat.{ℕ}
 use mathlib.Core.Path.{_≡_, sym, ap, subst, _∙_}
 use mathlib.Core.List.{List, []}
-use lib.Dec.{T}
 use lib.ListN.{replicate}
 use Rattle.spec_lists.proofs.Tests.{T→true}
 use Rattle.spec_table.specs.Table.{sound, decode, SameSharing}
 use Rattle.spec_calls.specs.Answers.{Outcome, isRefused, said, levelYes}
 use Rattle.spec_calls.specs.Calls.{Call, ask, levelCheck, outcome}
-use Rattle.spec_calls.specs.JobBook.{Book, refusedEach, onceInOrder, tableAfter, Runs, AsDefined, Start, fromLevel, Claim}
+use Rattle.spec_calls.specs.JobBook.{Book, refusedEach, InOrder, tableAfter, Runs, AsDefined, Start, fromLevel, Claim}
 use Rattle.spec_calls.proofs.Blanking.{blanking-fits}
 use Rattle.spec_calls.proofs.Refusals.{accepted-sound}
 use Rattle.spec_calls.proofs.Questions.{level-check-level}
@@ -46,10 +45,10 @@ board-starts t k (byBlank κs a r s p e) =
 board-starts t k (byLevel κs a r s p e) =
     level-start (a .0 .now) (ap (λ (o : Outcome). o .answer) (sym (level-check-meets κs a r s p)) ∙ e)
 
--- 02: "Two counters hold the same sharing": their tables are the same bytes, whatever each began with, once the functions of each
--- accepted a change
+-- 02: "Two counters hold the same sharing": their tables are the same bytes, if each was in order to begin with or its functions
+-- accepted a change since
 pub board-match : (t u : List ℕ) (cs ds : List Call) (os ps : List Outcome) → Runs Done t cs os → Runs Done u ds ps →
-    T (onceInOrder cs (refusedEach os)) → T (onceInOrder ds (refusedEach ps)) → SameSharing (tableAfter t os) (tableAfter u ps) →
+    InOrder t cs (refusedEach os) → InOrder u ds (refusedEach ps) → SameSharing (tableAfter t os) (tableAfter u ps) →
     tableAfter t os ≡ tableAfter u ps
 board-match t u cs ds os ps r s =
     runs-match t u cs ds os ps (runs-defined Done done-defined t cs os r) (runs-defined Done done-defined u ds ps s)

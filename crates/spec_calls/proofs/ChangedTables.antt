@@ -6,16 +6,15 @@ use mathlib.Core.Path.{_≡_, refl, sym, ap, subst, _∙_}
 use mathlib.Core.Logic.{_⊎_, inl, inr}
 use mathlib.Core.Bool.{Bool, true, false, not, _||_, false≢true}
 use mathlib.Core.List.{List, [], _∷_}
-use mathlib.Core.Option.{Option, none, some}
 use lib.Dec.{T}
 use Rattle.spec_lists.specs.Lists.{within}
 use Rattle.spec_table.specs.Board.{Board}
 use Rattle.spec_table.specs.Table.{mostBenches, mostJobs, sound, decode, encode, blankTable, allRise, SameSharing, Reordered}
 use Rattle.spec_sharing.specs.Sharing.{close, level, Levelled, relevel}
 use Rattle.spec_sharing.specs.Demand2.{Flips, noFlip, flipThen}
-use Rattle.spec_calls.specs.Answers.{Refusal, Outcome, firstHolding, isRefused, refusedOr}
-use Rattle.spec_calls.specs.Calls.{Arriving, Closing, Call, arrival, closing, levelling, ask, isQuestion, refusals, lentTo, accepted, outcome, arrivalOutcome, closingOutcome, levellingOutcome}
-use Rattle.spec_calls.specs.JobBook.{putsInOrder, onceInOrder, refusedEach, tableAfter, Runs, AsDefined}
+use Rattle.spec_calls.specs.Answers.{Answer, Outcome, refused, arrived, closed, said, isRefused}
+use Rattle.spec_calls.specs.Calls.{Arriving, Closing, Call, arrival, closing, levelling, ask, isQuestion, outcome, arrivalOutcome, closingOutcome, levellingOutcome}
+use Rattle.spec_calls.specs.JobBook.{putsInOrder, onceInOrder, InOrder, refusedEach, tableAfter, Runs, AsDefined}
 use Rattle.spec_lists.proofs.Tests.{true→T, T→true, not→false, left, right, either}
 use Rattle.spec_table.proofs.Sound.{sound-storable}
 use Rattle.spec_table.proofs.Encode.{same-bytes}
@@ -23,40 +22,31 @@ use Rattle.spec_table.proofs.AnyOrder.{encoded-reordered}
 use Rattle.spec_table.proofs.RisingChains.{encode-rises}
 use Rattle.spec_sharing.proofs.Levelling.{level-rests}
 use Rattle.spec_calls.proofs.Blanking.{blank-is-encoded, blank-sound, blank-decodes}
-use Rattle.spec_calls.proofs.Refusals.{on-sound, accepted-sound}
+use Rattle.spec_calls.proofs.Refusals.{on-sound, accepted-sound, refused-by, question-leaves}
 use Rattle.spec_calls.proofs.Outcomes.{WritesBoard, arriveOn, AcceptedArrival, AcceptedClosing, Relevelled, levelling-accepted, Left, by-call}
 
 -- a table that was put in order: sound, and the table of the board that it holds
-pub record InOrder (u : List ℕ) : Type 0 where
+pub record Ordered (u : List ℕ) : Type 0 where
   pub sound : T (sound u)
   pub encoded : u ≡ encode (decode u)
 
 -- its chains rise
-pub in-order-rises : (u : List ℕ) → InOrder u → T (allRise u)
+pub in-order-rises : (u : List ℕ) → Ordered u → T (allRise u)
 in-order-rises u o = subst (λ u. T (allRise u)) (sym (o .encoded)) (encode-rises (decode u) (sound-storable u (o .sound)))
 
 -- a blank table is in order from the start
-pub blank-in-order : (benches jobs : ℕ) → T (within 1 mostBenches benches) → T (within 1 mostJobs jobs) → InOrder (blankTable benches jobs)
+pub blank-in-order : (benches jobs : ℕ) → T (within 1 mostBenches benches) → T (within 1 mostJobs jobs) → Ordered (blankTable benches jobs)
 blank-in-order benches jobs b j =
     record { sound = blank-sound benches jobs b j; encoded = blank-is-encoded benches jobs ∙ ap encode (sym (blank-decodes benches jobs b j)) }
 
--- a question, accepted, keeps the table
-question-keeps : (c : Call) (t : List ℕ) → putsInOrder c (isRefused ((accepted c t (decode t)) .answer)) ≡ false →
-    (accepted c t (decode t)) .table ≡ t
-unfolding accepted arrivalOutcome closingOutcome levellingOutcome
-question-keeps (arrival a) t n = absurd (false≢true (sym n))
-question-keeps (closing c) t n = absurd (false≢true (sym n))
-question-keeps (levelling allowance) t n = absurd (false≢true (sym n))
-question-keeps (ask q lent) t n = refl
-
 -- a table that a change writes is in order
-in-order : {u : List ℕ} (b : Board) → WritesBoard u b → u ≡ encode b → InOrder u
+in-order : {u : List ℕ} (b : Board) → WritesBoard u b → u ≡ encode b → Ordered u
 in-order b w e = record { sound = w .sound; encoded = e ∙ ap encode (sym (w .board)) }
 
 -- a call on a sound table, if it is an accepted arrival, closing or levelling, puts it in order
 module _ (t : List ℕ) (s : T (sound t)) where
   abbrev Orders : Call → Type 0
-  Orders c = T (putsInOrder c (isRefused ((outcome c t) .answer))) → InOrder ((outcome c t) .table)
+  Orders c = T (putsInOrder c (isRefused ((outcome c t) .answer))) → Ordered ((outcome c t) .table)
 
   arrival-orders : (a : Arriving) → AcceptedArrival t a (arriveOn t a) → Orders (arrival a)
   unfolding arrivalOutcome
@@ -86,7 +76,7 @@ module _ (t : List ℕ) (s : T (sound t)) where
 -- any call on any bytes
 module _ (c : Call) (t : List ℕ) where
   -- an accepted arrival, closing or levelling leaves a sound table, the table of the board it holds ..
-  pub changed-in-order : T (putsInOrder c (isRefused ((outcome c t) .answer))) → InOrder ((outcome c t) .table)
+  pub changed-in-order : T (putsInOrder c (isRefused ((outcome c t) .answer))) → Ordered ((outcome c t) .table)
   changed-in-order p =
       let refused = isRefused ((outcome c t) .answer) in
       orders t (accepted-sound c (on-sound c) t (not→false refused (right (not (isQuestion c)) (not refused) p))) c p
@@ -95,15 +85,19 @@ module _ (c : Call) (t : List ℕ) where
   pub changed-rises : T (putsInOrder c (isRefused ((outcome c t) .answer))) → T (allRise ((outcome c t) .table))
   changed-rises p = in-order-rises ((outcome c t) .table) (changed-in-order p)
 
-  -- every other call, a question or a refused one, leaves the order, and every byte
-  pub order-left : putsInOrder c (isRefused ((outcome c t) .answer)) ≡ false → (outcome c t) .table ≡ t
-  unfolding outcome
-  order-left n = go (firstHolding (refusals c t)) n
-    where
-      go : (o : Option Refusal) → putsInOrder c (isRefused ((refusedOr o t (lentTo c) (accepted c t (decode t))) .answer)) ≡ false →
-          (refusedOr o t (lentTo c) (accepted c t (decode t))) .table ≡ t
-      go none m = question-keeps c t m
-      go (some r) m = refl
+-- a refused call leaves every byte ..
+refused-keeps : (c : Call) (t : List ℕ) (a : Answer) → (outcome c t) .answer ≡ a → not (isRefused a) ≡ false → (outcome c t) .table ≡ t
+refused-keeps c t (refused r) e n = (refused-by c t r e) .table
+refused-keeps c t (arrived holder rose moved) e n = absurd (false≢true (sym n))
+refused-keeps c t (closed fell moved) e n = absurd (false≢true (sym n))
+refused-keeps c t (said f) e n = absurd (false≢true (sym n))
+
+-- .. and so every call that puts nothing in order, a refused one or a question, leaves the order
+pub order-left : (c : Call) (t : List ℕ) → putsInOrder c (isRefused ((outcome c t) .answer)) ≡ false → (outcome c t) .table ≡ t
+order-left (arrival a) t n = refused-keeps (arrival a) t ((outcome (arrival a) t) .answer) refl n
+order-left (closing k) t n = refused-keeps (closing k) t ((outcome (closing k) t) .answer) refl n
+order-left (levelling allowance) t n = refused-keeps (levelling allowance) t ((outcome (levelling allowance) t) .answer) refl n
+order-left (ask q lent) t n = question-leaves q lent t
 
 -- "No order is left free: benches, jobs and holders fix every byte": two tables left by such calls that hold the same sharing are
 -- the same bytes
@@ -145,7 +139,7 @@ level-reorders t s l allowance = levelling-reorders t s allowance (ap (λ (r : L
 -- lists of calls, from whatever bytes
 
 -- what is true of every table in order is true after a list of calls, if it was before or the table was put in order
-module _ (P : List ℕ → Type 0) (holds : (u : List ℕ) → InOrder u → P u) where
+module _ (P : List ℕ → Type 0) (holds : (u : List ℕ) → Ordered u → P u) where
   call-keeps : (c : Call) (t : List ℕ) → P t ⊎ T (putsInOrder c (isRefused ((outcome c t) .answer))) → P ((outcome c t) .table)
   call-keeps c t (inr q) = holds ((outcome c t) .table) (changed-in-order c t q)
   call-keeps c t (inl p) = go (putsInOrder c (isRefused ((outcome c t) .answer))) refl
@@ -177,14 +171,14 @@ pub run-rises : (t : List ℕ) (cs : List Call) (os : List Outcome) → Runs AsD
 run-rises t cs os r p = run-keeps (λ u. T (allRise u)) in-order-rises t cs os r (either (allRise t) (onceInOrder cs (refusedEach os)) p)
 
 -- .. the table is that of the board it holds, if it was before or was put in order ..
-pub run-fixed : (t : List ℕ) (cs : List Call) (os : List Outcome) → Runs AsDefined t cs os →
-    (t ≡ encode (decode t)) ⊎ T (onceInOrder cs (refusedEach os)) → tableAfter t os ≡ encode (decode (tableAfter t os))
+pub run-fixed : (t : List ℕ) (cs : List Call) (os : List Outcome) → Runs AsDefined t cs os → InOrder t cs (refusedEach os) →
+    tableAfter t os ≡ encode (decode (tableAfter t os))
 run-fixed = run-keeps (λ u. u ≡ encode (decode u)) (λ u o. o .encoded)
 
--- .. and two counters that hold the same sharing have the same bytes, each after a list of calls in which its table was put in
--- order: "stored copies" can be matched
+-- .. and two counters that hold the same sharing, each with a table that was in order or was put in order, have the same bytes:
+-- "stored copies" can be matched
 pub runs-match : (t u : List ℕ) (cs ds : List Call) (os ps : List Outcome) → Runs AsDefined t cs os → Runs AsDefined u ds ps →
-    T (onceInOrder cs (refusedEach os)) → T (onceInOrder ds (refusedEach ps)) → SameSharing (tableAfter t os) (tableAfter u ps) →
+    InOrder t cs (refusedEach os) → InOrder u ds (refusedEach ps) → SameSharing (tableAfter t os) (tableAfter u ps) →
     tableAfter t os ≡ tableAfter u ps
 runs-match t u cs ds os ps r s p q e =
-    run-fixed t cs os r (inr p) ∙ same-bytes (tableAfter t os) (tableAfter u ps) e ∙ sym (run-fixed u ds ps s (inr q))
+    run-fixed t cs os r p ∙ same-bytes (tableAfter t os) (tableAfter u ps) e ∙ sym (run-fixed u ds ps s q)

@@ -116,7 +116,7 @@ ended t k s l e [] [] r =
         least = λ h holders m. level-least (decode t) v l h holders (subst (λ (named : Book). Shares named holders) (sym e) m);
         oneLoad = tt;
         rising = run-rises t [] [] r;
-        fixed = λ p. run-fixed t [] [] r (inr p);
+        fixed = run-fixed t [] [] r;
         answered = tt;
       };
       form = s;
@@ -136,7 +136,7 @@ ended t k s l e (c ∷ cs) (o ∷ os) r =
         least = λ h holders m. subst (λ (n : ℕ). excess n ((decode (tableAfter (o .table) os)) .holders) h ≤ excess n holders h) (d .benches) (j .least h holders m);
         oneLoad = (d .oneLoad, j .oneLoad);
         rising = run-rises t (c ∷ cs) (o ∷ os) r;
-        fixed = λ p. run-fixed t (c ∷ cs) (o ∷ os) r (inr p);
+        fixed = run-fixed t (c ∷ cs) (o ∷ os) r;
         answered = r;
       };
       form = i .form;

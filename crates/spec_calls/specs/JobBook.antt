@@ -1,6 +1,7 @@
 -- 01, "The job book": what is kept beside the board, a list of calls, and what demand 3 claims of it.
 use Prim.Native.Nat.{ℕ, _≤_}
 use mathlib.Core.Path.{_≡_}
+use mathlib.Core.Logic.{_⊎_}
 use mathlib.Core.Bool.{Bool, true, false, not, _&&_, _||_}
 use mathlib.Core.List.{List, [], _∷_, map}
 use lib.Dec.{T}
@@ -48,6 +49,10 @@ abbrev pub onceInOrder : List Call → List Bool → Bool
 onceInOrder [] rs = false
 onceInOrder (c ∷ cs) [] = false
 onceInOrder (c ∷ cs) (r ∷ rs) = putsInOrder c r || onceInOrder cs rs
+
+-- the table was in order from the start, as a blank one is: the table of its board; or one of the calls put it in order
+abbrev pub InOrder : List ℕ → List Call → List Bool → Type 0
+InOrder t cs rs = (t ≡ encode (decode t)) ⊎ T (onceInOrder cs rs)
 
 -- each call gets the table as the last one left it
 abbrev pub run : List ℕ → List Call → List Outcome
@@ -112,8 +117,8 @@ pub record Claim (t : List ℕ) (k : Book) (cs : List Call) (os : List Outcome) 
   pub oneLoad : OneLoadEach t cs os
   -- 02: all chains rise, if they did at the start or were put in order since ..
   pub rising : T (allRise t || onceInOrder cs (refusedEach os)) → T (allRise (tableAfter t os))
-  -- .. and once they were, benches, jobs and holders fix every byte
-  pub fixed : T (onceInOrder cs (refusedEach os)) → tableAfter t os ≡ encode (decode (tableAfter t os))
+  -- .. and then benches, jobs and holders fix every byte
+  pub fixed : InOrder t cs (refusedEach os) → tableAfter t os ≡ encode (decode (tableAfter t os))
   -- every call is answered as defined
   pub answered : Runs AsDefined t cs os
 

@@ -1,4 +1,4 @@
--- Lists that rise: each number is below all after it, part of such a list rises too, and there is one only of the same numbers.
+-- Lists that rise: each number is below all after it, part of such a list rises too, and only one list of the same numbers rises.
 use Prim.Native.Nat.{ℕ, zero, suc, _≤_, _<_}
 use native.Mathlib.Omega.{arith}
 use mathlib.Core.Path.{_≡_, refl, ap}

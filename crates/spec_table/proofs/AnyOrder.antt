@@ -3,46 +3,26 @@ use Prim.Native.Nat.{ℕ, zero, suc, _≤_, _<_}
 use native.Mathlib.Omega.{arith}
 use native.Mathlib.Decide.{decLe}
 use mathlib.Core.Path.{_≡_, refl, sym, ap, subst, _∙_}
-use mathlib.Core.Bool.{Bool, true, false}
 use mathlib.Core.List.{List, []}
 use lib.Dec.{T, eqb}
 use lib.ListN.{length, getD, length-map, List·getD-eq-default}
 use Rattle.spec_lists.specs.Lists.{bit, count, In, nth, enumerate}
 use Rattle.spec_table.specs.Board.{Board, holderOf, stands, standing, jobsHeld, Valid}
 use Rattle.spec_table.specs.Table.{words, Entry, vacant, filled, holderIn, Layout, layout, chains, entryFits, placed, fits, sound, boardOf, decode, encode, benchChain, Reordered}
-use Rattle.spec_lists.proofs.Tests.{true→T, T→true, Compared, same, other, compared, eqb-T}
+use Rattle.spec_lists.proofs.Tests.{T→true, eqb-T}
 use Rattle.spec_lists.proofs.Elements.{in-all, in-nth, in-enumerate, enumerate-nth}
-use Rattle.spec_lists.proofs.Counting.{bit-other, count-none, count-some, counted-in}
+use Rattle.spec_lists.proofs.Counting.{count-some, counted-in}
 use Rattle.spec_table.proofs.Held.{held-once}
 use Rattle.spec_table.proofs.Places.{fits-length, fits-entries}
 use Rattle.spec_table.proofs.Clauses.{sound-fits, sound-formed, sound-exact}
-use Rattle.spec_table.proofs.Sound.{sound-storable, standing-count, standing-word, count-placed, fits-chains, own-chain, other-chain, not-held, holder-record, stands-record, stored-fits}
+use Rattle.spec_table.proofs.Sound.{sound-storable, standing-count, standing-word, count-placed, fits-chains, chain-holds, holder-record, stands-record, stored-fits}
 use Rattle.spec_table.proofs.Encode.{encode-sound, decode-encode, same-board}
 
 -- on the chain of bench x are the jobs that x holds, each once, in whatever order
 pub chain-count : (t : List ℕ) → T (sound t) → (x j : ℕ) → 1 ≤ x → x ≤ (layout (words t)) .benches →
     count j (benchChain t x) ≡ count j (jobsHeld 1 x ((decode t) .holders))
-chain-count t s x j low high = on (filled e) refl ∙ sym held
-  where
-    l : Layout
-    l = layout (words t)
-
-    e : Entry
-    e = nth (l .entries) j vacant
-
-    held : count j (jobsHeld 1 x ((decode t) .holders)) ≡ bit (eqb (holderIn e) x)
-    held = held-once j x ((decode t) .holders) low ∙ ap (λ y. bit (eqb y x)) (holder-record t j)
-
-    stored : T (filled e) → {z : Bool} → Compared (holderIn e) x z → count j (benchChain t x) ≡ bit z
-    stored f (same d) = subst (λ y. count j (benchChain t y) ≡ 1) d (own-chain t s j f)
-    stored f (other d) = other-chain t s j x f (λ q. d (sym q))
-
-    on : (z : Bool) → filled e ≡ z → count j (benchChain t x) ≡ bit (eqb (holderIn e) x)
-    on true q = stored (true→T (filled e) q) (compared (holderIn e) x)
-    on false q =
-        let only = (sound-formed t s) .only (benchChain t x) (in-nth (chains l) x [] low (omega (arith, fits-chains t (sound-fits t s)))) in
-        let none = count-none j (benchChain t x) (λ i. subst T q (only j i)) in
-        none ∙ sym (bit-other (holderIn e) x (λ d. omega (arith, not-held e q)))
+chain-count t s x j low high =
+    chain-holds t s j x low high ∙ ap (λ y. bit (eqb y x)) (sym (holder-record t j)) ∙ sym (held-once j x ((decode t) .holders) low)
 
 -- two tables of one board: the same jobs stand ..
 pub same-filled : (t u : List ℕ) → decode u ≡ decode t → (j : ℕ) →

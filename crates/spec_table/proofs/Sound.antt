@@ -348,10 +348,34 @@ stored-record t v j = go (filled e) refl
     go true q = inr (record { is-filled = q; benches-two = two-benches ((layout (words t)) .benches) e (record-pair t j) (stored-fits t v j q) })
     go false q = inl (zero-vacant e (record-pair t j) (vacant-words e q))
 
--- a job is on bench x's chain exactly if it stands and x holds it
+-- on bench x's chain a job is once if x holds it, and else not
+pub chain-holds : (t : List ℕ) → T (sound t) → (j x : ℕ) → 1 ≤ x → x ≤ (layout (words t)) .benches →
+    count j (nth (chains (layout (words t))) x []) ≡ bit (eqb (holderIn (nth ((layout (words t)) .entries) j vacant)) x)
+chain-holds t s j x low high = on (filled e) refl
+  where
+    l : Layout
+    l = layout (words t)
+
+    e : Entry
+    e = nth (l .entries) j vacant
+
+    c : List ℕ
+    c = nth (chains l) x []
+
+    stored : T (filled e) → {z : Bool} → Compared (holderIn e) x z → count j c ≡ bit z
+    stored f (same d) = subst (λ y. count j (nth (chains l) y []) ≡ 1) d (own-chain t s j f)
+    stored f (other d) = other-chain t s j x f (λ q. d (sym q))
+
+    on : (z : Bool) → filled e ≡ z → count j c ≡ bit (eqb (holderIn e) x)
+    on true q = stored (true→T (filled e) q) (compared (holderIn e) x)
+    on false q =
+        let only = (sound-formed t s) .only c (in-nth (chains l) x [] low (omega (arith, fits-chains t (sound-fits t s)))) in
+        count-none j c (λ i. subst T q (only j i)) ∙ sym (bit-other (holderIn e) x (λ d. omega (arith, not-held e q)))
+
+-- so it is there exactly if it stands and x holds it
 pub on-chain : (t : List ℕ) → T (sound t) → (j x : ℕ) → 1 ≤ x → x ≤ (decode t) .benches → In j (nth (chains (layout (words t))) x []) ↔ (T (stands (decode t) j) × (holderOf (decode t) j ≡ x))
 unfolding decode boardOf
-on-chain t s j x low high = (λ i. let f = filled-on i in (rw (stands-record t j) f, holder-record t j ∙ held f i (compared x h)), there)
+on-chain t s j x low high = (λ i. (rw (stands-record t j) (filled-on i), holder-record t j ∙ held i (compared h x)), there)
   where
     l : Layout
     l = layout (words t)
@@ -368,12 +392,9 @@ on-chain t s j x low high = (λ i. let f = filled-on i in (rw (stands-record t j
     filled-on : In j c → T (filled e)
     filled-on i = (sound-formed t s) .only c (in-nth (chains l) x [] low (omega (arith, fits-chains t (sound-fits t s)))) j i
 
-    held : T (filled e) → In j c → {z : Bool} → Compared x h z → h ≡ x
-    held f i (same q) = sym q
-    held f i (other d) = absurd (omega (arith, other-chain t s j x f d, count-some j c i))
+    held : In j c → {z : Bool} → Compared h x z → h ≡ x
+    held i (same q) = q
+    held i (other d) = absurd (omega (arith, chain-holds t s j x low high, bit-other h x d, count-some j c i))
 
     there : T (stands (decode t) j) × (holderOf (decode t) j ≡ x) → In j c
-    there p =
-        let q : h ≡ x = sym (holder-record t j) ∙ p .1 in
-        let one = subst (λ (y : ℕ). count j (nth (chains l) y []) ≡ 1) q (own-chain t s j (subst T (stands-record t j) (p .0))) in
-        counted-in j c (omega (arith, one))
+    there p = counted-in j c (omega (arith, chain-holds t s j x low high, bit-same h x (sym (holder-record t j) ∙ p .1)))
