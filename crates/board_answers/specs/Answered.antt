@@ -25,6 +25,8 @@ answerOf told.NotLevel = paper.said paper.levelNo
 answerOf (told.Levelled paths) = paper.said (paper.levelled paths)
 answerOf (told.Stopped paths) = paper.said (paper.stopped paths)
 answerOf (told.Sheet length) = paper.said (paper.sheetIs length)
+answerOf (told.Between job records) = paper.said (paper.jobBetween job records)
+answerOf (told.NoneBetween records) = paper.said (paper.noneBetween records)
 
 -- what is returned: the refusal's number, 0 for an accepted call
 abbrev pub returned : paper.Answer → ℕ

@@ -28,6 +28,10 @@ pub enum Answer {
     Stopped(u32),
     // How long the sheet is.
     Sheet(usize),
+    // A job between two benches, the records read.
+    Between(usize, usize),
+    // No job is: the records read.
+    NoneBetween(usize),
 }
 
 // Up to three numbers, of an answer or of a command: the first `count` of them count.
@@ -112,10 +116,12 @@ impl Answer {
             Answer::Levelled(_) => 0,
             Answer::Stopped(_) => 0,
             Answer::Sheet(_) => 0,
+            Answer::Between(_, _) => 0,
+            Answer::NoneBetween(_) => 0,
         }
     }
 
-    // Gives its values, in document 01's order; yes and level are 1, no and stopped 0.
+    // Gives its values, in document 01's order; yes and level are 1, no, stopped and no job 0.
     pub fn values(self) -> Values
         ensures { λ r. ⌜ valuesOf r ≡ drop 1 (inNumbers (answerOf self)) ⌝ }
     {
@@ -133,6 +139,8 @@ impl Answer {
             Answer::Levelled(paths) => Values::new(2, paths as usize, 1, 0),
             Answer::Stopped(paths) => Values::new(2, paths as usize, 0, 0),
             Answer::Sheet(length) => Values::new(1, length, 0, 0),
+            Answer::Between(job, records) => Values::new(2, job, records, 0),
+            Answer::NoneBetween(records) => Values::new(2, 0, records, 0),
         }
     }
 }

@@ -12,7 +12,7 @@ use Rattle.spec_table.specs.Board.{Board, stands, namesFit}
 use Rattle.spec_table.specs.Table.{sizesFit, blankTable, decode}
 use Rattle.spec_calls.specs.Answers.{arrived, closed, said, levelled, stopped}
 use Rattle.spec_calls.specs.Calls.{Arriving, MayArrive, arrival, closing, levelling, outcome, blanking, arrivalOutcome, closingOutcome, levellingOutcome}
-use Rattle.spec_lists.proofs.Tests.{true→T, T→true, false→not, not-false, not→false}
+use Rattle.spec_lists.proofs.Tests.{true→T, T→true, false→not, failed, passed}
 use Rattle.spec_table.proofs.Named.{pair-fits}
 use Rattle.spec_calls.proofs.Outcomes.{arrival-accepted, closing-accepted, levelling-accepted}
 use Rattle.spec_calls.proofs.Refused.{arrival-number-refused, arrival-bench-refused, arrival-standing-refused, closing-number-refused, closing-standing-refused, arrival-exact, closing-exact}
@@ -69,14 +69,6 @@ pub record Numbered (b : Board) (j x y : ℕ) : Type 0 where
 pub may-arrive : {b : Board} {j x y : ℕ} {h : Bool} → Numbered b j x y → h ≡ stands b j → h ≡ false → MayArrive b (arriving j x y)
 may-arrive {b} {j} n e w =
     record { number = n .number; free = false→not (stands b j) (sym e ∙ w); fit = n .fit }
-
--- `if !h` was taken: the test failed
-failed : {h w : Bool} → h ≡ w → not h ≡ true → w ≡ false
-failed {h} {w} e n = not→false w (true→T (not w) (ap not (sym e) ∙ n))
-
--- `if !h` was not taken: the test passed
-pub passed : {h w : Bool} → h ≡ w → not h ≡ false → T w
-passed {h} {w} e n = not-false w (ap not (sym e) ∙ n)
 
 module _ {t : List ℕ} {s : Size} (z : SoundTable t s) where
   -- 3

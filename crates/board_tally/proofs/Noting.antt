@@ -19,7 +19,7 @@ use Rattle.spec_calls.proofs.Tally.{Fits32, counts-fit, isChange, other-noted}
 use Rattle.board_answers.specs.Answered.{answerOf}
 use Rattle.board_answers.specs.declared.Answer.{Answer}
 use Rattle.board_answers.proofs.Answer as told
-use Rattle.board_answers.specs.declared.Answer.the-variants.{Refused, Blanked, Arrived, Closed, Load, Heaviest, TightSet, Sound, Level, NotLevel, Levelled, Stopped, Sheet}
+use Rattle.board_answers.specs.declared.Answer.the-variants.{Refused, Blanked, Arrived, Closed, Load, Heaviest, TightSet, Sound, Level, NotLevel, Levelled, Stopped, Sheet, Between, NoneBetween}
 use Rattle.board_tally.proofs.Tally as tally-type
 use Rattle.board_tally.proofs.Tally.Laws as tally-laws
 use Rattle.board_tally.specs.Counts.{tallyOf, more, RaisesBy, NotedAs}
@@ -85,7 +85,7 @@ of-arm x (k ∷ l ∷ ks) (inr h) = inr (of-arm x (l ∷ ks) h)
 
 -- the tags of all answers but an arrival's and a closing's
 abbrev others : List ℕ
-others = 0 ∷ 1 ∷ 4 ∷ 5 ∷ 6 ∷ 7 ∷ 8 ∷ 9 ∷ 10 ∷ 11 ∷ 12 ∷ []
+others = 0 ∷ 1 ∷ 4 ∷ 5 ∷ 6 ∷ 7 ∷ 8 ∷ 9 ∷ 10 ∷ 11 ∷ 12 ∷ 13 ∷ 14 ∷ []
 
 -- none of those is an arrival's or a closing's
 no-change : (a : Answer) → T (member (tagOf told.the-type a) others) → isChange (answerOf a) ≡ false
@@ -102,6 +102,8 @@ no-change NotLevel h = refl
 no-change (Levelled paths) h = refl
 no-change (Stopped paths) h = refl
 no-change (Sheet length) h = refl
+no-change (Between job records) h = refl
+no-change (NoneBetween records) h = refl
 
 -- an arrival's answer adds to its own count and to the jobs moved ..
 pub arrival-adds : {a : Answer} {holder rose moved : ℕ} → a ≡ Arrived holder rose moved → RaisesBy (answerOf a) (record { arrivals = 1; closings = 0; moved = moved })

@@ -2,7 +2,7 @@
 -- reported of the call's defined outcome. Numbers alone do not tell a load from a heaviest load, so each call has its own.
 use mathlib.Core.List.{[], _∷_}
 use contract.Lifetimes.{Lfts}
-use Rattle.spec_calls.specs.Calls.{outcome, blanking, arrival, closing, levelling, ask, loadOf, heaviestLoad, tightSetOf, formCheck, levelCheck, wallSheet}
+use Rattle.spec_calls.specs.Calls.{outcome, blanking, arrival, closing, levelling, ask, loadOf, heaviestLoad, tightSetOf, formCheck, levelCheck, wallSheet, between}
 use Rattle.jobboard.specs.Desk.{Reported}
 use Rattle.jobboard.proofs.jobboard_blank.Reads as c-blank
 use Rattle.jobboard.proofs.jobboard_check.Reads as c-check
@@ -14,6 +14,7 @@ use Rattle.jobboard.proofs.jobboard_load.Reads as c-load
 use Rattle.jobboard.proofs.jobboard_heaviest.Reads as c-heaviest
 use Rattle.jobboard.proofs.jobboard_tight_set.Reads as c-tight-set
 use Rattle.jobboard.proofs.jobboard_sheet.Reads as c-sheet
+use Rattle.jobboard.proofs.jobboard_between.Reads as c-between
 
 pub blank-reports : (κs : Lfts 1) (a : _) (r : _) (s : _) → c-blank.Post κs a r s → Reported (blanking (a .1 .0) (a .1 .1 .0) (a .0 .now)) r (s .0 .now) [] [] []
 blank-reports κs a r s p = p
@@ -45,6 +46,9 @@ tight-set-reports κs a r s p = p
 pub sheet-reports : (κs : Lfts 3) (a : _) (r : _) (s : _) → c-sheet.Post κs a r s → Reported (outcome (ask wallSheet (a .1 .0 .now)) (a .0 .now)) r (a .0 .now) (s .1 .0 .now) (a .1 .1 .0 .now ∷ []) (s .1 .1 .0 .now ∷ [])
 sheet-reports κs a r s p = p
 
+pub between-reports : (κs : Lfts 3) (a : _) (r : _) (s : _) → c-between.Post κs a r s → Reported (outcome (between (a .1 .0) (a .1 .1 .0)) (a .0 .now)) r (a .0 .now) [] (a .1 .1 .1 .0 .now ∷ a .1 .1 .1 .1 .0 .now ∷ []) (s .1 .1 .1 .0 .now ∷ s .1 .1 .1 .1 .0 .now ∷ [])
+between-reports κs a r s p = p
+
 -- "Callers test nothing beforehand": no C call asks for anything
-pub calls-ask-nothing : (κ1 : Lfts 1) (κ2 : Lfts 2) (κ3 : Lfts 3) (κ4 : Lfts 4) → ((a : _) → c-blank.Pre κ1 a) × ((a : _) → c-check.Pre κ1 a) × ((a : _) → c-arrival.Pre κ4 a) × ((a : _) → c-closing.Pre κ3 a) × ((a : _) → c-levelling.Pre κ3 a) × ((a : _) → c-level-check.Pre κ2 a) × ((a : _) → c-load.Pre κ2 a) × ((a : _) → c-heaviest.Pre κ2 a) × ((a : _) → c-tight-set.Pre κ4 a) × ((a : _) → c-sheet.Pre κ3 a)
-calls-ask-nothing κ1 κ2 κ3 κ4 = (λ a. tt, λ a. tt, λ a. tt, λ a. tt, λ a. tt, λ a. tt, λ a. tt, λ a. tt, λ a. tt, λ a. tt)
+pub calls-ask-nothing : (κ1 : Lfts 1) (κ2 : Lfts 2) (κ3 : Lfts 3) (κ4 : Lfts 4) → ((a : _) → c-blank.Pre κ1 a) × ((a : _) → c-check.Pre κ1 a) × ((a : _) → c-arrival.Pre κ4 a) × ((a : _) → c-closing.Pre κ3 a) × ((a : _) → c-levelling.Pre κ3 a) × ((a : _) → c-level-check.Pre κ2 a) × ((a : _) → c-load.Pre κ2 a) × ((a : _) → c-heaviest.Pre κ2 a) × ((a : _) → c-tight-set.Pre κ4 a) × ((a : _) → c-sheet.Pre κ3 a) × ((a : _) → c-between.Pre κ3 a)
+calls-ask-nothing κ1 κ2 κ3 κ4 = (λ a. tt, λ a. tt, λ a. tt, λ a. tt, λ a. tt, λ a. tt, λ a. tt, λ a. tt, λ a. tt, λ a. tt, λ a. tt)

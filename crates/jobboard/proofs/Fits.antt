@@ -4,25 +4,29 @@ use native.Mathlib.Omega.{arith}
 use mathlib.Core.Path.{_≡_, refl, sym, ap, subst}
 use mathlib.Core.Bool.{Bool, true, false, cond, not, _&&_}
 use mathlib.Core.List.{List, [], _∷_}
+use mathlib.Core.Option.{Option, none, some}
 use lib.Dec.{T, eqb}
 use lib.ListN.{length}
 use Rattle.spec_lists.specs.Lists.{bit, member, range, all, empty}
 use Rattle.spec_table.specs.Board.{Board, holderOf, namesOf, stands, load, heaviest}
-use Rattle.spec_table.specs.Table.{mostBenches, mostJobs, sound, decode, Storable}
+use Rattle.spec_table.specs.Table.{mostBenches, mostJobs, words, Layout, layout, fits, sound, decode, Storable}
+use Rattle.spec_pair.specs.Pair.{recordsRead, jobFound}
 use Rattle.spec_sharing.specs.Sharing.{Levelled, close, relevel, level, tightSet, inside}
 use Rattle.spec_calls.specs.Answers.{Answer, Outcome, isRefused, refused, arrived, closed, said, levelYes, levelNo, levelled, stopped}
-use Rattle.spec_calls.specs.Calls.{Arriving, Closing, Question, loadOf, heaviestLoad, tightSetOf, formCheck, levelCheck, wallSheet, Call, arrival, closing, levelling, ask, asked, accepted, outcome, arrivalOutcome, closingOutcome, levellingOutcome, tightSetTold, sheetTold}
+use Rattle.spec_calls.specs.Calls.{Arriving, Closing, Question, loadOf, heaviestLoad, tightSetOf, formCheck, levelCheck, wallSheet, Call, arrival, closing, levelling, ask, between, asked, betweenConditions, betweenFact, betweenTold, refusals, accepted, outcome, arrivalOutcome, closingOutcome, levellingOutcome, tightSetTold, sheetTold}
 use Rattle.spec_sharing.specs.Demand2.{handed}
-use Rattle.spec_lists.proofs.Tests.{true→T, false→not, within-high}
+use Rattle.spec_lists.proofs.Tests.{true→T, false→not, not-false, within-high}
 use Rattle.spec_lists.proofs.Elements.{is-empty, length-filter}
 use Rattle.spec_lists.proofs.NumberLists.{length-range}
 use Rattle.spec_lists.proofs.Counting.{bit-le, total-most, greatest-most}
 use Rattle.spec_table.proofs.Loads.{benches-most, named-most, load-most}
+use Rattle.spec_table.proofs.Places.{fits-sized}
 use Rattle.spec_table.proofs.Sound.{sound-storable}
 use Rattle.spec_sheet.proofs.Longest.{sheet-most}
+use Rattle.spec_pair.proofs.Walks.{pair-read, found-within}
 use Rattle.spec_table.proofs.Named.{holder-bench, holder-none}
 use Rattle.spec_sharing.proofs.TightSet.{tight-rising}
-use Rattle.spec_calls.proofs.Refusals.{accepted-by, on-sound, accepted-sound}
+use Rattle.spec_calls.proofs.Refusals.{accepted-by, accepted-sound}
 use Rattle.spec_calls.proofs.Outcomes.{arriveOn, arrival-accepted, levelling-accepted}
 use Rattle.spec_calls.proofs.Results.{arrival-result, closing-result}
 use Rattle.jobboard_report.specs.Report.{Fitting}
@@ -87,6 +91,7 @@ Bounded (arrival a) = Unit {0}
 Bounded (closing c) = Unit {0}
 Bounded (levelling allowance) = allowance < 4294967296
 Bounded (ask q lent) = Unit {0}
+Bounded (between x y) = Unit {0}
 
 -- the values that a question tells of a storable board
 asked-fits : (q : Question) (lent : List ℕ) (b : Board) → Storable b → Fitting (said ((asked q lent b) .fact))
@@ -103,34 +108,51 @@ asked-fits levelCheck lent b s = go (level b)
     go false = (omega arith, tt)
 asked-fits wallSheet page b s = (omega (arith, sheet-most b s), tt)
 
+-- a job's number is at most J, and no chain has more than one number above J
+between-fits : (x y : ℕ) (t : List ℕ) → T (fits t) → Fitting (said ((betweenTold x y t) .fact))
+unfolding betweenTold
+between-fits x y t f = go (jobFound l x y) refl
+  where
+    l : Layout
+    l = layout (words t)
+
+    jobs : l .jobs ≤ mostJobs
+    jobs = within-high 1 mostJobs (l .jobs) ((fits-sized t f) .jobs-within)
+
+    few : length (recordsRead l x y) < 4294967296
+    few = omega (arith, pair-read l x y, jobs)
+
+    go : (m : Option ℕ) → jobFound l x y ≡ m → Fitting (said (betweenFact m (length (recordsRead l x y))))
+    go none e = (omega arith, (few, tt))
+    go (some j) e = (omega (arith, within-high 1 (l .jobs) j (found-within l x y j e), jobs), (few, tt))
+
 -- the values of an accepted call
-accepted-fits : (c : Call) (t : List ℕ) → Bounded c → T (sound t) → outcome c t ≡ accepted c t (decode t) → Fitting ((accepted c t (decode t)) .answer)
-unfolding accepted arrivalOutcome closingOutcome levellingOutcome
-accepted-fits (arrival a) t b s e =
+accepted-fits : (c : Call) (t : List ℕ) → Bounded c → isRefused ((outcome c t) .answer) ≡ false → Fitting ((accepted c t (decode t)) .answer)
+unfolding accepted arrivalOutcome closingOutcome levellingOutcome refusals betweenConditions
+accepted-fits (arrival a) t b n =
     let d = arriveOn t a in
-    let f = arrival-fits t a (holderOf (d .board) (a .job)) (d .bench) (length (d .moved)) (ap (λ o. o .answer) e) in
+    let f = arrival-fits t a (holderOf (d .board) (a .job)) (d .bench) (length (d .moved)) (ap (λ o. o .answer) ((accepted-by (arrival a) t n) .1)) in
     (omega (arith, f .0), (omega (arith, f .1), (omega (arith, f .2), tt)))
-accepted-fits (closing c) t b s e =
+accepted-fits (closing c) t b n =
     let d = close (decode t) (c .job) in
-    let f = closing-fits t c (d .bench) (length (d .moved)) (ap (λ o. o .answer) e) in
+    let f = closing-fits t c (d .bench) (length (d .moved)) (ap (λ o. o .answer) ((accepted-by (closing c) t n) .1)) in
     (omega (arith, f .0), (omega (arith, f .1), tt))
-accepted-fits (levelling allowance) t b s e = go (level (r .board))
+accepted-fits (levelling allowance) t b n = go (level (r .board))
   where
     r : Levelled
     r = relevel allowance (decode t)
 
     small : r .paths < 4294967296
-    small = omega (arith, b, (levelling-accepted t s allowance) .does .report .allowed)
+    small = omega (arith, b, (levelling-accepted t (accepted-sound (levelling allowance) tt t n) allowance) .does .report .allowed)
 
     go : (z : Bool) → Fitting (said (cond z (levelled (r .paths)) (stopped (r .paths))))
     go true = (small, (omega arith, tt))
     go false = (small, (omega arith, tt))
-accepted-fits (ask q lent) t b s e = asked-fits q lent (decode t) (sound-storable t s)
+accepted-fits (ask q lent) t b n = asked-fits q lent (decode t) (sound-storable t (accepted-sound (ask q lent) tt t n))
+accepted-fits (between x y) t b n = between-fits x y t (not-false (fits t) ((accepted-by (between x y) t n) .0 .0))
 
 -- the values of any call's answer fit 32 bits
 pub values-fit : (c : Call) (t : List ℕ) → Bounded c → Fitting ((outcome c t) .answer)
 values-fit c t b =
     unless-refused ((outcome c t) .answer)
-    (λ n.
-    let e = (accepted-by c t n) .1 in
-    subst (λ (o : Outcome). Fitting (o .answer)) (sym e) (accepted-fits c t b (accepted-sound c (on-sound c) t n) e))
+    (λ n. subst (λ (o : Outcome). Fitting (o .answer)) (sym ((accepted-by c t n) .1)) (accepted-fits c t b n))

@@ -1,7 +1,7 @@
 // The calls for C programs, over numbers and the table's bytes; a slice is passed as a pointer and its length in
 // bytes. Each returns the refusal's number, or 0. Results go through lent numbers, which a refused call leaves alone.
 ghost use mathlib.Core.List.{[], _∷_};
-ghost use Rattle.spec_calls.specs.Calls.{outcome, blanking, arrival, closing, levelling, ask, loadOf, heaviestLoad, tightSetOf, formCheck, levelCheck, wallSheet};
+ghost use Rattle.spec_calls.specs.Calls.{outcome, blanking, arrival, closing, levelling, ask, loadOf, heaviestLoad, tightSetOf, formCheck, levelCheck, wallSheet, between};
 ghost use Rattle.jobboard.specs.Desk.{Reported};
 
 // Writes a table without jobs; 1 where the length is not that of so many benches and jobs.
@@ -128,4 +128,24 @@ pub extern "C" fn jobboard_sheet(table: &[u8], page: &mut [u8], length: &mut u32
         (now (table .entry)) (now (page .exit)) (now (length .entry) ∷ []) (now (length .exit) ∷ []) ⌝ }
 {
     jobboard_report::one(board_sheet::sheet(table, page), length)
+}
+
+// Answers whether there is a job between two benches, on a table that nobody checked. Results: the lowest, 0 for none;
+// the records read.
+#[no_mangle]
+pub extern "C" fn jobboard_between(
+    table: &[u8],
+    first: u32,
+    second: u32,
+    job: &mut u32,
+    records: &mut u32,
+) -> u32
+    ensures { λ r. ⌜ Reported (outcome (between first second) (now (table .entry))) r (now (table .entry)) []
+        (now (job .entry) ∷ now (records .entry) ∷ []) (now (job .exit) ∷ now (records .exit) ∷ []) ⌝ }
+{
+    jobboard_report::two(
+        board_pair::between(table, first as usize, second as usize),
+        job,
+        records,
+    )
 }

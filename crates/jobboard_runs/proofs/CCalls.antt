@@ -20,8 +20,8 @@ use Rattle.spec_calls.proofs.Instance.{run-runs, run-claim}
 use Rattle.board_answers.specs.Answered.{returned}
 use Rattle.jobboard_report.specs.Report.{results}
 use Rattle.jobboard.specs.Desk.{Reported}
-use Rattle.jobboard.proofs.Contracts.{blank-reports, check-reports, arrival-reports, closing-reports, levelling-reports, level-check-reports, load-reports, heaviest-reports, tight-set-reports, sheet-reports}
-use Rattle.jobboard_runs.specs.CCalls.{Observed, Called, byArrival, byClosing, byLevelling, byLoad, byHeaviest, byTightSet, byCheck, byLevelCheck, bySheet, CallsMade, ReportedEach, refusedBy, lastTable, CStarted, byBlank, byLevel, CClaim}
+use Rattle.jobboard.proofs.Contracts.{blank-reports, check-reports, arrival-reports, closing-reports, levelling-reports, level-check-reports, load-reports, heaviest-reports, tight-set-reports, sheet-reports, between-reports}
+use Rattle.jobboard_runs.specs.CCalls.{Observed, Called, byArrival, byClosing, byLevelling, byLoad, byHeaviest, byTightSet, byCheck, byLevelCheck, bySheet, byBetween, CallsMade, ReportedEach, refusedBy, lastTable, CStarted, byBlank, byLevel, CClaim}
 use Rattle.jobboard_runs.proofs.Done.{level-start}
 
 -- each C call reports the defined outcome
@@ -35,6 +35,7 @@ called-reported c t v (byTightSet κs a r s p) = tight-set-reports κs a r s p
 called-reported c t v (byCheck κs a r s p) = check-reports κs a r s p
 called-reported c t v (byLevelCheck κs a r s p) = level-check-reports κs a r s p
 called-reported c t v (bySheet κs a r s p) = sheet-reports κs a r s p
+called-reported c t v (byBetween κs a r s p) = between-reports κs a r s p
 
 -- call by call, what is observed is the definition's run ..
 reported-each : (t : List ℕ) (cs : List Call) (vs : List Observed) → CallsMade t cs vs → ReportedEach (run t cs) vs

@@ -16,7 +16,8 @@ use Rattle.spec_calls.proofs.Demand3.{demand-3, runs-defined, blanking-starts}
 use Rattle.board_changes.proofs.Contracts.{blank-meets, arrival-meets, closing-meets, levelling-meets}
 use Rattle.board_questions.proofs.Contracts.{form-check-meets, level-check-meets, load-meets, heaviest-meets, tight-set-meets}
 use Rattle.board_sheet.proofs.Contracts.{sheet-meets}
-use Rattle.jobboard_runs.specs.Done.{Done, byArrival, byClosing, byLevelling, byLoad, byHeaviest, byTightSet, byFormCheck, byLevelCheck, bySheet, Started, byBlank, byLevel}
+use Rattle.board_pair.proofs.Contracts.{between-meets}
+use Rattle.jobboard_runs.specs.Done.{Done, byArrival, byClosing, byLevelling, byLoad, byHeaviest, byTightSet, byFormCheck, byLevelCheck, bySheet, byBetween, Started, byBlank, byLevel}
 
 -- each function leaves what is defined
 pub done-defined : (c : Call) (t : List ℕ) (o : Outcome) → Done c t o → AsDefined c t o
@@ -29,6 +30,7 @@ done-defined c t o (byTightSet κs a r s p) = tight-set-meets κs a r s p
 done-defined c t o (byFormCheck κs a r s p) = form-check-meets κs a r s p
 done-defined c t o (byLevelCheck κs a r s p) = level-check-meets κs a r s p
 done-defined c t o (bySheet κs a r s p) = sheet-meets κs a r s p
+done-defined c t o (byBetween κs a r s p) = between-meets κs a r s p
 
 -- a table that the level check calls level is sound and level
 pub level-start : (t : List ℕ) → (outcome (ask levelCheck []) t) .answer ≡ said levelYes → Start t ((decode t) .named)

@@ -9,7 +9,7 @@ use lib.Dec.{eqb}
 use lib.ListN.{replicate}
 use Rattle.spec_table.specs.Table.{decode}
 use Rattle.spec_calls.specs.Answers.{Outcome}
-use Rattle.spec_calls.specs.Calls.{Call, arrival, closing, levelling, ask, loadOf, heaviestLoad, tightSetOf, formCheck, levelCheck, wallSheet}
+use Rattle.spec_calls.specs.Calls.{Call, arrival, closing, levelling, ask, loadOf, heaviestLoad, tightSetOf, formCheck, levelCheck, wallSheet, between}
 use Rattle.spec_calls.specs.JobBook.{Book, run, tableAfter, Claim}
 use Rattle.jobboard.specs.Desk.{Reported}
 use Rattle.jobboard.proofs.jobboard_blank.Reads as c-blank
@@ -22,6 +22,7 @@ use Rattle.jobboard.proofs.jobboard_load.Reads as c-load
 use Rattle.jobboard.proofs.jobboard_heaviest.Reads as c-heaviest
 use Rattle.jobboard.proofs.jobboard_tight_set.Reads as c-tight-set
 use Rattle.jobboard.proofs.jobboard_sheet.Reads as c-sheet
+use Rattle.jobboard.proofs.jobboard_between.Reads as c-between
 
 -- the number returned, the bytes left of the table and of what was lent beside it, and the lent numbers before and
 -- after, which lie outside both
@@ -88,6 +89,12 @@ pub data Called : Call → List ℕ → Observed → Type 0 where
       (κs : Lfts 3) (a : _) (r : _) (s : _) → c-sheet.Post κs a r s →
       Called (ask wallSheet (a .1 .0 .now)) (a .0 .now)
       (observed r (a .0 .now) (s .1 .0 .now) (a .1 .1 .0 .now ∷ []) (s .1 .1 .0 .now ∷ []))
+  -- table, first, second; job, records
+  byBetween :
+      (κs : Lfts 3) (a : _) (r : _) (s : _) → c-between.Post κs a r s →
+      Called (between (a .1 .0) (a .1 .1 .0)) (a .0 .now)
+      (observed r (a .0 .now) [] (a .1 .1 .1 .0 .now ∷ a .1 .1 .1 .1 .0 .now ∷ [])
+      (s .1 .1 .1 .0 .now ∷ s .1 .1 .1 .1 .0 .now ∷ []))
 
 -- C calls one after the other, each on the table that the last one left
 abbrev pub CallsMade : List ℕ → List Call → List Observed → Type 0

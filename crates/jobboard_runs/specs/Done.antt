@@ -8,7 +8,7 @@ use contract.Lifetimes.{Lfts}
 use lib.ListN.{replicate}
 use Rattle.spec_table.specs.Table.{decode}
 use Rattle.spec_calls.specs.Answers.{Outcome, said, blanked, levelYes}
-use Rattle.spec_calls.specs.Calls.{Call, arrival, closing, levelling, ask, loadOf, heaviestLoad, tightSetOf, formCheck, levelCheck, wallSheet}
+use Rattle.spec_calls.specs.Calls.{Call, arrival, closing, levelling, ask, loadOf, heaviestLoad, tightSetOf, formCheck, levelCheck, wallSheet, between}
 use Rattle.spec_calls.specs.JobBook.{Book}
 use Rattle.board_answers.specs.Answered.{answerOf, leftBy}
 use Rattle.board_changes.proofs.blank.Reads as blank
@@ -21,6 +21,7 @@ use Rattle.board_questions.proofs.load.Reads as load
 use Rattle.board_questions.proofs.heaviest.Reads as heaviest
 use Rattle.board_questions.proofs.tight_set.Reads as tight-set
 use Rattle.board_sheet.proofs.sheet.Reads as wall-sheet
+use Rattle.board_pair.proofs.between.Reads as between-benches
 
 -- the call c, made of the table t, left o
 pub data Done : Call → List ℕ → Outcome → Type 0 where
@@ -61,6 +62,10 @@ pub data Done : Call → List ℕ → Outcome → Type 0 where
   bySheet :
       (κs : Lfts 2) (a : _) (r : _) (s : _) → wall-sheet.Post κs a r s →
       Done (ask wallSheet (a .1 .0 .now)) (a .0 .now) (leftBy r (a .0 .now) (s .1 .0 .now))
+  -- table, first, second
+  byBetween :
+      (κs : Lfts 1) (a : _) (r : _) (s : _) → between-benches.Post κs a r s →
+      Done (between (a .1 .0) (a .1 .1 .0)) (a .0 .now) (leftBy r (a .0 .now) [])
 
 -- a start that the code made or found: what `blank` left where it was not refused, with an empty book; a table that
 -- `level_check` called level, with its own jobs

@@ -13,7 +13,7 @@ use Rattle.spec_table.specs.Table.{mostBenches, mostJobs, sound, decode, encode
 use Rattle.spec_sharing.specs.Sharing.{close, level, Levelled, relevel}
 use Rattle.spec_sharing.specs.Demand2.{Flips, noFlip, flipThen}
 use Rattle.spec_calls.specs.Answers.{Answer, Outcome, refused, arrived, closed, said, isRefused}
-use Rattle.spec_calls.specs.Calls.{Arriving, Closing, Call, arrival, closing, levelling, ask, isQuestion, outcome, arrivalOutcome, closingOutcome, levellingOutcome}
+use Rattle.spec_calls.specs.Calls.{Arriving, Closing, Call, arrival, closing, levelling, ask, between, isQuestion, outcome, arrivalOutcome, closingOutcome, levellingOutcome}
 use Rattle.spec_calls.specs.JobBook.{putsInOrder, onceInOrder, InOrder, refusedEach, tableAfter, Runs, AsDefined}
 use Rattle.spec_lists.proofs.Tests.{true→T, T→true, not→false, left, right, either}
 use Rattle.spec_table.proofs.Sound.{sound-storable}
@@ -22,7 +22,7 @@ use Rattle.spec_table.proofs.AnyOrder.{encoded-reordered}
 use Rattle.spec_table.proofs.RisingChains.{encode-rises}
 use Rattle.spec_sharing.proofs.Levelling.{level-rests}
 use Rattle.spec_calls.proofs.Blanking.{blank-is-encoded, blank-sound, blank-decodes}
-use Rattle.spec_calls.proofs.Refusals.{on-sound, accepted-sound, refused-by, question-leaves}
+use Rattle.spec_calls.proofs.Refusals.{changes-on-sound, accepted-sound, refused-by, question-leaves}
 use Rattle.spec_calls.proofs.Outcomes.{WritesBoard, arriveOn, AcceptedArrival, AcceptedClosing, Relevelled, levelling-accepted, Left, by-call}
 
 -- a table that was put in order: sound, and the table of the board that it holds
@@ -79,7 +79,8 @@ module _ (c : Call) (t : List ℕ) where
   pub changed-in-order : T (putsInOrder c (isRefused ((outcome c t) .answer))) → Ordered ((outcome c t) .table)
   changed-in-order p =
       let refused = isRefused ((outcome c t) .answer) in
-      orders t (accepted-sound c (on-sound c) t (not→false refused (right (not (isQuestion c)) (not refused) p))) c p
+      let tests = changes-on-sound c (left (not (isQuestion c)) (not refused) p) in
+      orders t (accepted-sound c tests t (not→false refused (right (not (isQuestion c)) (not refused) p))) c p
 
   -- .. so "every changed table, levelling included, has all its chains rising"
   pub changed-rises : T (putsInOrder c (isRefused ((outcome c t) .answer))) → T (allRise ((outcome c t) .table))
@@ -97,7 +98,8 @@ pub order-left : (c : Call) (t : List ℕ) → putsInOrder c (isRefused ((outcom
 order-left (arrival a) t n = refused-keeps (arrival a) t ((outcome (arrival a) t) .answer) refl n
 order-left (closing k) t n = refused-keeps (closing k) t ((outcome (closing k) t) .answer) refl n
 order-left (levelling allowance) t n = refused-keeps (levelling allowance) t ((outcome (levelling allowance) t) .answer) refl n
-order-left (ask q lent) t n = question-leaves q lent t
+order-left (ask q lent) t n = question-leaves (ask q lent) tt t
+order-left (between x y) t n = question-leaves (between x y) tt t
 
 -- "No order is left free: benches, jobs and holders fix every byte": two tables left by such calls that hold the same sharing are
 -- the same bytes

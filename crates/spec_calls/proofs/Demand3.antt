@@ -2,18 +2,19 @@
 use Prim.Native.Nat.{ℕ, zero, suc, _≤_}
 use mathlib.Core.Path.{_≡_, refl, sym, ap, subst, _∙_}
 use mathlib.Core.Logic.{_⊎_, inl, inr}
-use mathlib.Core.Bool.{Bool, true, not, false≢true}
+use mathlib.Core.Bool.{Bool, true, not, _||_, false≢true}
 use mathlib.Core.List.{List, [], _∷_}
 use lib.Dec.{T}
 use lib.ListN.{length, getD, replicate}
-use Rattle.spec_table.specs.Board.{Board, Valid, holderOf, stands, Shares, excess}
+use Rattle.spec_table.specs.Board.{Board, Valid, holderOf, stands, Shares, excess, namesFit}
 use Rattle.spec_lists.specs.Lists.{empty}
-use Rattle.spec_table.specs.Table.{sizesFit, lengthFor, sound, decode}
+use Rattle.spec_table.specs.Table.{words, layout, sizesFit, lengthFor, sound, decode, allRise}
+use Rattle.spec_pair.specs.Pair.{recordsRead, lowestBetween}
 use Rattle.spec_sharing.specs.Sharing.{close, level, Levelled, relevel}
-use Rattle.spec_calls.specs.Answers.{Answer, Outcome, isRefused}
-use Rattle.spec_calls.specs.Calls.{Arriving, Closing, Call, arrival, closing, levelling, ask, isQuestion, blanking, outcome, arrivalOutcome, closingOutcome, levellingOutcome}
+use Rattle.spec_calls.specs.Answers.{Answer, Outcome, isRefused, said}
+use Rattle.spec_calls.specs.Calls.{Arriving, Closing, Call, arrival, closing, levelling, ask, between, isQuestion, betweenFact, blanking, outcome, arrivalOutcome, closingOutcome, levellingOutcome}
 use Rattle.spec_sharing.specs.Demand2.{Demand2}
-use Rattle.spec_calls.specs.JobBook.{Book, entered, tableAfter, OneLoad, Runs, AsDefined, Start, fromBlank, fromLevel, Claim, Demand3}
+use Rattle.spec_calls.specs.JobBook.{Book, entered, refusedEach, onceInOrder, tableAfter, OneLoad, Runs, AsDefined, Start, fromBlank, fromLevel, Claim, Demand3}
 use Rattle.spec_lists.proofs.Tests.{true→T}
 use Rattle.spec_sharing.proofs.Paths.{jobless-level}
 use Rattle.spec_table.proofs.Places.{sized}
@@ -24,6 +25,7 @@ use Rattle.spec_sharing.proofs.Levels.{level-least, level-demand2}
 use Rattle.spec_sharing.proofs.KeepsLevel.{arrival-keeps-level, closing-keeps-level}
 use Rattle.spec_sharing.proofs.Levelling.{level-rests}
 use Rattle.spec_calls.proofs.ChangedTables.{run-rises, run-fixed}
+use Rattle.spec_calls.proofs.Pairs.{between-everything}
 use Rattle.spec_calls.proofs.Outcomes.{WritesBoard, namable-some, namable-fit, arriveOn, AcceptedArrival, AcceptedClosing, Relevelled, Left, by-call}
 
 -- what a call leaves of a sound level table: such a table again, its jobs as the book has them, one load changed as the answer says
@@ -53,13 +55,11 @@ idle-load (closing k) a b d (inl r) = λ n. absurd (false≢true (sym n ∙ r))
 idle-load (closing k) a b d (inr q) = absurd q
 idle-load (levelling allowance) a b d i = tt
 idle-load (ask q lent) a b d i = tt
+idle-load (between x y) a b d i = tt
 
 idle-enters : (c : Call) (a : Answer) (k : Book) → (isRefused a ≡ true) ⊎ T (isQuestion c) → entered c (isRefused a) k ≡ k
 idle-enters c a k (inl r) = ap (λ (z : Bool). entered c z k) r ∙ refused-enters c k
-idle-enters (arrival c) a k (inr q) = absurd q
-idle-enters (closing c) a k (inr q) = absurd q
-idle-enters (levelling allowance) a k (inr q) = refl
-idle-enters (ask c lent) a k (inr q) = question-enters c lent (isRefused a) k
+idle-enters c a k (inr q) = question-enters c q (isRefused a) k
 
 module _ (t : List ℕ) (s : T (sound t)) (l : T (level (decode t))) where
   v : Valid (decode t)
@@ -195,3 +195,11 @@ pub demand-2-after : (t : List ℕ) (k : Book) → Start t k → (cs : List Call
 demand-2-after t k start cs os r =
     let e = level-after t k start cs os r in
     level-demand2 (decode (tableAfter t os)) ((sound-storable (tableAfter t os) (e .0)) .valid) (e .1)
+
+-- 02: .. and where its chains rise, as after every accepted change, the question for a job between two benches is answered as if all
+-- were read
+pub between-after : (t : List ℕ) (k : Book) → Start t k → (cs : List Call) (os : List Outcome) → Runs AsDefined t cs os → T (allRise t || onceInOrder cs (refusedEach os)) →
+    (x y : ℕ) → let u = tableAfter t os in T (namesFit ((decode u) .benches) (x ∷ y ∷ [])) →
+    (outcome (between x y) u) .answer ≡ said (betweenFact (lowestBetween (decode u) x y) (length (recordsRead (layout (words u)) x y)))
+between-after t k start cs os r p x y f =
+    between-everything x y (tableAfter t os) ((level-after t k start cs os r) .0) (run-rises t cs os r p) f

@@ -1,11 +1,13 @@
 -- The hypotheses of demand 3 can be met: every list of calls has a run, and the claim holds of it. And so can those of request
--- 02: there is a sound table whose chains do not rise.
+-- 02: there is a sound table whose chains do not rise. Of request 03, that the order counts.
 use Prim.Native.Nat.{ℕ}
 use mathlib.Core.Path.{_≡_, refl}
 use mathlib.Core.Bool.{true, false}
 use mathlib.Core.List.{List, [], _∷_, flatMap}
 use Rattle.spec_table.specs.Table.{bytesOf, sizesFit, layout, formed, fits, sound, boardOf, decode, layoutOf, flat, encode, allRise}
-use Rattle.spec_calls.specs.Calls.{Call, levelling, outcome}
+use Rattle.spec_pair.specs.Pair.{firstWalk, secondWalk, unreadablePair, recordsRead, jobFound}
+use Rattle.spec_calls.specs.Answers.{said, jobBetween}
+use Rattle.spec_calls.specs.Calls.{Call, levelling, between, betweenConditions, betweenTold, refusals, accepted, outcome}
 use Rattle.spec_calls.specs.JobBook.{Book, run, Runs, AsDefined, Start, Claim}
 use Rattle.spec_lists.proofs.Tests.{true→T}
 use Rattle.spec_calls.proofs.ChangedTables.{OnlyReorders, allowance-0-reorders}
@@ -39,3 +41,8 @@ unfolding decode boardOf layout encode layoutOf flat flatMap
 falling-reordered =
     let r = allowance-0-reorders fallingTable (true→T (sound fallingTable) (two-orders .0)) in
     (r, r .table)
+
+-- 02: "Here, unlike in 01, the chains' order counts": the two tables, one board in two orders, are told another job
+pub order-counts : ((outcome (between 1 2) fallingTable) .answer ≡ said (jobBetween 2 1)) × ((outcome (between 1 2) risingTable) .answer ≡ said (jobBetween 1 1))
+unfolding outcome refusals betweenConditions accepted betweenTold fits sizesFit layout unreadablePair firstWalk secondWalk recordsRead jobFound
+order-counts = (refl, refl)

@@ -4,9 +4,10 @@ use mathlib.Core.Path.{_≡_, refl}
 use mathlib.Core.Logic.{_≢_}
 use mathlib.Core.Bool.{Bool, true, false}
 use mathlib.Core.List.{List, []}
+use lib.Dec.{T}
 use lib.ListN.{length}
 use Rattle.spec_lists.specs.Lists.{nth}
-use Rattle.spec_calls.specs.Calls.{Arriving, Closing, Question, Call, arrival, closing, levelling, ask}
+use Rattle.spec_calls.specs.Calls.{Arriving, Closing, Call, arrival, closing, levelling, ask, between, isQuestion}
 use Rattle.spec_calls.specs.JobBook.{Book, entered}
 use Rattle.spec_lists.proofs.Elements.{nth-update-same, nth-update-other}
 
@@ -30,11 +31,16 @@ refused-enters (arrival a) k = refl
 refused-enters (closing c) k = refl
 refused-enters (levelling allowance) k = refl
 refused-enters (ask q lent) k = refl
+refused-enters (between x y) k = refl
 
 -- .. nor does a levelling ..
 pub levelling-enters : (allowance : ℕ) (r : Bool) (k : Book) → entered (levelling allowance) r k ≡ k
 levelling-enters allowance r k = refl
 
 -- .. nor a question
-pub question-enters : (q : Question) (lent : List ℕ) (r : Bool) (k : Book) → entered (ask q lent) r k ≡ k
-question-enters q lent r k = refl
+pub question-enters : (c : Call) → T (isQuestion c) → (r : Bool) (k : Book) → entered c r k ≡ k
+question-enters (arrival a) q r k = absurd q
+question-enters (closing c) q r k = absurd q
+question-enters (levelling allowance) q r k = absurd q
+question-enters (ask c lent) q r k = refl
+question-enters (between x y) q r k = refl

@@ -7,6 +7,7 @@ pub mod Stops
 pub mod JobBook
 pub mod Questions
 pub mod Sheets
+pub mod Pairs
 pub mod Outcomes
 pub mod ChangedTables
 pub mod Refused

@@ -12,11 +12,11 @@ use Rattle.spec_table.specs.Board.{Board, stands, namesFit}
 use Rattle.spec_table.specs.Table.{paired, sound, decode, encode, Storable}
 use Rattle.spec_sharing.specs.Sharing.{Change, arrive, close, Levelled, relevel}
 use Rattle.spec_calls.specs.Answers.{Refusal, Outcome, firstHolding, isRefused, refusedOr, said, levelled}
-use Rattle.spec_calls.specs.Calls.{Arriving, Closing, namable, MayArrive, Call, arrival, closing, levelling, ask, arrivalConditions, closingConditions, refusals, isQuestion, lentTo, accepted, outcome, arrivalOutcome, closingOutcome, levellingOutcome}
+use Rattle.spec_calls.specs.Calls.{Arriving, Closing, namable, MayArrive, Call, arrival, closing, levelling, ask, between, arrivalConditions, closingConditions, refusals, isQuestion, lentTo, accepted, outcome, arrivalOutcome, closingOutcome, levellingOutcome}
 use Rattle.spec_sharing.specs.Demand2.{OneMore}
 use Rattle.spec_lists.proofs.Tests.{not-false, false→not, left, right, or-right}
 use Rattle.spec_table.proofs.Named.{resized, changed-storable}
-use Rattle.spec_calls.proofs.Refusals.{accepted-by, accepted-answers, on-sound, conditions, question-leaves}
+use Rattle.spec_calls.proofs.Refusals.{accepted-by, accepted-answers, question-leaves}
 use Rattle.spec_calls.proofs.ChainOrder.{sound-outcome}
 use Rattle.spec_calls.proofs.Tally.{isChange}
 use Rattle.spec_table.proofs.Sound.{sound-storable}
@@ -167,15 +167,18 @@ module _ (t : List ℕ) (s : T (sound t)) (P : Call → Type 0) (arrives : (a : 
   by-accepted (closing k) e = closes k (closing-accepted t s k (ap (λ o. isRefused (o .answer)) e ∙ accepted-answers (closing k) t (decode t)))
   by-accepted (levelling allowance) e = levels allowance (levelling-accepted t s allowance)
   by-accepted (ask q lent) e =
-      leaves (ask q lent) (record { table = question-leaves q lent t; quiet = ap (λ o. isChange (o .answer)) e; idle = inr tt })
+      leaves (ask q lent) (record { table = question-leaves (ask q lent) tt t; quiet = ap (λ o. isChange (o .answer)) e; idle = inr tt })
+  by-accepted (between x y) e =
+      leaves (between x y) (record { table = question-leaves (between x y) tt t; quiet = ap (λ o. isChange (o .answer)) e; idle = inr tt })
 
   pub by-call : (c : Call) → P c
-  by-call c = go (firstHolding (conditions c (decode t))) refl
+  unfolding outcome
+  by-call c = go (firstHolding (refusals c t)) refl
     where
-      is : (o : Option Refusal) → firstHolding (conditions c (decode t)) ≡ o → outcome c t ≡ refusedOr o t (lentTo c) (accepted c t (decode t))
-      is o e = sound-outcome c (on-sound c) t s ∙ ap (λ o. refusedOr o t (lentTo c) (accepted c t (decode t))) e
+      is : (o : Option Refusal) → firstHolding (refusals c t) ≡ o → outcome c t ≡ refusedOr o t (lentTo c) (accepted c t (decode t))
+      is o e = ap (λ o. refusedOr o t (lentTo c) (accepted c t (decode t))) e
 
-      go : (o : Option Refusal) → firstHolding (conditions c (decode t)) ≡ o → P c
+      go : (o : Option Refusal) → firstHolding (refusals c t) ≡ o → P c
       go none e = by-accepted c (is none e)
       go (some r) e =
           leaves c (subst (Left t c) (sym (is (some r) e)) (record { table = refl; quiet = refl; idle = inl refl }))

@@ -4,7 +4,7 @@ use Prim.Native.Nat.{ℕ, _≤_}
 use native.Mathlib.Omega.{arith}
 use mathlib.Core.Path.{_≡_, refl, sym, ap, subst, _∙_}
 use mathlib.Core.Logic.{_⊎_, inl, inr}
-use mathlib.Core.Bool.{Bool, true, false, cond, false≢true}
+use mathlib.Core.Bool.{Bool, true, false, cond, not, false≢true}
 use mathlib.Core.List.{List, [], _∷_, _++_, map}
 use mathlib.Core.Option.{Option, none, some, Option·some-injective, Option·none-ne-some, Option·some-ne-none}
 use lib.Dec.{T}
@@ -13,7 +13,7 @@ use Rattle.spec_table.specs.Table.{sound, decode}
 use Rattle.spec_table.specs.Board.{Board}
 use Rattle.spec_lists.proofs.Tests.{not-false}
 use Rattle.spec_calls.specs.Answers.{Refusal, Condition, refusalNumber, inNumbers, firstHolding, isRefused, refusedOr, refused, said, levelYes, levelNo, levelled, stopped, sizes, unsound, jobNumber, benchNumber, alreadyStanding, notStanding, height, listTooShort, countFull, unreadable, pageTooShort}
-use Rattle.spec_calls.specs.Calls.{Question, loadOf, heaviestLoad, tightSetOf, formCheck, levelCheck, wallSheet, Call, arrival, closing, levelling, ask, formConditions, arrivalConditions, closingConditions, questionConditions, refusals, questionOrder, order, lentTo, accepted, outcome, arrivalOutcome, closingOutcome, levellingOutcome}
+use Rattle.spec_calls.specs.Calls.{Question, loadOf, heaviestLoad, tightSetOf, formCheck, levelCheck, wallSheet, Call, arrival, closing, levelling, ask, between, isQuestion, formConditions, arrivalConditions, closingConditions, questionConditions, betweenConditions, refusals, questionOrder, order, lentTo, accepted, outcome, arrivalOutcome, closingOutcome, levellingOutcome}
 
 -- "returned": 1 to 11, in the table's order; 02: "11, after 10"
 pub refusals-told : map refusalNumber (sizes ∷ unsound ∷ jobNumber ∷ benchNumber ∷ alreadyStanding ∷ notStanding ∷ height ∷ listTooShort ∷ countFull ∷ unreadable ∷ pageTooShort ∷ []) ≡ range 1 11
@@ -29,10 +29,11 @@ conditionNumbers = map (λ k. refusalNumber (k .refusal))
 
 -- a call's conditions stand in the call's own order
 pub conditions-ordered : (c : Call) (t : List ℕ) → conditionNumbers (refusals c t) ≡ order c
-unfolding refusals arrivalConditions closingConditions questionConditions
+unfolding refusals arrivalConditions closingConditions questionConditions betweenConditions
 conditions-ordered (arrival a) t = refl
 conditions-ordered (closing c) t = refl
 conditions-ordered (levelling allowance) t = refl
+conditions-ordered (between x y) t = refl
 conditions-ordered (ask q lent) t = asked q
   where
     asked : (q : Question) → conditionNumbers (formConditions t ++ questionConditions q lent (decode t)) ≡ questionOrder q
@@ -42,21 +43,6 @@ conditions-ordered (ask q lent) t = asked q
     asked formCheck = refl
     asked levelCheck = refl
     asked wallSheet = refl
-
--- "Where several apply, the lowest number is returned": in each call's order the numbers rise
-pub order-rises : (c : Call) → T (rises (order c))
-order-rises (arrival a) = tt
-order-rises (closing c) = tt
-order-rises (levelling allowance) = tt
-order-rises (ask q lent) = asked q
-  where
-    asked : (q : Question) → T (rises (questionOrder q))
-    asked (loadOf x) = tt
-    asked heaviestLoad = tt
-    asked (tightSetOf h) = tt
-    asked formCheck = tt
-    asked levelCheck = tt
-    asked wallSheet = tt
 
 -- r is the refusal of a condition that holds, and no condition before it does
 abbrev pub FirstIs : Refusal → List Condition → Type 0
@@ -97,20 +83,23 @@ accepted-answers (arrival a) t b = refl
 accepted-answers (closing c) t b = refl
 accepted-answers (levelling allowance) t b = refl
 accepted-answers (ask q lent) t b = refl
+accepted-answers (between x y) t b = refl
 
--- the calls that test the form of their table first ..
+-- the calls that test the form of their table first: all but the question for a job between two benches ..
 abbrev pub onSound : Call → Bool
 onSound (arrival a) = true
 onSound (closing c) = true
 onSound (levelling allowance) = true
 onSound (ask q lent) = true
+onSound (between x y) = false
 
--- .. all calls so far do ..
-pub on-sound : (c : Call) → T (onSound c)
-on-sound (arrival a) = tt
-on-sound (closing c) = tt
-on-sound (levelling allowance) = tt
-on-sound (ask q lent) = tt
+-- .. so every call that changes a table does ..
+pub changes-on-sound : (c : Call) → T (not (isQuestion c)) → T (onSound c)
+changes-on-sound (arrival a) n = tt
+changes-on-sound (closing c) n = tt
+changes-on-sound (levelling allowance) n = tt
+changes-on-sound (ask q lent) n = tt
+changes-on-sound (between x y) n = n
 
 -- .. and what such a call tests of the board then
 abbrev pub conditions : Call → Board → List Condition
@@ -118,6 +107,7 @@ conditions (arrival a) b = arrivalConditions a b
 conditions (closing c) b = closingConditions c b
 conditions (levelling allowance) b = []
 conditions (ask q lent) b = questionConditions q lent b
+conditions (between x y) b = []
 
 pub formed-first : (c : Call) → T (onSound c) → (t : List ℕ) → refusals c t ≡ formConditions t ++ conditions c (decode t)
 unfolding refusals
@@ -125,6 +115,23 @@ formed-first (arrival a) f t = refl
 formed-first (closing c) f t = refl
 formed-first (levelling allowance) f t = refl
 formed-first (ask q lent) f t = refl
+formed-first (between x y) f t = absurd f
+
+-- 01: "Where several apply, the lowest number is returned": in the order of such a call the numbers rise
+pub order-rises : (c : Call) → T (onSound c) → T (rises (order c))
+order-rises (arrival a) f = tt
+order-rises (closing c) f = tt
+order-rises (levelling allowance) f = tt
+order-rises (ask q lent) f = asked q
+  where
+    asked : (q : Question) → T (rises (questionOrder q))
+    asked (loadOf x) = tt
+    asked heaviestLoad = tt
+    asked (tightSetOf h) = tt
+    asked formCheck = tt
+    asked levelCheck = tt
+    asked wallSheet = tt
+order-rises (between x y) f = absurd f
 
 -- a table that 1 or 2 refuses is refused so by each of these calls
 pub form-stops : (c : Call) → T (onSound c) → (t : List ℕ) (r : Refusal) → firstHolding (formConditions t) ≡ some r → (outcome c t) .answer ≡ refused r
@@ -182,10 +189,15 @@ refusal-positive unreadable = omega arith
 refusal-positive pageTooShort = omega arith
 
 -- "the questions, which change no table byte"
-pub question-leaves : (q : Question) (lent t : List ℕ) → (outcome (ask q lent) t) .table ≡ t
+pub question-leaves : (c : Call) → T (isQuestion c) → (t : List ℕ) → (outcome c t) .table ≡ t
 unfolding outcome accepted
-question-leaves q lent t = go (firstHolding (refusals (ask q lent) t))
+question-leaves c q t = go c q (firstHolding (refusals c t))
   where
-    go : (o : Option Refusal) → (refusedOr o t lent (accepted (ask q lent) t (decode t))) .table ≡ t
-    go none = refl
-    go (some s) = refl
+    go : (c : Call) → T (isQuestion c) → (o : Option Refusal) → (refusedOr o t (lentTo c) (accepted c t (decode t))) .table ≡ t
+    go (arrival a) n o = absurd n
+    go (closing k) n o = absurd n
+    go (levelling allowance) n o = absurd n
+    go (ask q lent) n none = refl
+    go (ask q lent) n (some s) = refl
+    go (between x y) n none = refl
+    go (between x y) n (some s) = refl

@@ -1,18 +1,18 @@
 -- Arrival and closing on a sound table: when they are refused, with which number, and that nothing else refuses them.
 use Prim.Native.Nat.{ℕ}
-use mathlib.Core.Path.{_≡_, ap, subst, _∙_}
-use mathlib.Core.Logic.{_⊎_, inl, inr, _≢_, _↔_}
-use mathlib.Core.Bool.{Bool, true, false}
+use mathlib.Core.Path.{_≡_, ap, _∙_}
+use mathlib.Core.Logic.{_⊎_, _↔_}
+use mathlib.Core.Bool.{true, false}
 use mathlib.Core.List.{List, [], _∷_}
 use lib.Dec.{T}
 use lib.ListN.{length}
 use Rattle.spec_lists.specs.Lists.{within}
-use Rattle.spec_table.specs.Board.{stands, namesFit}
+use Rattle.spec_table.specs.Board.{stands}
 use Rattle.spec_table.specs.Table.{sound, decode}
 use Rattle.spec_calls.specs.Answers.{isRefused, refused, jobNumber, benchNumber, alreadyStanding, notStanding}
 use Rattle.spec_calls.specs.Calls.{Arriving, Closing, namable, MayArrive, arrival, closing, arrivalConditions, closingConditions, accepted, outcome, arrivalOutcome, closingOutcome}
-use Rattle.spec_lists.proofs.Tests.{T→true, not→false, never→false}
-use Rattle.spec_table.proofs.Named.{pair-fits, stands-within}
+use Rattle.spec_lists.proofs.Tests.{T→true, not→false}
+use Rattle.spec_table.proofs.Named.{pair-misfits, stands-within}
 use Rattle.spec_calls.proofs.ChainOrder.{sound-outcome}
 use Rattle.spec_calls.proofs.Outcomes.{arrival-accepted, closing-accepted}
 
@@ -31,15 +31,7 @@ module _ (t : List ℕ) (s : T (sound t)) where
   unfolding arrivalConditions closingConditions accepted
   arrival-bench-refused j x y w c =
       let a : Arriving = record { job = j; given = x ∷ y ∷ [] } in
-      ap (λ o. o .answer) (sound-outcome (arrival a) tt t s) ∙ rw (w, never→false (namesFit ((decode t) .benches) (x ∷ y ∷ [])) (λ f. wrong ((pair-fits ((decode t) .benches) x y) .0 f) c))
-    where
-      bench : ℕ → Bool
-      bench = within 1 ((decode t) .benches)
-
-      wrong : T (bench x) × T (bench y) × (x ≢ y) → (bench x ≡ false) ⊎ (bench y ≡ false) ⊎ (x ≡ y) → ⊥
-      wrong p (inl e) = subst T e (p .0)
-      wrong p (inr (inl e)) = subst T e (p .1)
-      wrong p (inr (inr e)) = p .2 e
+      ap (λ o. o .answer) (sound-outcome (arrival a) tt t s) ∙ rw (w, pair-misfits ((decode t) .benches) x y c)
 
   -- 5: "arrival of a standing job"
   pub arrival-standing-refused : (a : Arriving) → T (namable (decode t) (a .given)) → T (stands (decode t) (a .job)) → (outcome (arrival a) t) .answer ≡ refused alreadyStanding

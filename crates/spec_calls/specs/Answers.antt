@@ -24,7 +24,8 @@ refusalNumber unreadable = 10
 refusalNumber pageTooShort = 11
 
 -- what a call says that is neither an arrival's nor a closing's answer. A tight set: benches, inside jobs. A
--- levelling: paths turned, and level or stopped. A sheet: its length
+-- levelling: paths turned, and level or stopped. A sheet: its length. A job between two benches, or none: the records
+-- read
 pub data Fact : Type 0 where
   blanked : Fact
   loadIs : ℕ → Fact
@@ -34,6 +35,8 @@ pub data Fact : Type 0 where
   levelYes levelNo : Fact
   levelled stopped : ℕ → Fact
   sheetIs : ℕ → Fact
+  jobBetween : ℕ → ℕ → Fact
+  noneBetween : ℕ → Fact
 
 -- what a call answers. An arrival: the holder of the new job, the bench whose load rose, other jobs moved. A closing:
 -- the bench whose load fell, jobs moved
@@ -43,7 +46,7 @@ pub data Answer : Type 0 where
   closed : ℕ → ℕ → Answer
   said : Fact → Answer
 
--- a fact's values; yes and level are 1, no and stopped 0
+-- a fact's values; yes and level are 1, no, stopped and no job 0
 abbrev pub factValues : Fact → List ℕ
 factValues blanked = []
 factValues (loadIs n) = n ∷ []
@@ -55,6 +58,8 @@ factValues levelNo = 0 ∷ []
 factValues (levelled paths) = paths ∷ 1 ∷ []
 factValues (stopped paths) = paths ∷ 0 ∷ []
 factValues (sheetIs length) = length ∷ []
+factValues (jobBetween job records) = job ∷ records ∷ []
+factValues (noneBetween records) = 0 ∷ records ∷ []
 
 -- an answer in this paper's numbers: the refusal's number, or 0 and the values
 abbrev pub inNumbers : Answer → List ℕ
@@ -85,8 +90,8 @@ pub record Condition : Type 0 where
 abbrev pub refuse : Refusal → Bool → Condition
 refuse r h = record { refusal = r; holds = h }
 
--- "Where several apply, the lowest number is returned": a call lists its conditions in their order, and the first
--- that holds counts
+-- where several apply, a call lists its conditions in the order that counts, and the first that holds is returned: in
+-- 01 "the lowest number"
 abbrev pub firstHolding : List Condition → Option Refusal
 firstHolding [] = none
 firstHolding (c ∷ cs) = let r = firstHolding cs in cond (c .holds) (some (c .refusal)) r

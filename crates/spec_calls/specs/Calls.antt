@@ -3,14 +3,16 @@
 use Prim.Native.Nat.{ℕ, _*_}
 use mathlib.Core.Bool.{Bool, true, false, cond, not, _&&_, _||_}
 use mathlib.Core.List.{List, [], _∷_, _++_}
+use mathlib.Core.Option.{Option, none, some}
 use lib.Dec.{T, eqb, ltb}
 use lib.ListN.{length, drop}
 use Rattle.spec_lists.specs.Lists.{within}
 use Rattle.spec_table.specs.Board.{Board, holderOf, stands, load, heaviest, namesFit}
-use Rattle.spec_table.specs.Table.{bytesOf, sizesFit, fits, sound, decode, encode, blankTable}
+use Rattle.spec_table.specs.Table.{words, bytesOf, layout, sizesFit, fits, sound, decode, encode, blankTable}
 use Rattle.spec_sheet.specs.Sheet.{sheet}
+use Rattle.spec_pair.specs.Pair.{unreadablePair, recordsRead, jobFound}
 use Rattle.spec_sharing.specs.Sharing.{Change, arrive, close, level, Levelled, relevel, tightSet, inside}
-use Rattle.spec_calls.specs.Answers.{Fact, Outcome, Condition, refuse, unless, sizes, unsound, jobNumber, benchNumber, alreadyStanding, notStanding, height, listTooShort, pageTooShort, arrived, closed, said, blanked, loadIs, heaviestIs, tightSetIs, isSound, levelYes, levelNo, levelled, stopped, sheetIs}
+use Rattle.spec_calls.specs.Answers.{Fact, Outcome, Condition, refuse, unless, sizes, unsound, jobNumber, benchNumber, alreadyStanding, notStanding, height, listTooShort, pageTooShort, arrived, closed, said, blanked, loadIs, heaviestIs, tightSetIs, isSound, levelYes, levelNo, levelled, stopped, sheetIs, jobBetween, noneBetween}
 
 -- what an arrival is given: the job's number, and the benches it names
 pub record Arriving : Type 0 where
@@ -31,12 +33,14 @@ pub data Question : Type 0 where
   levelCheck : Question
   wallSheet : Question
 
--- a call on a table; a levelling has its allowance, a question the bytes lent beside the table, [] for none
+-- a call on a table; a levelling has its allowance, a question the bytes lent beside the table, [] for none. 02: the
+-- question for a job between two benches, which alone does not ask for a sound table
 pub data Call : Type 0 where
   arrival : Arriving → Call
   closing : Closing → Call
   levelling : ℕ → Call
   ask : Question → List ℕ → Call
+  between : ℕ → ℕ → Call
 
 -- "the questions, which change no table byte"
 abbrev pub isQuestion : Call → Bool
@@ -44,6 +48,7 @@ isQuestion (arrival a) = false
 isQuestion (closing c) = false
 isQuestion (levelling allowance) = false
 isQuestion (ask q lent) = true
+isQuestion (between x y) = true
 
 -- 1 and 2: the form of a table
 abbrev pub formConditions : List ℕ → List Condition
@@ -91,12 +96,23 @@ questionConditions formCheck lent b = []
 questionConditions levelCheck lent b = []
 questionConditions wallSheet page b = refuse pageTooShort (ltb (length page) (length (sheet b))) ∷ []
 
+-- 02: when the question for a job between two benches is. "2 [..] comes after 4"; two benches are asked about, different
+-- ones of 1 to B
+unfoldable pub betweenConditions : ℕ → ℕ → List ℕ → List Condition
+betweenConditions x y t =
+    let l = layout (words t) in
+    refuse sizes (not (fits t))
+    ∷ refuse benchNumber (not (namesFit (l .benches) (x ∷ y ∷ [])))
+    ∷ refuse unsound (unreadablePair l x y)
+    ∷ []
+
 -- when each call is refused: its whole list, in the order that counts
 unfoldable pub refusals : Call → List ℕ → List Condition
 refusals (arrival a) t = formConditions t ++ arrivalConditions a (decode t)
 refusals (closing c) t = formConditions t ++ closingConditions c (decode t)
 refusals (levelling allowance) t = formConditions t
 refusals (ask q lent) t = formConditions t ++ questionConditions q lent (decode t)
+refusals (between x y) t = betweenConditions x y t
 
 -- the numbers that a question may be refused with, in the order that counts
 abbrev pub questionOrder : Question → List ℕ
@@ -113,6 +129,7 @@ order (arrival a) = 1 ∷ 2 ∷ 3 ∷ 4 ∷ 5 ∷ []
 order (closing c) = 1 ∷ 2 ∷ 3 ∷ 6 ∷ []
 order (levelling allowance) = 1 ∷ 2 ∷ []
 order (ask q lent) = questionOrder q
+order (between x y) = 1 ∷ 4 ∷ 2 ∷ []
 
 -- the bytes that are lent to a call beside the table
 abbrev pub lentTo : Call → List ℕ
@@ -120,6 +137,7 @@ lentTo (arrival a) = []
 lentTo (closing c) = []
 lentTo (levelling allowance) = []
 lentTo (ask q lent) = lent
+lentTo (between x y) = []
 
 -- "the bench that holds the new job in the end, the bench whose load rose, and the number of other jobs that changed
 -- holder"
@@ -176,6 +194,16 @@ asked formCheck lent b = telling isSound lent
 asked levelCheck lent b = telling (cond (level b) levelYes levelNo) lent
 asked wallSheet page b = sheetTold (sheet b) page
 
+-- 02: "the lowest job number standing between two benches, or none", and "the records read"
+abbrev pub betweenFact : Option ℕ → ℕ → Fact
+betweenFact none records = noneBetween records
+betweenFact (some j) records = jobBetween j records
+
+-- what is told of a job between two benches
+unfoldable pub betweenTold : ℕ → ℕ → List ℕ → Told
+betweenTold x y t =
+    let l = layout (words t) in telling (betweenFact (jobFound l x y) (length (recordsRead l x y))) []
+
 -- what is told, the table's bytes as they were
 abbrev pub answering : List ℕ → Told → Outcome
 answering t r = record { answer = said (r .fact); table = t; lent = r .lent }
@@ -186,6 +214,7 @@ accepted (arrival a) t b = arrivalOutcome (a .job) (arrive b (a .job) (a .given)
 accepted (closing c) t b = closingOutcome (close b (c .job))
 accepted (levelling allowance) t b = levellingOutcome (relevel allowance b)
 accepted (ask q lent) t b = answering t (asked q lent b)
+accepted (between x y) t b = answering t (betweenTold x y t)
 
 -- what a call leaves of the table bytes t and of the bytes lent beside them
 unfoldable pub outcome : Call → List ℕ → Outcome

@@ -12,7 +12,7 @@ use Rattle.spec_table.specs.Table.{lengthFor, sizesFit, sound, decode, encode, 
 use Rattle.spec_sharing.specs.Sharing.{level}
 use Rattle.spec_sharing.specs.Demand2.{OneMore}
 use Rattle.spec_calls.specs.Answers.{Answer, Outcome, isRefused, arrived, closed}
-use Rattle.spec_calls.specs.Calls.{Call, outcome, arrival, closing, levelling, ask, isQuestion}
+use Rattle.spec_calls.specs.Calls.{Call, outcome, arrival, closing, levelling, ask, between, isQuestion}
 
 -- "For each job number it has nothing, or the benches the job names, in their order"
 abbrev pub Book : Type 0
@@ -28,6 +28,7 @@ entered (closing c) false k = update k (c .job) []
 entered (closing c) true k = k
 entered (levelling allowance) r k = k
 entered (ask q lent) r k = k
+entered (between x y) r k = k
 
 -- the book after a list of calls, fed for each whether it was refused
 abbrev pub bookAfter : Book → List Call → List Bool → Book
@@ -76,6 +77,7 @@ OneLoad (closing c) a before after =
     × OneMore (before .benches) (after .holders) (before .holders) fell
 OneLoad (levelling allowance) a before after = Unit {0}
 OneLoad (ask q lent) a before after = Unit {0}
+OneLoad (between x y) a before after = Unit {0}
 
 -- so along the calls with their outcomes, each from the table that the last one left
 abbrev pub OneLoadEach : List ℕ → List Call → List Outcome → Type 0

@@ -5,11 +5,11 @@ use mathlib.Core.Path.{_≡_, refl, sym, ap, _∙_}
 use mathlib.Core.Logic.{_⊎_, inl, inr, _≢_, _↔_}
 use mathlib.Core.Bool.{Bool, true, false, cond, not}
 use mathlib.Core.List.{List, [], _∷_, _++_, map, flatMap, append-nil, append-assoc}
-use lib.Dec.{T, T-not, not-T, eqb}
+use lib.Dec.{T, T-not, not-T, eqb, leb}
 use lib.ListN.{length, getD, replicate, length-map}
 use lib.Seq.{ext-getD}
 use Rattle.spec_lists.specs.Lists.{within, member, distinct, range, filter, In, nth, update}
-use Rattle.spec_lists.proofs.Tests.{true→T, false→not, both, left, right, either, or-left, or-right, tests-same, same, Compared, other, compared, T-eqb, eqb-T, differ, within-low, within-high, within-both}
+use Rattle.spec_lists.proofs.Tests.{true→T, false→not, both, left, right, either, or-left, or-right, tests-same, same, Compared, other, compared, T-eqb, eqb-T, T-leb, differ, within-low, within-high, within-both}
 use Rattle.spec_lists.proofs.Elements.{in-filter, filter-in, filter-same, nth-update-same, nth-update-other, length-update}
 
 -- numbers in lists
@@ -162,3 +162,22 @@ pub others-in : (j : ℕ) (l : List ℕ) (i : ℕ) → In i (filter (λ k. not (
 others-in j l i =
     let rest : ℕ → Bool = λ k. not (eqb k j) in
     (λ m. let r = filter-in rest i l m in ((differ i j) .1 (r .1), r .0), λ d. in-filter rest i l (d .1) ((differ i j) .0 (d .0)))
+
+-- of two numbers the one that is not x is known from x
+two-sum : (a c x y : ℕ) → In x (a ∷ c ∷ []) → In y (a ∷ c ∷ []) → y ≢ x → x + y ≡ a + c
+two-sum a c x y (inl e) (inl f) n = omega arith
+two-sum a c x y (inl e) (inr (inl f)) n = omega arith
+two-sum a c x y (inl e) (inr (inr j)) n = absurd j
+two-sum a c x y (inr (inl e)) (inl f) n = omega arith
+two-sum a c x y (inr (inl e)) (inr (inl f)) n = omega arith
+two-sum a c x y (inr (inl e)) (inr (inr j)) n = absurd j
+two-sum a c x y (inr (inr i)) j n = absurd i
+
+-- a list of at most two numbers has at most one other than x
+pub one-other : (l : List ℕ) (x y z : ℕ) → T (leb (length l) 2) → In x l → In y l → In z l → y ≢ x → z ≢ x → y ≡ z
+one-other [] x y z t i j k n m = absurd i
+one-other (a ∷ []) x y z t (inl e) (inl f) k n m = absurd (n (f ∙ sym e))
+one-other (a ∷ []) x y z t (inl e) (inr j) k n m = absurd j
+one-other (a ∷ []) x y z t (inr i) j k n m = absurd i
+one-other (a ∷ c ∷ []) x y z t i j k n m = omega (arith, two-sum a c x y i j n, two-sum a c x z i k m)
+one-other (a ∷ c ∷ e ∷ l) x y z t i j k n m = omega (arith, T-leb (length (a ∷ c ∷ e ∷ l)) 2 t)

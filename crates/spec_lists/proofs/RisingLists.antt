@@ -48,7 +48,7 @@ rises-filter p (m ∷ l) r = go (p m) (rises-filter p l (rises-rest m l r))
     go false later = later
 
 -- no number of a list that rises is below its first
-rises-least : (m : ℕ) (l : List ℕ) → T (rises (m ∷ l)) → (x : ℕ) → In x (m ∷ l) → m ≤ x
+pub rises-least : (m : ℕ) (l : List ℕ) → T (rises (m ∷ l)) → (x : ℕ) → In x (m ∷ l) → m ≤ x
 rises-least m l r x (inl e) = omega arith
 rises-least m l r x (inr i) = omega (arith, rises-below m l r x i)
 

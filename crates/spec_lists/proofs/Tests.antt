@@ -1,6 +1,6 @@
 -- Tests: what a Bool says, and comparisons with their equations.
 use Prim.Native.Nat.{ℕ, _≤_}
-use mathlib.Core.Path.{_≡_, refl, sym, subst}
+use mathlib.Core.Path.{_≡_, refl, sym, ap, subst, _∙_}
 use mathlib.Core.Logic.{_⊎_, inl, inr, _≢_, _↔_}
 use mathlib.Core.Bool.{Bool, true, false, cond, not, _&&_, _||_, false≢true}
 use lib.Dec.{T, T-not, not-T, eqb, leb}
@@ -122,3 +122,11 @@ within-high lo hi x t = T-leb x hi (right (leb lo x) (leb x hi) t)
 
 pub within-both : (lo hi x : ℕ) → lo ≤ x → x ≤ hi → T (within lo hi x)
 within-both lo hi x l h = both (leb lo x) (leb x hi) (leb-T lo x l) (leb-T x hi h)
+
+-- `if !h` was taken: the test failed
+pub failed : {h w : Bool} → h ≡ w → not h ≡ true → w ≡ false
+failed {h} {w} e n = not→false w (true→T (not w) (ap not (sym e) ∙ n))
+
+-- `if !h` was not taken: the test passed
+pub passed : {h w : Bool} → h ≡ w → not h ≡ false → T w
+passed {h} {w} e n = not-false w (ap not (sym e) ∙ n)

@@ -1,9 +1,8 @@
 -- Shortest walks by an array of distances, and the first list of jobs among them: what a search has to find, and that this is enough.
-use Prim.Native.Nat.{ℕ, zero, suc, _+_, _≤_, _<_}
+use Prim.Native.Nat.{ℕ, zero, suc, _≤_, _<_}
 use native.Mathlib.Omega.{arith}
 use native.Mathlib.Decide.{decLt}
 use mathlib.Core.Path.{_≡_, refl, sym, ap, subst, _∙_}
-use mathlib.Core.Logic.{inl, inr, _≢_}
 use mathlib.Core.List.{List, [], _∷_}
 use lib.Dec.{T, leb}
 use lib.ListN.{length}
@@ -11,8 +10,9 @@ use Rattle.spec_lists.specs.Lists.{within, distinct, lexLe, Each, In}
 use Rattle.spec_table.specs.Board.{Board, Valid, namesOf, holderOf}
 use Rattle.spec_sharing.specs.Paths.{Step, steps, endOf, Walk}
 use Rattle.spec_table.specs.Table.{paired, Storable}
-use Rattle.spec_lists.proofs.Tests.{T-eqb, T-leb, leb-T}
+use Rattle.spec_lists.proofs.Tests.{T-eqb, leb-T}
 use Rattle.spec_lists.proofs.Elements.{each-in, in-each, each-nth}
+use Rattle.spec_lists.proofs.NumberLists.{one-other}
 use Rattle.spec_table.proofs.Named.{shares-nth, held-named}
 use Rattle.spec_sharing.proofs.Paths.{step-is, benchesOf, jobsOf}
 use Rattle.spec_sharing.proofs.Choice.{lexLe-lower, lexLe-same}
@@ -131,25 +131,6 @@ module _ (benches : ℕ) (out : ℕ → List Step) where
       where
         far : (z : ℕ) → z ≡ x → T (within 1 benches z) × (d z ≡ suc (length r))
         far z k = rw k (w, e)
-
--- of two numbers the one that is not x is known from x
-two-sum : (a c x y : ℕ) → In x (a ∷ c ∷ []) → In y (a ∷ c ∷ []) → y ≢ x → x + y ≡ a + c
-two-sum a c x y (inl e) (inl f) n = omega arith
-two-sum a c x y (inl e) (inr (inl f)) n = omega arith
-two-sum a c x y (inl e) (inr (inr j)) n = absurd j
-two-sum a c x y (inr (inl e)) (inl f) n = omega arith
-two-sum a c x y (inr (inl e)) (inr (inl f)) n = omega arith
-two-sum a c x y (inr (inl e)) (inr (inr j)) n = absurd j
-two-sum a c x y (inr (inr i)) j n = absurd i
-
--- a job that names at most two benches has at most one other than x
-one-other : (names : List ℕ) (x y z : ℕ) → T (leb (length names) 2) → In x names → In y names → In z names → y ≢ x → z ≢ x → y ≡ z
-one-other [] x y z t i j k n m = absurd i
-one-other (a ∷ []) x y z t (inl e) (inl f) k n m = absurd (n (f ∙ sym e))
-one-other (a ∷ []) x y z t (inl e) (inr j) k n m = absurd j
-one-other (a ∷ []) x y z t (inr i) j k n m = absurd i
-one-other (a ∷ c ∷ []) x y z t i j k n m = omega (arith, two-sum a c x y i j n, two-sum a c x z i k m)
-one-other (a ∷ c ∷ e ∷ l) x y z t i j k n m = omega (arith, T-leb (length (a ∷ c ∷ e ∷ l)) 2 t)
 
 -- on a board whose jobs name at most two benches each, a job leads to one bench only ..
 pub pairs-one-other : (b : Board) → Valid b → Each (λ names. T (leb (length names) 2)) (b .named) → OneOther (b .benches) (steps b)

@@ -6,15 +6,15 @@ use mathlib.Core.Path.{_≡_, refl, sym, ap, subst, _∙_}
 use mathlib.Core.List.{List, []}
 use lib.Dec.{T, eqb}
 use lib.ListN.{length, getD, length-map, List·getD-eq-default}
-use Rattle.spec_lists.specs.Lists.{bit, count, In, nth, enumerate}
-use Rattle.spec_table.specs.Board.{Board, holderOf, stands, standing, jobsHeld, Valid}
+use Rattle.spec_lists.specs.Lists.{bit, within, count, Each, In, nth, enumerate}
+use Rattle.spec_table.specs.Board.{Board, holderOf, stands, standing, load, jobsHeld, Valid}
 use Rattle.spec_table.specs.Table.{words, Entry, vacant, filled, holderIn, Layout, layout, chains, entryFits, placed, fits, sound, boardOf, decode, encode, benchChain, Reordered}
 use Rattle.spec_lists.proofs.Tests.{T→true, eqb-T}
 use Rattle.spec_lists.proofs.Elements.{in-all, in-nth, in-enumerate, enumerate-nth}
-use Rattle.spec_lists.proofs.Counting.{count-some, counted-in}
-use Rattle.spec_table.proofs.Held.{held-once}
+use Rattle.spec_lists.proofs.Counting.{count-some, counted-in, total-same, total-count}
+use Rattle.spec_table.proofs.Held.{held-length, held-within, held-once}
 use Rattle.spec_table.proofs.Places.{fits-length, fits-entries}
-use Rattle.spec_table.proofs.Clauses.{sound-fits, sound-formed, sound-exact}
+use Rattle.spec_table.proofs.Clauses.{filled-each, sound-fits, sound-formed, sound-exact}
 use Rattle.spec_table.proofs.Sound.{sound-storable, standing-count, standing-word, count-placed, fits-chains, chain-holds, holder-record, stands-record, stored-fits}
 use Rattle.spec_table.proofs.Encode.{encode-sound, decode-encode, same-board}
 
@@ -23,6 +23,21 @@ pub chain-count : (t : List ℕ) → T (sound t) → (x j : ℕ) → 1 ≤ x →
     count j (benchChain t x) ≡ count j (jobsHeld 1 x ((decode t) .holders))
 chain-count t s x j low high =
     chain-holds t s j x low high ∙ ap (λ y. bit (eqb y x)) (sym (holder-record t j)) ∙ sym (held-once j x ((decode t) .holders) low)
+
+-- so a bench's chain is as long as its load
+pub chain-load : (t : List ℕ) → T (sound t) → (x : ℕ) → 1 ≤ x → x ≤ (layout (words t)) .benches →
+    length (benchChain t x) ≡ load ((decode t) .holders) x
+unfolding decode boardOf
+chain-load t s x low high =
+    let es = (layout (words t)) .entries in
+    let c = benchChain t x in
+    let held = jobsHeld 1 x ((decode t) .holders) in
+    let there : In c (chains (layout (words t))) = in-nth (chains (layout (words t))) x [] low (omega (arith, fits-chains t (sound-fits t s))) in
+    let jobs : Each (λ j. T (within 1 (length es) j)) held = rw (← length-map es holderIn) (held-within x ((decode t) .holders) low) in
+    sym (total-count (length es) c (filled-each es c ((sound-formed t s) .only c there)))
+    ∙ total-same (length es) (λ j. count j c) (λ j. count j held) (λ j _ _. chain-count t s x j low high)
+    ∙ total-count (length es) held jobs
+    ∙ held-length 1 x ((decode t) .holders)
 
 -- two tables of one board: the same jobs stand ..
 pub same-filled : (t u : List ℕ) → decode u ≡ decode t → (j : ℕ) →

@@ -1,14 +1,14 @@
 -- What jobs name, and who holds them.
 use Prim.Native.Nat.{ℕ, zero, suc}
 use mathlib.Core.Path.{_≡_, refl, ap, sym, subst, _∙_}
-use mathlib.Core.Logic.{_↔_, inl, inr, ⊎-elim, _≢_}
+use mathlib.Core.Logic.{_⊎_, _↔_, inl, inr, ⊎-elim, _≢_}
 use mathlib.Core.Bool.{Bool, true, false, not}
 use mathlib.Core.List.{List, [], _∷_}
 use lib.Dec.{T, not-T}
 use lib.ListN.{length, getD}
 use Rattle.spec_lists.specs.Lists.{within, member, In, all, distinct, Each, empty, update}
 use Rattle.spec_table.specs.Board.{Shares, mayHold, namesFit, namesOf, stands, holderOf, Board, Valid}
-use Rattle.spec_lists.proofs.Tests.{true→T, T→true, false→not, left, both, right, T-eqb, within-both}
+use Rattle.spec_lists.proofs.Tests.{true→T, T→true, false→not, never→false, left, both, right, T-eqb, within-both}
 use Rattle.spec_lists.proofs.Elements.{all-in, empty-in, is-empty, some-in, nth-within, each-nth, length-update, each-update}
 use Rattle.spec_lists.proofs.NumberLists.{member-in, in-member, not-member, distinct-head}
 use Rattle.spec_table.specs.Table.{mostBenches, mostJobs, paired, Storable}
@@ -34,6 +34,15 @@ pair-fits benches x y =
       λ f. (fit-bench benches names x f (inl refl), fit-bench benches names y f (inr (inl refl)), λ e. distinct-head x rest (right listed (distinct names) f) (inl e)),
       λ r. both listed (distinct names) (both (bench x) (all bench rest) (r .0) (both (bench y) true (r .1) tt)) (both (not (member x rest)) true (not-member x rest (⊎-elim (r .2) (λ i. i))) tt),
     )
+
+-- .. and do not where one is none of 1 to B, or both are the same
+pub pair-misfits : (benches x y : ℕ) → (within 1 benches x ≡ false) ⊎ (within 1 benches y ≡ false) ⊎ (x ≡ y) → namesFit benches (x ∷ y ∷ []) ≡ false
+pair-misfits benches x y c = never→false (namesFit benches (x ∷ y ∷ [])) (λ f. wrong ((pair-fits benches x y) .0 f) c)
+  where
+    wrong : T (within 1 benches x) × T (within 1 benches y) × (x ≢ y) → (within 1 benches x ≡ false) ⊎ (within 1 benches y ≡ false) ⊎ (x ≡ y) → ⊥
+    wrong p (inl e) = subst T e (p .0)
+    wrong p (inr (inl e)) = subst T e (p .1)
+    wrong p (inr (inr e)) = p .2 e
 
 -- a standing job's number is one of 1 to J
 pub stands-within : (b : Board) (j : ℕ) → T (stands b j) → T (within 1 (length (b .named)) j)

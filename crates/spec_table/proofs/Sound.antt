@@ -372,6 +372,10 @@ chain-holds t s j x low high = on (filled e) refl
         let only = (sound-formed t s) .only c (in-nth (chains l) x [] low (omega (arith, fits-chains t (sound-fits t s)))) in
         count-none j c (λ i. subst T q (only j i)) ∙ sym (bit-other (holderIn e) x (λ d. omega (arith, not-held e q)))
 
+-- bench x's chain is the chain from its head
+pub chain-from : (l : Layout) (x : ℕ) → nth (chains l) x [] ≡ follow (l .entries) (suc (l .jobs)) (nth (l .heads) x 0)
+chain-from l x = nth-map (follow (l .entries) (suc (l .jobs))) (l .heads) x 0
+
 -- so it is there exactly if it stands and x holds it
 pub on-chain : (t : List ℕ) → T (sound t) → (j x : ℕ) → 1 ≤ x → x ≤ (decode t) .benches → In j (nth (chains (layout (words t))) x []) ↔ (T (stands (decode t) j) × (holderOf (decode t) j ≡ x))
 unfolding decode boardOf

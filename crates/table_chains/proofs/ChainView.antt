@@ -5,18 +5,17 @@ use native.Mathlib.Decide.{ℕ-discrete}
 use mathlib.Core.Path.{_≡_, refl, sym, ap, _∙_, subst}
 use mathlib.Core.Logic.{inl, _↔_}
 use mathlib.Core.List.{List, [], _∷_}
-use lib.Dec.{T, eqb}
-use Rattle.spec_lists.specs.Lists.{within, distinct, In, nth, bit, total}
-use Rattle.spec_table.specs.Board.{holderOf, stands, standing, load}
-use Rattle.spec_table.specs.Table.{Entry, follow, chains, decode}
-use Rattle.spec_lists.proofs.Tests.{T-eqb, eqb-T, differ, within-both}
-use Rattle.spec_lists.proofs.Elements.{in-each, in-nth, nth-map}
-use Rattle.spec_lists.proofs.Counting.{distinct-count, few, total-tested, count-total}
-use Rattle.spec_table.proofs.Sound.{Ends, standing-word, chain-ends, on-chain}
+use lib.Dec.{T}
+use Rattle.spec_lists.specs.Lists.{within, distinct, In, nth}
+use Rattle.spec_table.specs.Board.{holderOf, stands, standing}
+use Rattle.spec_table.specs.Table.{Entry, chains, decode}
+use Rattle.spec_lists.proofs.Tests.{differ, within-both}
+use Rattle.spec_lists.proofs.Elements.{in-each, in-nth}
+use Rattle.spec_lists.proofs.Counting.{distinct-count, few}
+use Rattle.spec_table.proofs.Sound.{Ends, standing-word, chain-ends, chain-from, on-chain}
 use Rattle.spec_table.proofs.ChainEnds.{ends-on, ends-next, ends-distinct}
-use lib.ListN.{length}
-use Rattle.spec_table.proofs.Named.{stands-within, holder-bench}
-use Rattle.table_board.proofs.RecordsAsBoard.{holders-long, sound-holds-board, stands-job, stands-held}
+use Rattle.spec_table.proofs.Named.{holder-bench}
+use Rattle.table_board.proofs.RecordsAsBoard.{stands-job, stands-held}
 use Rattle.table_size.proofs.Sizes.{heads-long, board-bench}
 use Rattle.table_words.specs.Bytes.{layoutIn}
 use Rattle.table_size.specs.Sizes.{JobIn, BenchIn, SoundTable}
@@ -43,7 +42,7 @@ chain-begins t (suc i) l = inl refl
 -- bench x's chain is the chain from its head
 head-chain : (t : List ℕ) (x : ℕ) → nth (chains (layoutIn t)) x [] ≡ chainFrom t (storedHead t x)
 unfolding chainFrom
-head-chain t x = let l = layoutIn t in nth-map (follow (l .entries) (suc (l .jobs))) (l .heads) x 0
+head-chain t x = chain-from (layoutIn t) x
 
 -- on it are the jobs that x holds
 held-chain : (t : List ℕ) (s : Size) (x : ℕ) → SoundTable t s → BenchIn s x → (i : ℕ) → In i (chainFrom t (storedHead t x)) ↔ (T (stands (decode t) i) × (holderOf (decode t) i ≡ x))
@@ -127,23 +126,3 @@ next-read t s j r z p f =
 -- a job that a bench holds stands
 pub held-stands : (t : List ℕ) (s : Size) (j x : ℕ) → HoldsBoard t s → 1 ≤ x → holderOf (decode t) j ≡ x → T (stands (decode t) j)
 held-stands t s j x k l e = rw (stands-held t s j k) ((differ (holderOf (decode t) j) 0) .0 (λ z. omega arith))
-
--- a bench's chain is as long as its load
-pub chain-load : (t : List ℕ) (s : Size) (x j : ℕ) → SoundTable t s → BenchIn s x → ChainOf t s x j → length (chainFrom t j) ≡ load ((decode t) .holders) x
-chain-load t s x j z b c =
-    let k = sound-holds-board t s z in
-    total-tested (s .jobs) (chainFrom t j) (λ i. eqb (holderOf (decode t) i) x) (c .once) job on
-    ∙ sym (subst (λ (n : ℕ). load ((decode t) .holders) x ≡ total n (λ i. bit (eqb (holderOf (decode t) i) x))) (holders-long (k .size)) (count-total x ((decode t) .holders)))
-  where
-    job : (i : ℕ) → In i (chainFrom t j) → T (within 1 (s .jobs) i)
-    job i o = subst (λ (n : ℕ). T (within 1 n i)) (z .size .board-jobs) (stands-within (decode t) i ((c .held i) .0 o .0))
-
-    on : (i : ℕ) → In i (chainFrom t j) ↔ T (eqb (holderOf (decode t) i) x)
-    on i = (
-      λ o. eqb-T (holderOf (decode t) i) x ((c .held i) .0 o .1),
-      λ q. let e = T-eqb (holderOf (decode t) i) x q in (c .held i) .1 (held-stands t s i x (sound-holds-board t s z) (b .least) e, e),
-    )
-
--- .. as the table has it
-pub chain-length : (t : List ℕ) (s : Size) (x : ℕ) → SoundTable t s → BenchIn s x → length (nth (chains (layoutIn t)) x []) ≡ load ((decode t) .holders) x
-chain-length t s x z b = ap length (head-chain t x) ∙ chain-load t s x (storedHead t x) z b (first-chain t s x z b)

@@ -18,7 +18,7 @@ use Rattle.table_size.specs.declared.Size.{Size}
 use Rattle.table_size.specs.declared.Sizing.the-variants.{Misfit}
 use Rattle.table_board.specs.BoardView.{Loaded}
 use Rattle.table_board.proofs.RecordsAsBoard.{sound-holds-board, load-beyond}
-use Rattle.table_chains.proofs.ChainView.{chain-length}
+use Rattle.spec_table.proofs.AnyOrder.{chain-load}
 use Rattle.table_chain_form.specs.ChainLengths.{ChainLengths}
 use Rattle.table_rising.specs.Passing.{Rising, Encoded}
 use Rattle.table_refusals.specs.Refusals.{refusalOf}
@@ -64,7 +64,7 @@ module _ {t : List ℕ} {s : Size} (z : SizeOf t s) where
           record {
             long = c .byBench .long;
             bench = λ x l u. elim (decLe x (s .benches)) [
-              | yes h ↦ let b : BenchIn s x = record { least = l; most = h } in c .chain x b ∙ chain-length t s x found b
+              | yes h ↦ c .chain x (record { least = l; most = h }) ∙ chain-load t (found .sound) x l (omega (arith, found .size .benches))
               | no h ↦ c .byBench .beyond x (omega arith) ∙ sym (load-beyond t s x (sound-holds-board t s found) (omega arith))
             ];
           }

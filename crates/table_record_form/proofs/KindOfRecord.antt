@@ -9,7 +9,7 @@ use Rattle.spec_lists.specs.Lists.{within, Each}
 use Rattle.spec_table.specs.Table.{Entry, filled, holderIn, entryFits, entryWords}
 use Rattle.spec_lists.proofs.Tests.{true→T, T→true, never→false, within-low, within-high, within-both}
 use Rattle.spec_table.proofs.Named.{pair-fits}
-use Rattle.spec_table.proofs.Clauses.{vacant-words, zero-words}
+use Rattle.spec_table.proofs.Clauses.{vacant-words, zero-words, fit-filled}
 use Rattle.spec_table.proofs.Sound.{entry-tests, not-held}
 use Rattle.table_records.specs.Records.{entryOf}
 use Rattle.table_records.specs.declared.Record.{Record}
@@ -99,6 +99,11 @@ fitting-tests benches e q = go (filled e) (entryFits benches e) refl q
     go false z p k = absurd (true→T false cc)
     go true false p k = absurd (true→T false cc)
     go true true p k = true→T (entryFits benches e) p
+
+-- .. and back ..
+pub tests-fitting : (benches : ℕ) (e : Entry) → T (entryFits benches e) → kindOf benches e ≡ Fitting
+unfolding kindOf
+tests-fitting benches e f = rw (T→true (filled e) (fit-filled benches e f), T→true (entryFits benches e) f)
 
 -- .. as it was read
 pub fitting-fits : (benches : ℕ) (r : Record) → kindOf benches (entryOf r) ≡ Fitting → Fits benches r

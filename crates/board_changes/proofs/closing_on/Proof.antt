@@ -1,5 +1,6 @@
 -- Each test is one of document 01's refusals, in its order; past them the closing is the rule's.
-use Rattle.board_changes.proofs.ChangeOutcomes.{passed, closing-number, readable, closing-standing, closing-left}
+use Rattle.spec_lists.proofs.Tests.{passed}
+use Rattle.board_changes.proofs.ChangeOutcomes.{closing-number, readable, closing-standing, closing-left}
 use borrow.Author.Needs.{needs}
 use Rattle.board_changes.proofs.closing_on.Statement.{statement}
 use Rattle.board_changes.proofs.closing_on.Tie as tie

@@ -97,6 +97,18 @@ enum-known-self-8 c = search needs
 new-requires-13 : tie.Need-new-requires-13
 new-requires-13 c κs = search needs
 
+enum-known-self-9 : tie.Need-enum-known-self-9
+enum-known-self-9 c = search needs
+
+new-requires-14 : tie.Need-new-requires-14
+new-requires-14 c κs = search needs
+
+enum-known-self-10 : tie.Need-enum-known-self-10
+enum-known-self-10 c = search needs
+
+new-requires-15 : tie.Need-new-requires-15
+new-requires-15 c κs = search needs
+
 returns : tie.Need-returns
 returns c = told (c .new .ensures) (c .before .enum-told .given .1) refl
 
@@ -136,6 +148,12 @@ returns-12 c = told (c .new12 .ensures) (c .before .before .self7 .given .1) ref
 returns-13 : tie.Need-returns-13
 returns-13 c = told (c .new13 .ensures) (c .before .before .self8 .given .1) refl
 
+returns-14 : tie.Need-returns-14
+returns-14 c = told (c .new14 .ensures) (c .before .before .self9 .given .1) refl
+
+returns-15 : tie.Need-returns-15
+returns-15 c = told (c .new15 .ensures) (c .before .before .self10 .given .1) refl
+
 pub values-spec : {M : Type 1} → statement M
 values-spec =
     tie.close
@@ -168,6 +186,10 @@ values-spec =
     new-requires-12
     enum-known-self-8
     new-requires-13
+    enum-known-self-9
+    new-requires-14
+    enum-known-self-10
+    new-requires-15
     returns
     returns-2
     returns-3
@@ -180,4 +202,6 @@ values-spec =
     returns-10
     returns-11
     returns-12
-    returns-13)
+    returns-13
+    returns-14
+    returns-15)

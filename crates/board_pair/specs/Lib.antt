@@ -1,0 +1,2 @@
+-- What the pair question knows between its two walks.
+pub mod ChainsRead

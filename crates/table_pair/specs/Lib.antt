@@ -1,0 +1,2 @@
+-- What a walk along a chain promises.
+pub mod Walking
