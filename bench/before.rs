@@ -25,10 +25,14 @@ const TABLE: &str = "before and now";
 /// The older archive's calls: on each line a name there, and the one in older.rs.
 const NAMES: &str = include_str!("../target/bench/older.names");
 
-/// Tells whether the older archive has a call. The first ones have no sheet: then older.rs has this one's in its place, which is neither
-/// compared nor timed.
+/// Tells whether the older archive has a call. The first ones have no sheet, and later ones no question for two benches: then older.rs has
+/// this one's in its place, which is neither compared nor timed.
 fn had(call: Call) -> bool {
-    !matches!(call, Call::Sheet(..)) || NAMES.contains("jobboard_sheet ")
+    match call {
+        Call::Sheet(..) => NAMES.contains("jobboard_sheet "),
+        Call::Between(..) => NAMES.contains("jobboard_between "),
+        _ => true,
+    }
 }
 
 /// Times calls of one kind, before and now, if the older archive has them.
@@ -43,8 +47,10 @@ fn measure_row(board: &str, t: &[u8], calls: &[Call], number: u32) {
 /// Prints that both answer alike, and what the older archive lacks.
 fn compare() {
     comparison::print("Before and now", [OLDER, PROVED], had);
-    if !had(Call::Sheet(0)) {
-        println!("The older archive has no sheet: its calls and rows are left out.");
+    for (call, what) in [(Call::Sheet(0), "sheet"), (Call::Between(0, 0), "question for two benches")] {
+        if !had(call) {
+            println!("The older archive has no {what}: its calls and rows are left out.");
+        }
     }
 }
 

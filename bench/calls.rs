@@ -15,10 +15,11 @@ pub enum Call {
     Heaviest,
     TightSet(u32, usize),
     Sheet(usize),
+    Between(u32, u32),
 }
 
-pub const NAMES: [&str; 10] =
-    ["blanking", "form check", "arrival", "closing", "levelling", "level check", "load", "heaviest", "tight set", "sheet"];
+pub const NAMES: [&str; 11] =
+    ["blanking", "form check", "arrival", "closing", "levelling", "level check", "load", "heaviest", "tight set", "sheet", "between"];
 
 /// Gives a call's place in NAMES.
 pub fn kind(call: Call) -> usize {
@@ -33,6 +34,7 @@ pub fn kind(call: Call) -> usize {
         Call::Heaviest => 7,
         Call::TightSet(..) => 8,
         Call::Sheet(..) => 9,
+        Call::Between(..) => 10,
     }
 }
 
@@ -102,6 +104,7 @@ macro_rules! answer {
             $crate::calls::Call::Heaviest => $module::heaviest($table).map($crate::calls::padded),
             $crate::calls::Call::TightSet(h, len) => $module::tight_set($table, h, &mut $room[..len]).map($crate::calls::padded),
             $crate::calls::Call::Sheet(len) => $module::sheet($table, &mut $room[..len]).map($crate::calls::padded),
+            $crate::calls::Call::Between(x, y) => $module::between($table, x, y).map($crate::calls::padded),
         }
     };
 }
@@ -151,6 +154,24 @@ fn job(t: &[u8], standing: bool, random: &mut Random) -> u32 {
     }
 }
 
+/// Picks two benches, the same one twice more seldom than by chance.
+fn benches_to_name(benches: usize, random: &mut Random) -> [u32; 2] {
+    let (first, second) = (number(benches, random), number(benches, random));
+    let next = if first == second && random.below(4) != 0 { first % benches as u32 + 1 } else { second };
+    [first, next]
+}
+
+/// Picks two benches to ask for: often those of a job that stands, in either order.
+fn benches_to_ask(t: &[u8], random: &mut Random) -> [u32; 2] {
+    let (benches, jobs) = boards::sizes(t);
+    let j = 1 + random.below(jobs);
+    if !boards::stands(t, benches, j) || random.below(2) == 0 {
+        return benches_to_name(benches, random);
+    }
+    let at = random.below(2);
+    [at, 1 - at].map(|k| boards::get(t, benches + 4 * j + k) as u32)
+}
+
 /// Picks the length of a page: that of the table's sheet, longer, one less, 0, or shorter.
 fn page(t: &[u8], random: &mut Random) -> usize {
     let sheet = boards::sheet_length(t);
@@ -166,14 +187,13 @@ fn page(t: &[u8], random: &mut Random) -> usize {
 /// Makes a call for a sound table, with numbers in and out of range.
 pub fn random_call(t: &[u8], random: &mut Random) -> Call {
     let (benches, jobs) = boards::sizes(t);
-    match random.below(18) {
+    match random.below(21) {
         0 if random.below(2) == 0 => Call::Blank(benches as u32, jobs as u32),
         0 => Call::Blank(number(benches, random), number(jobs, random)),
         1 => Call::FormCheck,
         2..=5 => {
-            let (first, second) = (number(benches, random), number(benches, random));
-            let next = if first == second && random.below(4) != 0 { first % benches as u32 + 1 } else { second };
-            Call::Arrival(job(t, false, random), first, next)
+            let [first, second] = benches_to_name(benches, random);
+            Call::Arrival(job(t, false, random), first, second)
         }
         6..=8 => Call::Closing(job(t, true, random)),
         9 | 10 => Call::Levelling(*[0, 1, 2, 3, 5, u32::MAX].get(random.below(7)).unwrap_or(&number(jobs, random))),
@@ -181,6 +201,10 @@ pub fn random_call(t: &[u8], random: &mut Random) -> Call {
         12 => Call::Load(number(benches, random)),
         13 => Call::Heaviest,
         14 | 15 => Call::Sheet(page(t, random)),
+        16..=18 => {
+            let [first, second] = benches_to_ask(t, random);
+            Call::Between(first, second)
+        }
         _ => {
             let most = if random.below(4) != 0 { 1 + jobs / benches } else { jobs };
             let list = if random.below(2) == 0 { 2 * benches + random.below(40) } else { random.below(2 * benches + 3) };

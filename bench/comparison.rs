@@ -1,6 +1,6 @@
 //! That implementations answer alike.
 use crate::boards::{self, Random};
-use crate::calls::{self, Call, Perform};
+use crate::calls::{self, Answer, Call, Perform};
 use crate::independent;
 
 const ROUNDS: usize = 200_000;
@@ -17,11 +17,28 @@ fn some_sizes(random: &mut Random) -> (usize, usize) {
     }
 }
 
+/// Counts of answers: accepted, then refused with 1 to 11; and of the accepted questions for two benches those without a job, then those
+/// with one.
+#[derive(Default)]
+struct Counts {
+    answers: [usize; 12],
+    between: [usize; 2],
+}
+
+impl Counts {
+    fn add(&mut self, call: Call, answer: Answer) {
+        self.answers[answer.err().unwrap_or(calls::ACCEPTED) as usize] += 1;
+        if let (Call::Between(..), Ok([job, ..])) = (call, answer) {
+            self.between[(job != 0) as usize] += 1;
+        }
+    }
+}
+
 /// Makes calls on sound and damaged tables, four on each board, but those alone that all have: the implementations must answer alike and
-/// leave the same bytes. Counts the answers: accepted, then refused with 1 to 11.
-fn compare<const N: usize>(all: [Perform; N], have: fn(Call) -> bool) -> [usize; 12] {
+/// leave the same bytes. Counts the answers.
+fn compare<const N: usize>(all: [Perform; N], have: fn(Call) -> bool) -> Counts {
     let mut random = Random(1);
-    let mut answers = [0; 12];
+    let mut counts = Counts::default();
     for _ in 0..ROUNDS / 4 {
         let (benches, jobs) = some_sizes(&mut random);
         let mut t = calls::random_table(benches, jobs, &mut random, |t| {
@@ -38,22 +55,25 @@ fn compare<const N: usize>(all: [Perform; N], have: fn(Call) -> bool) -> [usize;
                 boards::damage(&mut tried, &mut random);
             }
             let (after, answer) = calls::same(all, call, &tried, &mut random);
-            answers[answer.err().unwrap_or(calls::ACCEPTED) as usize] += 1;
+            counts.add(call, answer);
             if !damaged {
                 t = after;
             }
         }
     }
-    answers
+    counts
 }
 
 /// Compares implementations, which are called by these names, by the calls that all of them have, and prints the outcome. No call is
 /// refused with 9 or 10.
 pub fn print<const N: usize>(names: &str, all: [Perform; N], have: fn(Call) -> bool) {
-    let answers = compare(all, have);
+    let Counts { answers, between: [without, with] } = compare(all, have);
     let [accepted, refused @ ..] = answers;
     let some = refused.iter().zip(1..).filter(|(count, _)| **count != 0);
     let refused: Vec<_> = some.map(|(count, number)| format!("{count} with {number}")).collect();
     println!("{names}, {} random calls: same answers, tables, lists and pages.", answers.iter().sum::<usize>());
     println!("{accepted} accepted; refused {}.", refused.join(", "));
+    if have(Call::Between(0, 0)) {
+        println!("Accepted questions for two benches: {with} with a job between them, {without} without.");
+    }
 }

@@ -1,16 +1,25 @@
 //! Each call on each board, timed with all implementations.
 use crate::calls::{moved, room, Call};
 use crate::figures::{head, micros, print_line, rows, two_places, Row};
-use crate::targets;
 use crate::timing::{times, Task};
 use crate::trials::{self, SIZES};
-use crate::{INDEPENDENT, PLAIN, PROVED};
+use crate::{growth, targets, INDEPENDENT, PLAIN, PROVED};
 
 const TABLE: &str = "each call";
 
-/// Gives the mean number of jobs moved, or of paths turned, of calls of one kind. None for calls that move none, and for refused ones.
-fn mean_moved(t: &[u8], calls: &[Call]) -> Option<f64> {
-    let each = calls.iter().map(|&call| moved(call, PROVED(call, &mut t.to_vec(), &mut vec![0; room(call)]).ok()?));
+/// Gives the jobs that a call moved, the paths that it turned or the records that it read, by its values. None for calls without such a
+/// number.
+fn moved_or_read(call: Call, values: [u32; 3]) -> Option<u32> {
+    match call {
+        Call::Between(..) => Some(values[1]),
+        _ => moved(call, values),
+    }
+}
+
+/// Gives the mean number of jobs moved, of paths turned or of records read, of calls of one kind. None for calls that have no such number,
+/// and for refused ones.
+fn mean(t: &[u8], calls: &[Call]) -> Option<f64> {
+    let each = calls.iter().map(|&call| moved_or_read(call, PROVED(call, &mut t.to_vec(), &mut vec![0; room(call)]).ok()?));
     Some(each.sum::<Option<u32>>()? as f64 / calls.len() as f64)
 }
 
@@ -29,7 +38,7 @@ fn measure_row(board: &str, t: &[u8], calls: &[Call], number: u32) {
     let task = |perform, calls| Task(perform, t, calls, number);
     let all = [task(PROVED, calls), task(PLAIN, calls), task(INDEPENDENT, calls), task(PROVED, &[Call::FormCheck])];
     let [proved, plain, independent, check] = times(all);
-    let moved = mean_moved(t, calls);
+    let moved = mean(t, calls);
     let mut cells = trials::cells(calls[0], number, board, t);
     cells.push(moved.map_or("".into(), |mean| ((10.0 * mean).round() / 10.0).to_string()));
     print_line(TABLE, &cells, &[proved, plain, independent, check * checks(calls, moved)]);
@@ -45,8 +54,9 @@ const RATIOS: [usize; 3] = [1, 2, 3];
 
 fn print_times(rows: &[Row]) {
     head(
-        "Each call, in µs. Moved: the jobs that change holder, the mean of the calls, or the paths that levelling turns.",
-        "call | board | B | J | moved | proved | plain | independent",
+        "Each call, in µs. Moved: the jobs that change holder, the mean of the calls, or the paths that levelling turns. Read: the\n\
+         records of a question for two benches, the mean of the questions.",
+        "call | board | B | J | moved or read | proved | plain | independent",
     );
     for row in rows {
         row.print(&[0, 1, 2].map(|i| row.figure(i).cell(micros)));
@@ -56,7 +66,7 @@ fn print_times(rows: &[Row]) {
 fn print_ratios(rows: &[Row]) {
     head(
         "Each call's ratios. Form checks: how many proved ones of the same board the proved call takes, levelling for each path.",
-        "call | board | B | J | moved | proved / plain | proved / independent | form checks",
+        "call | board | B | J | moved or read | proved / plain | proved / independent | form checks",
     );
     for row in rows {
         row.print(&RATIOS.map(|i| row.ratio(0, i).cell(two_places)));
@@ -93,7 +103,7 @@ fn print_ranges(rows: &[Row]) {
 
 pub fn print(files: &[String]) {
     let rows = rows(TABLE, files);
-    targets::print(&rows);
+    targets::print(&rows, &growth::same_benches(files));
     print_times(&rows);
     print_ratios(&rows);
     print_ranges(&rows);

@@ -8,7 +8,7 @@ mod independent;
 mod rules;
 
 use boards::Random;
-use calls::{kind, moved, Perform, NAMES};
+use calls::{kind, moved, Answer, Call, Perform, NAMES};
 
 /// Picks sizes of a board to compare on, now and then with so many jobs that a bench takes several lines of the sheet.
 fn some_sizes(random: &mut Random) -> (usize, usize) {
@@ -19,8 +19,15 @@ fn some_sizes(random: &mut Random) -> (usize, usize) {
     }
 }
 
-/// Counts, for each call, those refused, those accepted, and those that hand jobs along. Answers and bytes must be
-/// alike.
+/// Tells whether a call hands jobs along, or finds one between two benches.
+fn moves_or_finds(call: Call, answer: Answer) -> bool {
+    answer.is_ok_and(|values| match call {
+        Call::Between(..) => values[0] != 0,
+        _ => moved(call, values).unwrap_or(0) != 0,
+    })
+}
+
+/// Counts, for each call, those refused, those accepted, and those that hand jobs along or find one. Answers and bytes must be alike.
 fn compare(rounds: usize, seed: u64) -> [[usize; 3]; NAMES.len()] {
     let mut random = Random(seed);
     let mut counts = [[0; 3]; NAMES.len()];
@@ -36,9 +43,9 @@ fn compare(rounds: usize, seed: u64) -> [[usize; 3]; NAMES.len()] {
             if random.below(10) == 0 {
                 boards::damage(&mut damaged, &mut random);
             }
-            let (after, values) = calls::same(both, call, &damaged, &mut random);
-            counts[kind(call)][values.is_ok() as usize] += 1;
-            counts[kind(call)][2] += values.is_ok_and(|v| moved(call, v).unwrap_or(0) != 0) as usize;
+            let (after, answer) = calls::same(both, call, &damaged, &mut random);
+            counts[kind(call)][answer.is_ok() as usize] += 1;
+            counts[kind(call)][2] += moves_or_finds(call, answer) as usize;
             if damaged == t {
                 t = after;
             }
@@ -50,7 +57,7 @@ fn compare(rounds: usize, seed: u64) -> [[usize; 3]; NAMES.len()] {
 fn main() {
     let mut given = std::env::args().skip(1).map(|n| n.parse().unwrap());
     let (rounds, seed) = (given.next().unwrap_or(100_000), given.next().unwrap_or(3));
-    println!("| call | refused | accepted | with jobs moved |");
+    println!("| call | refused | accepted | with jobs moved or found |");
     println!("|---|---|---|---|");
     for (name, [refused, accepted, moved]) in NAMES.iter().zip(compare(rounds as usize, seed)) {
         println!("| {name} | {refused} | {accepted} | {moved} |");

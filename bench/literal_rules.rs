@@ -110,12 +110,18 @@ fn follow(words: &[usize], benches: usize, jobs: usize, x: usize) -> Option<Vec<
     Some(met)
 }
 
-/// Reads the board that a table holds, or refuses with 1 or 2.
-fn read(t: &[u8]) -> Result<Board, u32> {
+/// Reads the words of a table, or refuses with 1.
+fn words(t: &[u8]) -> Result<Vec<usize>, u32> {
     let words: Vec<usize> = t.chunks(2).map(|w| w.iter().rev().fold(0, |n, &b| 256 * n + b as usize)).collect();
     if t.len() < 8 || !fits(t.len(), words[0] as u32, words[1] as u32) {
         return Err(1);
     }
+    Ok(words)
+}
+
+/// Reads the board that a table holds, or refuses with 1 or 2.
+fn read(t: &[u8]) -> Result<Board, u32> {
+    let words = words(t)?;
     let (benches, jobs) = (words[0], words[1]);
     let mut board = Board { benches, jobs: vec![None; jobs] };
     for j in 1..=jobs {
@@ -260,4 +266,56 @@ pub fn sheet(t: &[u8], page: &mut [u8]) -> Result<[u32; 1], u32> {
     refusal(&[(11, page.len() < sheet.len())])?;
     page[..sheet.len()].copy_from_slice(sheet.as_bytes());
     Ok([sheet.len() as u32])
+}
+
+/// A match, and the number of records read.
+type Read = (Option<usize>, usize);
+
+/// Reads the chain of bench x up to a match with bench y, a number above the first match, or its end.
+fn up_to_a_match(words: &[usize], x: usize, y: usize, first_match: Option<usize>) -> Result<Read, u32> {
+    let (benches, jobs) = (words[0], words[1]);
+    let mut read = vec![];
+    let mut j = words[3 + x];
+    while j != 0 && first_match.is_none_or(|m| j <= m) {
+        let above = read.last().is_none_or(|&before| before < j);
+        refusal(&[(2, j > jobs || !above)])?;
+        read.push(j);
+        let record = &words[benches + 4 * j..][..4];
+        let (names, holder) = (&record[..2], record[2]);
+        let named = names.iter().all(|z| (1..=benches).contains(z)) && names[0] != names[1];
+        refusal(&[(2, !named || !(1..=2).contains(&holder) || names[holder - 1] != x)])?;
+        if names.contains(&y) {
+            return Ok((Some(j), read.len()));
+        }
+        j = record[3];
+    }
+    Ok((None, read.len()))
+}
+
+/// Reads the first bench's chain, then the second's.
+fn both_chains(words: &[usize], x: usize, y: usize) -> Result<Read, u32> {
+    let (first, read_first) = up_to_a_match(words, x, y, None)?;
+    let (second, read_second) = up_to_a_match(words, y, x, first)?;
+    Ok((first.into_iter().chain(second).min(), read_first + read_second))
+}
+
+/// Holds an answer on a sound table with rising chains against that of reading everything, and the records read against the two loads.
+fn hold(board: &Board, x: usize, y: usize, answer: Result<Read, u32>) {
+    let (lowest, read) = answer.expect("refused on a sound table with rising chains");
+    let both = |job: &Option<Job>| job.is_some_and(|(names, _)| names.contains(&x) && names.contains(&y));
+    assert_eq!(lowest, board.jobs.iter().position(both).map(|i| i + 1), "not the lowest job between {x} and {y}");
+    assert!(read <= board.load(x) + board.load(y), "more records read than {x} and {y} hold");
+}
+
+pub fn between(t: &[u8], x: u32, y: u32) -> Result<[u32; 2], u32> {
+    let words = words(t)?;
+    let named = [x, y].iter().all(|&x| 1 <= x && x <= words[0] as u32);
+    refusal(&[(4, !named || x == y)])?;
+    let [x, y] = [x as usize, y as usize];
+    let answer = both_chains(&words, x, y);
+    if let Some(board) = read(t).ok().filter(|board| board.table() == t) {
+        hold(&board, x, y, answer);
+    }
+    let (lowest, read) = answer?;
+    Ok([lowest.unwrap_or(0) as u32, read as u32])
 }

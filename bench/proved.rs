@@ -28,6 +28,7 @@ extern "C" {
         jobs: *mut u32,
     ) -> u32;
     fn jobboard_sheet(table: *const u8, len: usize, page: *mut u8, page_len: usize, length: *mut u32) -> u32;
+    fn jobboard_between(table: *const u8, len: usize, first: u32, second: u32, job: *mut u32, records: *mut u32) -> u32;
 }
 
 /// What the results hold before a call: no call gives it, and a refused one leaves it.
@@ -105,4 +106,11 @@ pub fn sheet(t: &[u8], page: &mut [u8]) -> Result<[u32; 1], u32> {
     // SAFETY: as above; the page is lent with its own length.
     let number = unsafe { jobboard_sheet(t.as_ptr(), t.len(), page.as_mut_ptr(), page.len(), &mut length) };
     values(number, [length])
+}
+
+pub fn between(t: &[u8], first: u32, second: u32) -> Result<[u32; 2], u32> {
+    let [mut job, mut records] = [UNSET; 2];
+    // SAFETY: as above.
+    let number = unsafe { jobboard_between(t.as_ptr(), t.len(), first, second, &mut job, &mut records) };
+    values(number, [job, records])
 }

@@ -1,6 +1,7 @@
 //! What was to be reached, and whether it was.
 use crate::each::is_of;
 use crate::figures::{head, Row, Spread};
+use crate::growth::PAIR_JOBS;
 use crate::trials::{NEARLY, NO_ORDER, ORDERING, REFUSED, SIZES};
 
 /// Boards that a target is for: how they are called, and which they are.
@@ -28,7 +29,7 @@ const NAMES: [&str; 4] = ["", "of the plain one's time", "of the independent one
 /// The calls whose name begins so, on which boards, at which sizes, against what, the most their ratio may be on any of these boards.
 struct Target(&'static str, Boards, From, Against, f64);
 
-const TARGETS: [Target; 28] = [
+const TARGETS: [Target; 29] = [
     Target("form check", RISING, ALL, INDEPENDENT, 1.0),
     Target("load", RISING, ALL, INDEPENDENT, 1.0),
     Target("heaviest", RISING, ALL, INDEPENDENT, 1.0),
@@ -57,7 +58,11 @@ const TARGETS: [Target; 28] = [
     Target("closing", EVERY, LARGEST, CHECKS, 4.0),
     Target("levelling", EVERY, LARGEST, CHECKS, 4.0),
     Target("sheet", EVERY, LARGEST, CHECKS, 5.0),
+    Target("between, loads 8 and 8", EVERY, LARGEST, CHECKS, 0.05),
 ];
+
+/// The most that the greatest time of the same questions for two benches may be of the least, on tables that differ in J.
+const WHATEVER_J: f64 = 1.2;
 
 /// What is hoped for beyond the targets.
 const GOALS: [Target; 3] = [
@@ -85,22 +90,37 @@ impl Target {
         let Target(call, boards, from, against, most) = self;
         SIZES[*from..].iter().map(move |&(benches, jobs)| {
             let (worst, board) = self.worst((benches, jobs), rows);
-            let missed = worst.median > *most;
-            let reached = worst.cell(|ratio| format!("{ratio:.3}"));
-            let verdict = if missed { "missed" } else { "met" };
+            let (missed, end) = verdict(&worst, *most, board);
             let at_most = format!("{goal}{most:?} {}", NAMES[*against]);
-            (missed, format!("| {call} | {} | {benches} | {jobs} | {at_most} | {reached} | {board} | {verdict} |", boards.0))
+            (missed, format!("| {call} | {} | {benches} | {jobs} | {at_most} | {end}", boards.0))
         })
     }
 }
 
-/// Prints each target and each goal at each of its sizes, the missed ones first.
-pub fn print(rows: &[Row]) {
+/// Tells whether a median is too great, and writes the end of its row: what was reached, where, and the verdict.
+fn verdict(reached: &Spread, most: f64, on: &str) -> (bool, String) {
+    let missed = reached.median > most;
+    let verdict = if missed { "missed" } else { "met" };
+    (missed, format!("{} | {on} | {verdict} |", reached.cell(|ratio| format!("{ratio:.3}"))))
+}
+
+/// Writes whether the time of the same questions for two benches differs too much with J, and its row of the table.
+fn judged_pairs(same: &Row) -> (bool, String) {
+    let time = |i: &usize| same.figure(*i).median;
+    let slowest = (0..PAIR_JOBS.len()).max_by(|i, j| time(i).total_cmp(&time(j))).unwrap();
+    let (missed, end) = verdict(&same.figure(PAIR_JOBS.len()), WHATEVER_J, &format!("J = {}", PAIR_JOBS[slowest]));
+    let jobs = PAIR_JOBS.map(|jobs| jobs.to_string()).join(", ");
+    (missed, format!("| between, loads 8 and 8 | the same benches | 500 | {jobs} | {WHATEVER_J:?} of the least time | {end}"))
+}
+
+/// Prints each target and each goal at each of its sizes, the missed ones first. `same` has the times of the same questions for two
+/// benches.
+pub fn print(rows: &[Row], same: &Row) {
     head(
         "What was to be reached, and the board where the median was greatest; missed ones first.",
         "call | boards | B | J | at most | reached | on | verdict",
     );
-    let targets = TARGETS.iter().flat_map(|target| target.judged("", rows));
+    let targets = TARGETS.iter().flat_map(|target| target.judged("", rows)).chain([judged_pairs(same)]);
     let goals = GOALS.iter().flat_map(|goal| goal.judged("goal: ", rows));
     let (missed, met): (Vec<_>, Vec<_>) = targets.chain(goals).partition(|(missed, _)| *missed);
     for (_, row) in [missed, met].concat() {

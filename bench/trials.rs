@@ -3,6 +3,7 @@ use crate::boards::{self, Job, Random};
 use crate::calls::{kind, Call, ACCEPTED, NAMES};
 use crate::timing::ROOM;
 use crate::{independent, INDEPENDENT};
+use std::collections::HashSet;
 
 /// The sizes that are timed, B and J.
 pub const SIZES: [(usize, usize); 3] = [(10, 60), (100, 1000), (500, 4000)];
@@ -134,6 +135,29 @@ fn changes(t: &[u8], names: Names, random: &mut Random) -> Vec<Vec<Call>> {
     vec![arrivals(16, t, names, random), closings(16, t, random), vec![Call::Levelling(u32::MAX)]]
 }
 
+/// Two benches that a question is for.
+pub type Pair = [usize; 2];
+
+/// Lists the pairs of benches of the greatest load, in either order: those with a job between them, or those without.
+pub fn heaviest_pairs(t: &[u8], joined: bool) -> Vec<Pair> {
+    let loads = boards::loads(t);
+    let most = loads.iter().max().unwrap();
+    let heaviest: Vec<_> = (1..).zip(&loads).filter(|(_, load)| *load == most).map(|(x, _)| x).collect();
+    let named: HashSet<Pair> = standing(t).into_iter().flat_map(|(_, [x, y], _)| [[x, y], [y, x]]).collect();
+    let pairs = heaviest.iter().flat_map(|&x| heaviest.iter().map(move |&y| [x, y]));
+    pairs.filter(|pair| pair[0] != pair[1] && named.contains(pair) == joined).collect()
+}
+
+/// The questions in a list: so many that the processor does not know their branches by heart. The plain code, which branches by the holder,
+/// took half as long for each of 2,048 as for each of 8,192, at 500 benches and 4,000 jobs; more made no difference.
+const QUESTIONS: usize = 16_384;
+
+/// Asks for pairs drawn from these.
+pub fn asked(pairs: &[Pair], random: &mut Random) -> Vec<Call> {
+    let mut draw = || pairs[random.below(pairs.len())].map(|x| x as u32);
+    (0..QUESTIONS).map(|_| draw()).map(|[first, second]| Call::Between(first, second)).collect()
+}
+
 /// A board to time calls on: its name, its table, lists of calls, each of one kind, and the number that the table's form check and these
 /// calls are answered with.
 struct Trial(String, Vec<u8>, Vec<Vec<Call>>, u32);
@@ -146,6 +170,15 @@ fn sound(board: impl Into<String>, t: Vec<u8>, lists: Vec<Vec<Call>>) -> Trial {
 /// Adds levelling with allowance 0 to the calls of a sound table, before the sheet.
 fn with_ordering(Trial(board, t, mut lists, number): Trial) -> Trial {
     lists.insert(lists.len() - 1, vec![Call::Levelling(0)]);
+    Trial(board, t, lists, number)
+}
+
+/// Adds questions for two benches of the greatest load to the calls of a sound table with rising chains, before the sheet: without a job
+/// between them, so that both chains are read to their end, and with one.
+fn with_pairs(Trial(board, t, mut lists, number): Trial) -> Trial {
+    let random = &mut Random(23);
+    let last = lists.len() - 1;
+    lists.splice(last..last, [false, true].map(|joined| asked(&heaviest_pairs(&t, joined), random)));
     Trial(board, t, lists, number)
 }
 
@@ -200,7 +233,8 @@ fn trials(benches: usize, jobs: usize) -> Vec<Trial> {
     let any = Trial("any".into(), boards::blank(benches, jobs), vec![vec![blanking]], ACCEPTED);
     let [pairs, ring] = KINDS.map(|kind| nearly_full(kind, benches, jobs, random));
     let mut trials = vec![any, miscounted(&pairs[0])];
-    trials.extend(pairs.map(with_ordering));
+    let [level, unlevel] = pairs.map(with_ordering);
+    trials.extend([with_pairs(level), unlevel]);
     trials.extend(ring);
     trials.extend(out_of_order(benches, jobs, random).map(with_ordering));
     trials.extend(special(benches, jobs));
@@ -229,9 +263,19 @@ pub fn name(call: Call) -> &'static str {
     }
 }
 
-/// Gives the cells that tell what was timed: the call and whether it is refused, the board, B and J.
+/// Writes the loads of the two benches that a question is for, and whether a job is between them; nothing for other calls.
+fn pair(call: Call, t: &[u8]) -> String {
+    let Call::Between(first, second) = call else {
+        return "".into();
+    };
+    let [x, y] = [first, second].map(|bench| boards::loads(t)[bench as usize - 1]);
+    let [job, ..] = INDEPENDENT(call, &mut t.to_vec(), &mut []).unwrap();
+    format!(", loads {x} and {y}, {}", if job == 0 { "no job" } else { "a job" })
+}
+
+/// Gives the cells that tell what was timed: the call, the pair that it is for and whether it is refused, the board, B and J.
 pub fn cells(call: Call, number: u32, board: &str, t: &[u8]) -> Vec<String> {
     let (benches, jobs) = boards::sizes(t);
     let refused = if number == ACCEPTED { "" } else { REFUSED };
-    vec![[name(call), refused].concat(), board.into(), benches.to_string(), jobs.to_string()]
+    vec![[name(call), &pair(call, t), refused].concat(), board.into(), benches.to_string(), jobs.to_string()]
 }

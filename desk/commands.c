@@ -27,32 +27,6 @@ static void say_count(struct report *report, uint32_t n, const char *one, const 
         say(report, "%u %s", (unsigned)n, n == 1 ? one : many);
 }
 
-const char *refusal_words(uint32_t refusal)
-{
-    switch (refusal) {
-    case JOBBOARD_SIZES:
-        return "byte length odd or below 8, benches not 1 to 500, jobs not 1 to 4000, or length not that of so many benches and jobs";
-    case JOBBOARD_UNSOUND:
-        return "sizes fit, table not sound";
-    case JOBBOARD_JOB_NUMBER:
-        return "job number not one of the board's";
-    case JOBBOARD_BENCH_NUMBER:
-        return "bench not one of the board's, or both benches the same";
-    case JOBBOARD_ALREADY_STANDING:
-        return "arrival of a standing job";
-    case JOBBOARD_NOT_STANDING:
-        return "closing of a job not standing";
-    case JOBBOARD_HEIGHT:
-        return "height 0, or above the heaviest load";
-    case JOBBOARD_LIST_TOO_SHORT:
-        return "list shorter than the set's words";
-    case JOBBOARD_PAGE_TOO_SHORT:
-        return "page shorter than the sheet";
-    default:
-        return "unknown refusal";
-    }
-}
-
 void say_moves(struct report *report, const uint8_t *before, const uint8_t *after)
 {
     for (uint32_t job = 1; job <= table_jobs(after); job++) {
@@ -213,6 +187,51 @@ static uint32_t run_sheet(uint8_t *table, size_t length, const struct numbers *n
     return refusal;
 }
 
+static uint32_t run_between(uint8_t *table, size_t length, const struct numbers *n, struct report *report)
+{
+    uint32_t job, records;
+    uint32_t refusal = jobboard_between(table, length, n->at[0], n->at[1], &job, &records);
+    if (refusal != JOBBOARD_OK)
+        return refusal;
+    if (job == 0)
+        say(report, "No job stands between benches %u and %u; ", (unsigned)n->at[0], (unsigned)n->at[1]);
+    else
+        say(report, "Job %u stands between benches %u and %u; ", (unsigned)job, (unsigned)n->at[0], (unsigned)n->at[1]);
+    say_count(report, records, "record", "records");
+    say(report, " read.\n");
+    return refusal;
+}
+
+/* What refusal 2 of `between` means: it reads chains of a table that is not checked first, and a sound one may have them in another order. */
+static const char damaged_or_unordered[] = "a record on these benches' chains is damaged or out of order; "
+                                           "`check` tells whether the board is sound, and `level 0` puts a sound one in order";
+
+const char *refusal_words(const struct command *command, uint32_t refusal)
+{
+    switch (refusal) {
+    case JOBBOARD_SIZES:
+        return "byte length odd or below 8, benches not 1 to 500, jobs not 1 to 4000, or length not that of so many benches and jobs";
+    case JOBBOARD_UNSOUND:
+        return command->run == run_between ? damaged_or_unordered : "sizes fit, table not sound";
+    case JOBBOARD_JOB_NUMBER:
+        return "job number not one of the board's";
+    case JOBBOARD_BENCH_NUMBER:
+        return "bench not one of the board's, or both benches the same";
+    case JOBBOARD_ALREADY_STANDING:
+        return "arrival of a standing job";
+    case JOBBOARD_NOT_STANDING:
+        return "closing of a job not standing";
+    case JOBBOARD_HEIGHT:
+        return "height 0, or above the heaviest load";
+    case JOBBOARD_LIST_TOO_SHORT:
+        return "list shorter than the set's words";
+    case JOBBOARD_PAGE_TOO_SHORT:
+        return "page shorter than the sheet";
+    default:
+        return "unknown refusal";
+    }
+}
+
 static const struct command commands[] = {
     {"new", 2, 2, CREATES, run_new, "new BENCHES JOBS      make the file, with a board without jobs; a file that exists is left alone"},
     {"renew", 2, 2, CREATES_ANEW, run_new, "renew BENCHES JOBS    the same, in place of the file if there is one: what it held is lost"},
@@ -220,6 +239,7 @@ static const struct command commands[] = {
     {"close", 1, 1, CHANGES, run_close, "close JOB             a job is done"},
     {"load", 1, 1, ASKS, run_load, "load BENCH            how many jobs a bench holds"},
     {"heaviest", 0, 0, ASKS, run_heaviest, "heaviest              how many the heaviest bench holds"},
+    {"between", 2, 2, ASKS, run_between, "between BENCH BENCH   the lowest job that names both benches, in a file that is in order (see level)"},
     {"tight", 1, 1, ASKS, run_tight, "tight HEIGHT          the benches that keep each other at that height"},
     {"show", 0, 1, ASKS, run_show, "show [BENCH]          the jobs of each bench, or of one"},
     {"sheet", 0, 0, ASKS, run_sheet, "sheet                 the wall sheet, to print and pin up: bench, load and jobs in columns"},

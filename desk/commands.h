@@ -42,7 +42,7 @@ void say_moves(struct report *report, const uint8_t *before, const uint8_t *afte
 /* Lists all commands and what they do, for people. */
 void say_help(struct report *report);
 
-/* Tells what a refusal means. */
-const char *refusal_words(uint32_t refusal);
+/* Tells what a refusal of this command means. */
+const char *refusal_words(const struct command *command, uint32_t refusal);
 
 #endif

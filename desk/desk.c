@@ -74,9 +74,9 @@ static enum status cannot(const char *what)
     return NO_FILE;
 }
 
-static enum status refuse(uint32_t refusal)
+static enum status refuse(const struct command *command, uint32_t refusal)
 {
-    complain("refused (%u): %s", (unsigned)refusal, refusal_words(refusal));
+    complain("refused (%u): %s", (unsigned)refusal, refusal_words(command, refusal));
     return REFUSED;
 }
 
@@ -89,7 +89,7 @@ static enum status run_on_table(const struct command *command, struct board_file
     memcpy(before, f->table, f->length);
     uint32_t refusal = command->run(f->table, f->length, n, report);
     if (refusal != JOBBOARD_OK)
-        return refuse(refusal);
+        return refuse(command, refusal);
     if (command->use == ASKS)
         return DONE;
     say_moves(report, before, f->table);
@@ -109,7 +109,7 @@ static enum status run_on_nothing(const struct command *command, struct board_fi
     f->length = length < sizeof f->table ? length : sizeof f->table;
     uint32_t refusal = command->run(f->table, f->length, n, report);
     if (refusal != JOBBOARD_OK)
-        return refuse(refusal);
+        return refuse(command, refusal);
     return (replaces ? file_replace(f) : file_create(f)) ? DONE : cannot("make");
 }
 

@@ -7,7 +7,7 @@
  * closings leave a level one, and the heaviest load is then the least that any sharing of the same jobs has. A blank table is level.
  *
  * WHAT A CALL RETURNS. JOBBOARD_OK (0), or the number of a refusal (below). Any bytes, any length and any numbers may be passed: each
- * is answered or refused. Where several refusals apply, the lowest number is returned; each call lists its own in that order.
+ * is answered or refused. Each call lists its refusals in the order that counts: where several apply, the first of them is returned.
  * Results go through pointers to numbers, which are written and never read: they need no value before the call. A refused call changes
  * nothing: no byte of the table, the list or the page, and no result.
  *
@@ -27,8 +27,8 @@
  * use that table: the caller's lock sees to it.
  *
  * FILES. A table is portable: its words have 16 bits, low byte first, on every machine. It may be written to a file as it is, and
- * read back anywhere; jobboard_check says whether what was read is a table still. Every call but jobboard_blank makes the same check,
- * so none is misled by a damaged table. For B benches and J jobs the words are:
+ * read back anywhere; jobboard_check says whether what was read is a table still. Every call but jobboard_blank and jobboard_between
+ * makes the same check, so none of them is misled by a damaged table. For B benches and J jobs the words are:
  *
  *     0, 1, 2, 3                   B; J; number of standing jobs; 0
  *     3 + b                        first job on the chain of bench b, 0 for none
@@ -43,9 +43,10 @@
  * their order, and its holder fix every byte: two of them agree in these exactly if they are the same bytes. So a stored copy may be
  * compared with any other such table, by memcmp, cmp or a hash.
  *
- * A table from elsewhere may have a chain in another order. It is as sound as in rising order, and answered alike. Questions and refused
- * calls leave its order as it is; the first accepted arrival, closing or levelling puts every chain in order. To do just that before a
- * comparison, and move no job, call jobboard_levelling with allowance 0.
+ * A table from elsewhere may have a chain in another order. It is as sound as in rising order, and answered alike by every call but
+ * jobboard_between, to which the order counts. Questions and refused calls leave its order as it is; the first accepted arrival, closing or
+ * levelling puts every chain in order. To do just that, before a comparison or for jobboard_between, and move no job, call
+ * jobboard_levelling with allowance 0.
  */
 #ifndef JOBBOARD_H
 #define JOBBOARD_H
@@ -86,7 +87,7 @@ extern "C" {
 enum jobboard_refusal {
     JOBBOARD_OK = 0,               /* accepted */
     JOBBOARD_SIZES = 1,            /* length odd or below 8, B not 1 to 500, J not 1 to 4,000, or length not that of B and J */
-    JOBBOARD_UNSOUND = 2,          /* sizes fit, table not sound */
+    JOBBOARD_UNSOUND = 2,          /* sizes fit, table not sound; jobboard_between: a record to be read may not be */
     JOBBOARD_JOB_NUMBER = 3,       /* job number not 1 to J */
     JOBBOARD_BENCH_NUMBER = 4,     /* bench not 1 to B, or both benches the same */
     JOBBOARD_ALREADY_STANDING = 5, /* arrival of a standing job */
@@ -204,6 +205,26 @@ uint32_t jobboard_tight_set(const uint8_t *table, size_t table_bytes, uint32_t h
  * Refused: JOBBOARD_SIZES, JOBBOARD_UNSOUND, JOBBOARD_PAGE_TOO_SHORT.
  */
 uint32_t jobboard_sheet(const uint8_t *table, size_t table_bytes, uint8_t *page, size_t page_bytes, uint32_t *length);
+
+/*
+ * Is there a job between these two benches? A quick answer for a table that nobody checked first: the form check is not made, and how
+ * long it takes does not depend on J. The chain of bench `first` is read up to a job that names both benches, the first match, or to its
+ * end. Then the chain of bench `second` is read up to such a job, up to a number above the first match (that record is not read), or to
+ * its end. The lower of the two jobs is the answer.
+ *
+ * Only records to be read are tested: each must have a number of 1 to J above the one before it on its chain, name two different benches
+ * of 1 to B, and have the bench whose chain is read as holder. Nothing else of the table is looked at but its first two words and the two
+ * benches' first jobs, so that damage elsewhere is not seen.
+ *
+ * On a sound table with all chains rising, as every accepted arrival, closing or levelling leaves it (see FILES), *job is the lowest job
+ * that names both benches, as if all were read. On a sound table with a chain in another order it may be a higher one that names both, or
+ * the call is refused with JOBBOARD_UNSOUND: put it in order first, by jobboard_levelling with allowance 0.
+ *
+ * Results: *job is the job, 0 for none; *records is the number of records read, that of a match included: on a sound table at most the
+ * loads of the two benches added.
+ * Refused: JOBBOARD_SIZES, JOBBOARD_BENCH_NUMBER, JOBBOARD_UNSOUND where a record to be read is not as said above, in this order.
+ */
+uint32_t jobboard_between(const uint8_t *table, size_t table_bytes, uint32_t first, uint32_t second, uint32_t *job, uint32_t *records);
 
 #ifdef __cplusplus
 }

@@ -45,7 +45,7 @@ impl Board {
 }
 
 /// Reads B and J of a table whose sizes fit.
-fn sizes(t: &[u8]) -> Option<(usize, usize)> {
+pub fn sizes(t: &[u8]) -> Option<(usize, usize)> {
     if t.len() % 2 != 0 || t.len() < 8 {
         return None;
     }

@@ -1,17 +1,19 @@
-//! The calls of document 01, written from the document alone, and the sheet of 02, without bounds checks: what the proved ones are
-//! measured against.
+//! The calls of document 01, written from the document alone, and the sheet and the question for two benches of 02, without bounds checks:
+//! what the proved ones are measured against.
 //!
-//! Each call makes the form check first and then tests its refusals in rising order, so that the lowest number is returned, and writes
-//! nothing before the last of them. It gives its values, or the number of the refusal.
+//! Each call but that question makes the form check first and then tests its refusals in rising order, so that the lowest number is
+//! returned, and writes nothing before the last of them. It gives its values, or the number of the refusal.
 mod chains;
 mod form;
 mod level;
+mod pair;
 mod search;
 mod sheet;
 mod words;
 
 use chains::Step;
 use form::Board;
+use pair::Chains;
 use search::{Aim, Back, Search};
 use words::*;
 
@@ -206,4 +208,14 @@ pub fn sheet(t: &[u8], page: &mut [u8]) -> Result<[u32; 1], u32> {
     // SAFETY: the table is sound and this part of the page as long as the sheet.
     unsafe { sheet::write(t, &board, page.get_unchecked_mut(..length)) };
     Ok([length as u32])
+}
+
+/// Gives the lowest job between two benches, 0 for none, and the number of records read. Refusal 2 comes after 4.
+pub fn between(t: &[u8], first: u32, second: u32) -> Result<[u32; 2], u32> {
+    let (benches, jobs) = form::sizes(t).ok_or(1u32)?;
+    let (x, y) = (first as usize, second as usize);
+    let named = |x: usize| x.wrapping_sub(1) < benches;
+    refuse_if(!named(x) || !named(y) || x == y, 4)?;
+    // SAFETY: the sizes fit and are these, and the benches are two of 1 to B.
+    unsafe { Chains::new(t, benches, jobs).between(x, y) }
 }

@@ -1,8 +1,10 @@
-//! The calls of document 01, and the sheet of 02, as a straightforward program makes them, without bounds checks: passes over the
-//! records, lists in arrays, searches of all that is reached, and chains made anew. Chains are read by the form check, by load and by
-//! heaviest alone.
+//! The calls of document 01, and the sheet and the question for two benches of 02, as a straightforward program makes them, without bounds
+//! checks: passes over the records, lists in arrays, searches of all that is reached, and chains made anew. Chains are read by the form
+//! check, by load, by heaviest and by the question for two benches alone.
 //!
-//! Each call makes the form check first and then tests its refusals in rising order. It gives its values, or the number of the refusal.
+//! Each call but that question makes the form check first and then tests its refusals in rising order. It gives its values, or the number
+//! of the refusal.
+mod between;
 mod form;
 mod rows;
 mod search;
@@ -243,5 +245,21 @@ pub fn sheet(t: &[u8], page: &mut [u8]) -> Result<[u32; 1], u32> {
         work.list_out();
         sheet::write(s, &work, page);
         Ok([length as u32])
+    }
+}
+
+/// Gives the lowest job between two benches, 0 for none, and the number of records read.
+pub fn between(t: &[u8], first: u32, second: u32) -> Result<[u32; 2], u32> {
+    let (benches, jobs) = form::sizes(t).ok_or(1u32)?;
+    refuse_if(!within(first, benches) || !within(second, benches) || first == second, 4)?;
+    let (s, x, y) = (Sizes { benches, jobs }, first as usize, second as usize);
+    // SAFETY: the sizes fit and both are numbers of benches.
+    unsafe {
+        let of_first = between::walk(t, s, x, y, usize::MAX)?;
+        let limit = if of_first.job == 0 { usize::MAX } else { of_first.job };
+        let of_second = between::walk(t, s, y, x, limit)?;
+        // A match on the second chain is not above one on the first.
+        let job = if of_second.job == 0 { of_first.job } else { of_second.job };
+        Ok([job as u32, (of_first.records + of_second.records) as u32])
     }
 }

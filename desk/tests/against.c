@@ -7,6 +7,9 @@
  * benches, jobs and holders alone. Half the boards start with chains in a random order, so that accepted arrivals, closings and levellings
  * meet chains that do not rise; each must have met some.
  *
+ * A pair question reads two chains of a table that it does not check. Between the other calls it is asked of copies: as they are, with
+ * chains in a random order, and damaged anywhere or just where it reads. Each of its answers and refusals must have come often.
+ *
  * Arguments: the seed, the number of calls.
  */
 #include "calls.h"
@@ -24,7 +27,9 @@ static uint32_t calls_made;
 static uint32_t returned[12];     /* how often each number was */
 static uint32_t accepted[KINDS];  /* how often each call was accepted */
 static uint32_t handed;           /* arrivals and closings that handed jobs along */
-static uint32_t unordered[KINDS]; /* how often an accepted arrival, closing or levelling met chains that did not all rise */
+static uint32_t unordered[KINDS]; /* how often an accepted arrival, closing, levelling or pair question met chains that did not all rise */
+static uint32_t pairs[12];        /* how often a pair question returned each number */
+static uint32_t found;            /* pair questions that were answered with a job */
 
 /*
  * Picks a number of 1 to `most`, now and then one out of range: 0, the next ones, one that fits after a cut to 16
@@ -160,6 +165,40 @@ static void damage(struct table *t, struct random *r)
     }
 }
 
+/* Picks the benches of a pair question, in either order: those of a standing job, a heavy bench and any, or one bench twice. */
+static void random_pair(struct random *r, const struct table *t, uint32_t pair[2])
+{
+    uint32_t kind = random_below(r, 12), job = pick_job(t, r, true), turned = random_below(r, 2);
+    pair[turned] = random_bench(r, t);
+    pair[1 - turned] = kind == 0 ? pair[turned] : random_number(r, word_at(t->bytes, 0));
+    if (job != 0 && kind > 5) {
+        pair[turned] = word_at(t->bytes, record_of(t->bytes, job));
+        pair[1 - turned] = word_at(t->bytes, record_of(t->bytes, job) + 1);
+    }
+}
+
+/*
+ * Writes a number that just fits, or just does not, where a pair question reads: into a record on the chain of one of
+ * its benches, or into the word that leads to it. The table is sound.
+ */
+static void damage_walk(struct table *t, struct random *r, const uint32_t pair[2])
+{
+    uint32_t benches = word_at(t->bytes, 0), jobs = word_at(t->bytes, 1), bench = pair[random_below(r, 2)], before = 0;
+    if (bench < 1 || bench > benches)
+        return;
+    size_t place = 3 + bench;
+    uint32_t job = word_at(t->bytes, place);
+    while (job != 0 && random_below(r, 3) > 0) {
+        before = job;
+        place = record_of(t->bytes, job) + 3;
+        job = word_at(t->bytes, place);
+    }
+    if (job != 0 && random_below(r, 2) == 0)
+        place = record_of(t->bytes, job) + random_below(r, 3);
+    const uint32_t numbers[] = {0, 1, 2, 3, pair[0], pair[1], benches, benches + 1, before, before + 1, jobs, jobs + 1, 65535};
+    put_word(t->bytes, place, numbers[random_below(r, 13)]);
+}
+
 static void stop(const struct call *call, struct answer a, struct answer b, const char *what)
 {
     char text[DESCRIPTION], first[DESCRIPTION], second[DESCRIPTION];
@@ -169,15 +208,23 @@ static void stop(const struct call *call, struct answer a, struct answer b, cons
     fail("against: seed %" PRIu64 ", call %u: %s: %s: archive %s, reference %s", seed, (unsigned)calls_made, text, what, first, second);
 }
 
+/* Tells whether a call leaves all chains in order, or reads them in the order they have. */
+static bool order_matters(enum kind kind)
+{
+    return kind == ARRIVAL || kind == CLOSING || kind == LEVELLING || kind == BETWEEN;
+}
+
 /* Counts a call; `before` is its table as it was. */
 static void count(const struct call *call, struct answer a, const uint8_t *before)
 {
     returned[a.returned]++;
+    pairs[a.returned] += call->kind == BETWEEN;
     if (a.returned != JOBBOARD_OK)
         return;
     accepted[call->kind]++;
     handed += (call->kind == ARRIVAL && a.values[2] > 0) || (call->kind == CLOSING && a.values[1] > 0);
-    if (call->kind == ARRIVAL || call->kind == CLOSING || call->kind == LEVELLING)
+    found += call->kind == BETWEEN && a.values[0] != 0;
+    if (order_matters(call->kind))
         unordered[call->kind] += !chains_rise(before);
 }
 
@@ -210,7 +257,24 @@ static void compare(struct call call, struct table *t)
     free(lent[1]);
 }
 
-/* Makes calls on a board, one after the other, some on a damaged copy. */
+/* Asks a pair question of a copy, its chains as they are or in a random order, and sometimes damaged. */
+static void compare_pair(struct random *r, const struct table *t)
+{
+    static struct table copy;
+    struct call call = {BETWEEN, {0, 0, 0}, NULL, 0};
+    uint32_t kind = random_below(r, 8);
+    random_pair(r, t, call.numbers);
+    copy = *t;
+    if (random_below(r, 2) == 0)
+        make_chains(&copy, r);
+    if (kind < 3)
+        damage_walk(&copy, r, call.numbers);
+    if (kind == 3)
+        damage(&copy, r);
+    compare(call, &copy);
+}
+
+/* Makes calls on a board, one after the other, some on a damaged copy; pair questions between them. */
 static void run_board(struct random *r, uint32_t calls)
 {
     static struct table t, damaged;
@@ -227,6 +291,8 @@ static void run_board(struct random *r, uint32_t calls)
         } else {
             compare(call, &t);
         }
+        if (random_below(r, 4) == 0)
+            compare_pair(r, &t);
     }
 }
 
@@ -244,7 +310,18 @@ static void level_largest(struct random *r)
     compare((struct call){LEVELLING, {JOBBOARD_ENOUGH_PATHS, 0, 0}, NULL, 0}, &t);
 }
 
-/* Expects that each refusal was met, each call accepted, and each change accepted on chains that did not rise. */
+/* Expects enough pair questions with each end to say something; nothing of few calls. */
+static void expect_pairs_met(void)
+{
+    uint32_t least = calls_made < 10000 ? 0 : calls_made / 500;
+    if (found < least || accepted[BETWEEN] - found < least)
+        fail("against: only %u pair questions found a job, and %u none", (unsigned)found, (unsigned)(accepted[BETWEEN] - found));
+    if (pairs[JOBBOARD_SIZES] < least || pairs[JOBBOARD_BENCH_NUMBER] < least || pairs[JOBBOARD_UNSOUND] < least)
+        fail("against: only %u, %u and %u pair questions were refused with 1, 4 and 2", (unsigned)pairs[JOBBOARD_SIZES],
+             (unsigned)pairs[JOBBOARD_BENCH_NUMBER], (unsigned)pairs[JOBBOARD_UNSOUND]);
+}
+
+/* Expects that each refusal was met, each call accepted, and each one accepted to which the order matters on chains that did not rise. */
 static void expect_all_met(void)
 {
     for (int n = 1; n <= 11; n++)
@@ -253,7 +330,7 @@ static void expect_all_met(void)
     for (int kind = 0; kind < KINDS; kind++) {
         if (accepted[kind] == 0)
             fail("against: no call of kind %d was accepted", kind);
-        if (unordered[kind] == 0 && (kind == ARRIVAL || kind == CLOSING || kind == LEVELLING))
+        if (unordered[kind] == 0 && order_matters((enum kind)kind))
             fail("against: no call of kind %d was accepted on chains that did not rise", kind);
     }
 }
@@ -261,12 +338,13 @@ static void expect_all_met(void)
 int main(int argc, char **argv)
 {
     seed = seed_of(argc, argv, 20260101);
-    uint32_t calls = argc > 2 ? (uint32_t)strtoul(argv[2], NULL, 10) : 100000;
+    uint32_t calls = argc > 2 ? (uint32_t)strtoul(argv[2], NULL, 10) : 125000;
     struct random r = {seed};
     while (calls_made + 1 < calls)
         run_board(&r, random_within(&r, 5, 60));
     level_largest(&r);
     expect_all_met();
+    expect_pairs_met();
     printf("against: %u calls, same answers, tables, lists and pages; %u handed jobs along; %u pages read back; ", (unsigned)calls_made,
            (unsigned)handed, (unsigned)accepted[SHEET]);
     printf("%u arrivals, %u closings and %u levellings met chains that did not rise; refused", (unsigned)unordered[ARRIVAL],
@@ -274,6 +352,9 @@ int main(int argc, char **argv)
     for (int n = 1; n <= 11; n++)
         if (n != JOBBOARD_COUNT_FULL && n != JOBBOARD_UNREADABLE)
             printf("%s %u with %d", n == 1 ? "" : ",", (unsigned)returned[n], n);
-    puts("");
+    printf("\nagainst: pair questions among them: %u found a job and %u none, %u of these on chains that did not rise; ", (unsigned)found,
+           (unsigned)(accepted[BETWEEN] - found), (unsigned)unordered[BETWEEN]);
+    printf("refused %u with 1, %u with 4, %u with 2\n", (unsigned)pairs[JOBBOARD_SIZES], (unsigned)pairs[JOBBOARD_BENCH_NUMBER],
+           (unsigned)pairs[JOBBOARD_UNSOUND]);
     return 0;
 }

@@ -25,6 +25,7 @@ static const struct {
     [HEAVIEST] = {"heaviest", 0, 1, false, {JOBBOARD_SIZES, JOBBOARD_UNSOUND}},
     [TIGHT_SET] = {"tight_set", 1, 2, false, {JOBBOARD_SIZES, JOBBOARD_UNSOUND, JOBBOARD_HEIGHT, JOBBOARD_LIST_TOO_SHORT}},
     [SHEET] = {"sheet", 0, 1, false, {JOBBOARD_SIZES, JOBBOARD_UNSOUND, JOBBOARD_PAGE_TOO_SHORT}},
+    [BETWEEN] = {"between", 2, 2, false, {JOBBOARD_SIZES, JOBBOARD_BENCH_NUMBER, JOBBOARD_UNSOUND}},
 };
 
 static uint32_t pass_on(const struct call *call, uint8_t *table, size_t bytes, uint32_t *v)
@@ -51,6 +52,8 @@ static uint32_t pass_on(const struct call *call, uint8_t *table, size_t bytes, u
         return jobboard_tight_set(table, bytes, n[0], call->lent, call->lent_bytes, &v[0], &v[1]);
     case SHEET:
         return jobboard_sheet(table, bytes, call->lent, call->lent_bytes, &v[0]);
+    case BETWEEN:
+        return jobboard_between(table, bytes, n[0], n[1], &v[0], &v[1]);
     default:
         fail("no such call: %d", (int)call->kind);
     }

@@ -1,4 +1,4 @@
-/* One shape for the ten calls, so that a test can make any of them, compare its answer and look at what it left. */
+/* One shape for the eleven calls, so that a test can make any of them, compare its answer and look at what it left. */
 #ifndef CALLS_H
 #define CALLS_H
 
@@ -9,7 +9,7 @@
 /* Stands in a result before the call; no call gives it. */
 #define UNSET 0xa5a5a5a5u
 
-enum kind { BLANK, CHECK, ARRIVAL, CLOSING, LEVELLING, LEVEL_CHECK, LOAD, HEAVIEST, TIGHT_SET, SHEET, KINDS };
+enum kind { BLANK, CHECK, ARRIVAL, CLOSING, LEVELLING, LEVEL_CHECK, LOAD, HEAVIEST, TIGHT_SET, SHEET, BETWEEN, KINDS };
 
 struct call {
     enum kind kind;

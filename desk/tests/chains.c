@@ -1,10 +1,10 @@
 /*
  * Random sound tables, each twice: with every chain rising, and with at least one that does not rise.
  *
- * No answer depends on the order: every question gives the same answer and the same list or page on both, and leaves the order as it is,
- * and so does a refused change. The first accepted arrival, closing or levelling puts every chain in order, whether a job moved or not:
- * the two tables are then equal, and equal to one written by hand from benches, jobs and holders alone. A second change keeps the order.
- * Chains are walked here, word by word; whether they rise is asked of no call.
+ * No answer here depends on the order: every question but the pair question, which pairs.c tries, gives the same answer and the same list
+ * or page on both, and leaves the order as it is, and so does a refused change. The first accepted arrival, closing or levelling puts every
+ * chain in order, whether a job moved or not: the two tables are then equal, and equal to one written by hand from benches, jobs and
+ * holders alone. A second change keeps the order. Chains are walked here, word by word; whether they rise is asked of no call.
  *
  * Arguments: the seed, the number of tables.
  */
@@ -152,7 +152,7 @@ static struct answer ask(struct pair *p, enum kind kind, uint32_t number, size_t
     return a;
 }
 
-/* Asks every question, of few benches and heights where there are many, and some so that they are refused. */
+/* Asks every question but the pair question, of few benches and heights where there are many, and some so that they are refused. */
 static void ask_all(struct pair *p, struct random *r)
 {
     uint32_t benches = word_at(p->rising.bytes, 0), jobs = word_at(p->rising.bytes, 1), step = 1 + benches / 8;

@@ -55,10 +55,12 @@ $(cat expected)"
 
 sizes="desk: room.board: refused (1): byte length odd or below 8, benches not 1 to 500, jobs not 1 to 4000, or length not that of so many benches and jobs"
 unsound="desk: room.board: refused (2): sizes fit, table not sound"
+unreadable="desk: room.board: refused (2): a record on these benches' chains is damaged or out of order; \
+\`check\` tells whether the board is sound, and \`level 0\` puts a sound one in order"
 missing="desk: room.board: cannot read the file: No such file or directory"
 
 # No file yet.
-for words in "take 1 1 2" "close 1" "load 1" heaviest "tight 1" show sheet check level-check level; do
+for words in "take 1 1 2" "close 1" "load 1" heaviest "between 1 2" "tight 1" show sheet check level-check level; do
     expect_kept 3 "$missing" room.board $words
 done
 expect_kept 1 "$sizes" room.board new 501 4000
@@ -71,6 +73,7 @@ expect 0 "The board is new: benches 1 to 3, jobs 1 to 4." room.board new 3 4
 [ "$(wc -c <room.board)" -eq 46 ] || fail "new: the file is not the table"
 expect_kept 3 "desk: room.board: cannot make the file: File exists (renew replaces it)" room.board new 3 4
 expect_kept 0 "The board is sound: benches 1 to 3, jobs 1 to 4, no jobs standing." room.board check
+expect_kept 0 "No job stands between benches 1 and 2; no records read." room.board between 1 2
 expect 0 "Job 1 goes to bench 1. Bench 1 has one job more; no other jobs move." room.board take 1 1 2
 expect 0 "Job 2 goes to bench 2. Bench 2 has one job more; no other jobs move." room.board take 2 2 3
 expect 0 "Job 3 goes to bench 1. Bench 3 has one job more; 2 other jobs move.
@@ -82,7 +85,12 @@ expect_kept 0 "Bench 1 holds 1 job: 3
 Bench 2 holds 1 job: 1
 Bench 3 holds 1 job: 2" room.board show
 expect_sheet "  1    1    3" "  2    1    1" "  3    1    2"
+expect_kept 0 "Job 1 stands between benches 1 and 2; 2 records read." room.board between 1 2
+expect_kept 0 "Job 1 stands between benches 2 and 1; 1 record read." room.board between 2 1
+expect_kept 0 "Job 2 stands between benches 2 and 3; 2 records read." room.board between 2 3
+expect_kept 0 "No job stands between benches 1 and 3; 2 records read." room.board between 1 3
 expect 0 "Job 2 is closed. Bench 3 has one job less; no jobs move." room.board close 2
+expect_kept 0 "No job stands between benches 3 and 2; 1 record read." room.board between 3 2
 expect_sheet "  1    1    3" "  2    1    1" "  3    0"
 expect_kept 0 "Bench 3 holds no jobs." room.board show 3
 expect_kept 0 "Bench 2 holds 1 job." room.board load 2
@@ -96,6 +104,8 @@ expect_kept 1 "desk: room.board: refused (3): job number not one of the board's"
 expect_kept 1 "desk: room.board: refused (4): bench not one of the board's, or both benches the same" room.board take 2 2 2
 expect_kept 1 "desk: room.board: refused (4): bench not one of the board's, or both benches the same" room.board load 4
 expect_kept 1 "desk: room.board: refused (4): bench not one of the board's, or both benches the same" room.board show 0
+expect_kept 1 "desk: room.board: refused (4): bench not one of the board's, or both benches the same" room.board between 2 2
+expect_kept 1 "desk: room.board: refused (4): bench not one of the board's, or both benches the same" room.board between 1 4
 expect_kept 1 "desk: room.board: refused (5): arrival of a standing job" room.board take 1 1 2
 expect_kept 1 "desk: room.board: refused (7): height 0, or above the heaviest load" room.board tight 2
 
@@ -104,9 +114,19 @@ expect_kept 2 "desk: room.board: no such command: tke (help lists them)" room.bo
 expect_kept 2 "desk: room.board: take: wrong number of numbers: take JOB BENCH BENCH  a job arrives that either bench can do" room.board take 4 1
 expect_kept 2 "desk: room.board: check: wrong number of numbers: check                 whether the board is sound" room.board check 1
 expect_kept 2 "desk: room.board: sheet: wrong number of numbers: sheet                 the wall sheet, to print and pin up: bench, load and jobs in columns" room.board sheet 1
+expect_kept 2 "desk: room.board: between: wrong number of numbers: \
+between BENCH BENCH   the lowest job that names both benches, in a file that is in order (see level)" room.board between 1
 for number in -1 +1 1x 0x1 "" " 1" 1.0 4294967296 18446744073709551617; do
     expect_kept 2 "desk: room.board: close: not a number of 0 to 4294967295: $number" room.board close "$number"
 done
+
+# Help lists every command.
+commands=$((commands + 1))
+"$program" help >printed || fail "help: status $?"
+for word in new renew take close load heaviest between tight show sheet check level-check level help; do
+    grep -q "^  $word " printed || fail "help: $word is missing"
+done
+rm printed
 
 # Commands from standard input: the worst status is the run's, and the others are done.
 expect 2 "Job 4 goes to bench 3. Bench 3 has one job more; no other jobs move.
@@ -130,16 +150,17 @@ expect_kept 0 "Bench 1 holds 1 job." room.board <<END
 $(printf 'load 1')
 END
 
-# Expects every command but renew to refuse a damaged file, with the refusal's words, and never to write it.
-damaged() { # OUTPUT
+# Expects every command but renew to refuse a damaged file, with the refusal's words, and never to write it. `between` may have words of its own.
+damaged() { # OUTPUT [OUTPUT-OF-BETWEEN]
     for words in "take 1 1 2" "close 1" "load 1" heaviest "tight 1" show "show 1" sheet check level-check level "level 0"; do
         expect_kept 1 "$1" room.board $words
     done
+    expect_kept 1 "${2:-$1}" room.board between 1 2
     expect_kept 3 "desk: room.board: cannot make the file: File exists (renew replaces it)" room.board new 3 4
 }
 cp room.board whole
 printf '\377' | dd of=room.board bs=1 seek=8 conv=notrunc 2>/dev/null
-damaged "$unsound"
+damaged "$unsound" "$unreadable"
 head -c 45 whole >room.board
 damaged "$sizes"
 : >room.board
@@ -163,6 +184,25 @@ Job 1 moves from bench 1 to bench 2." room.board level
 expect 0 "Job 2 is closed. Bench 1 has one job less; no jobs move." room.board close 2
 expect_kept 0 "Tight at height 1: 2 benches with 2 jobs among themselves: 1 2
 However these jobs are shared, one of these benches holds 1 or more." room.board tight 1
+
+# Another, sound and in no order: bench 1 of three holds jobs 3, 1 and 2 in this order, 1 and 2 for bench 2, 3 for bench 3.
+printf '\003\000\003\000\003\000\000\000\003\000\000\000\000\000'\
+'\001\000\002\000\001\000\002\000\001\000\002\000\001\000\000\000\001\000\003\000\001\000\001\000' >room.board
+expect_kept 0 "The board is sound: benches 1 to 3, jobs 1 to 3, 3 jobs standing." room.board check
+expect_kept 1 "$unreadable" room.board between 1 2
+expect_kept 1 "$unreadable" room.board between 2 1
+expect 0 "The board is not level yet; no paths turned." room.board level 0
+expect_kept 0 "Job 1 stands between benches 1 and 2; 1 record read." room.board between 1 2
+expect_kept 0 "Job 1 stands between benches 2 and 1; 1 record read." room.board between 2 1
+expect_kept 0 "Job 3 stands between benches 3 and 1; 3 records read." room.board between 3 1
+
+# A wrong holder in job 2's record: `between` refuses where it reads that record, and only there.
+printf '\003' | dd of=room.board bs=1 seek=26 conv=notrunc 2>/dev/null
+expect_kept 1 "$unsound" room.board check
+expect_kept 1 "$unreadable" room.board between 1 3
+expect_kept 0 "Job 1 stands between benches 1 and 2; 1 record read." room.board between 1 2
+expect_kept 0 "No job stands between benches 2 and 3; no records read." room.board between 2 3
+expect_kept 1 "$unsound" room.board level 0
 
 # Two files that came to the same sharing in different ways can be matched byte for byte.
 do_all() { # FILE COMMANDS...

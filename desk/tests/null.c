@@ -1,4 +1,4 @@
-/* NULL where a length is 0: the table of each of the ten calls, a tight set's list, a sheet's page. Each is refused as a length of 0 is. */
+/* NULL where a length is 0: the table of each of the eleven calls, a tight set's list, a sheet's page. Each is refused as a length of 0 is. */
 #include "calls.h"
 #include "jobboard.h"
 #include "support.h"
@@ -93,6 +93,6 @@ int main(void)
             without_table((enum kind)kind, numbers[i]);
     lists(&t);
     pages(&t);
-    printf("null: no table for the ten calls, no list for a tight set, no page for a sheet: %u calls, all refused as expected\n", calls);
+    printf("null: no table for the eleven calls, no list for a tight set, no page for a sheet: %u calls, all refused as expected\n", calls);
     return 0;
 }

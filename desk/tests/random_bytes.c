@@ -4,7 +4,10 @@
  * what it returned is 0 or one of its own refusals; a refused call changed no lent byte and no result; a question changed no byte of the
  * table; nothing was touched beside what was lent.
  *
- * Arguments: the seed, the number of calls.
+ * Then as many pair questions, as these read tables that nobody checked: among others tables whose sizes fit, with chains to walk along
+ * and with random words.
+ *
+ * Arguments: the seed, the number of calls and of pair questions.
  */
 #define _DEFAULT_SOURCE /* MAP_ANONYMOUS */
 
@@ -28,6 +31,8 @@
 static uint64_t seed;
 static volatile uint32_t calls_made;
 static uint32_t accepted;
+static uint32_t pairs[12]; /* how often a pair question returned each number */
+static uint32_t found;     /* pair questions that were answered with a job */
 
 static void say_where(void)
 {
@@ -186,6 +191,20 @@ static uint8_t *random_table(struct random *r, size_t *length)
     return cut;
 }
 
+/* Makes a board whose chains rise or do not, and puts random words into it: in every place behind the sizes, in some, few or hardly any. */
+static uint8_t *loose_table(struct random *r, size_t *length)
+{
+    static const uint32_t apart[] = {1, 6, 40, 4000};
+    static struct table t;
+    make_board(&t, r);
+    make_chains(&t, random_below(r, 2) == 0 ? NULL : r);
+    uint32_t jobs = word_at(t.bytes, 1), step = 2 * apart[random_below(r, 4)] - 1;
+    for (size_t i = 1 + random_within(r, 1, step); i < t.length / 2; i += random_within(r, 1, step))
+        put_word(t.bytes, i, random_below(r, 4) == 0 ? random_below(r, 65536) : random_below(r, random_below(r, 2) == 0 ? 4 : jobs + 2));
+    *length = t.length;
+    return copy_of(t.bytes, t.length);
+}
+
 /* Picks the length of a page: often about a line for each bench that the table names, as most sheets have. */
 static size_t random_page(struct random *r, const uint8_t *table, size_t length)
 {
@@ -230,6 +249,8 @@ static void examine(const struct call *call, struct answer a, const struct loan 
     if (!beside_untouched(table) || !beside_untouched(lent))
         stop(call, a, "wrote beside what was lent");
     accepted += !refused;
+    pairs[a.returned] += call->kind == BETWEEN;
+    found += call->kind == BETWEEN && !refused && a.values[0] != 0;
 }
 
 /* Lends a list, or the page of a sheet. */
@@ -243,25 +264,48 @@ static struct loan lend_beside(struct random *r, const struct room *room, enum k
     return lend(r, room, before, length);
 }
 
-static void run_call(struct random *r, const struct room *table_room, const struct room *lent_room)
+/* Chooses a call's numbers: any, or for a blanking the sizes that the table names, for a pair question two different benches of it. */
+static void choose_numbers(struct random *r, struct call *call, const uint8_t *table, size_t length)
+{
+    for (int i = 0; i < 3; i++)
+        call->numbers[i] = random_number(r);
+    if (call->kind == BLANK && length >= 4 && random_below(r, 2) == 0) {
+        call->numbers[0] = word_at(table, 0);
+        call->numbers[1] = word_at(table, 1);
+    }
+    uint32_t benches = length >= 2 ? word_at(table, 0) : 0;
+    if (call->kind == BETWEEN && benches >= 2 && random_below(r, 4) > 0) {
+        call->numbers[0] = random_within(r, 1, benches);
+        call->numbers[1] = (call->numbers[0] - 1 + random_within(r, 1, benches - 1)) % benches + 1;
+    }
+}
+
+static void run_call(struct random *r, const struct room *table_room, const struct room *lent_room, enum kind kind)
 {
     size_t table_bytes;
-    uint8_t *before = random_table(r, &table_bytes);
-    struct call call = {random_below(r, KINDS), {0, 0, 0}, NULL, 0};
+    bool loose = kind == BETWEEN && random_below(r, 2) == 0;
+    uint8_t *before = loose ? loose_table(r, &table_bytes) : random_table(r, &table_bytes);
+    struct call call = {kind, {0, 0, 0}, NULL, 0};
     struct loan table = lend(r, table_room, before, table_bytes);
     struct loan lent = lend_beside(r, lent_room, call.kind, &table);
     call.lent = lent.bytes;
     call.lent_bytes = lent.length;
-    for (int i = 0; i < 3; i++)
-        call.numbers[i] = random_number(r);
-    if (call.kind == BLANK && table_bytes >= 4 && random_below(r, 2) == 0) {
-        call.numbers[0] = word_at(table.bytes, 0);
-        call.numbers[1] = word_at(table.bytes, 1);
-    }
+    choose_numbers(r, &call, table.bytes, table_bytes);
     calls_made++;
     examine(&call, make_call(&call, table.bytes, table_bytes), &table, &lent);
     give_back(&table);
     give_back(&lent);
+}
+
+/* Expects enough calls accepted, and enough pair questions with each end, to say something. */
+static void expect_enough(uint32_t calls, uint32_t accepted_first)
+{
+    if (accepted_first < calls / 10)
+        fail("random_bytes: only %u calls were accepted", (unsigned)accepted_first);
+    const uint32_t ends[] = {found, pairs[JOBBOARD_OK] - found, pairs[JOBBOARD_SIZES], pairs[JOBBOARD_BENCH_NUMBER], pairs[JOBBOARD_UNSOUND]};
+    for (int i = 0; i < 5; i++)
+        if (ends[i] < calls / 20)
+            fail("random_bytes: only %u pair questions for count %d", (unsigned)ends[i], i);
 }
 
 int main(int argc, char **argv)
@@ -273,10 +317,15 @@ int main(int argc, char **argv)
     signal(SIGSEGV, on_fault);
     signal(SIGBUS, on_fault);
     while (calls_made < calls)
-        run_call(&r, &table_room, &lent_room);
-    if (accepted < calls / 10)
-        fail("random_bytes: only %u calls were accepted", (unsigned)accepted);
+        run_call(&r, &table_room, &lent_room, (enum kind)random_below(&r, KINDS));
+    uint32_t accepted_first = accepted;
+    while (calls_made < 2 * calls)
+        run_call(&r, &table_room, &lent_room, BETWEEN);
+    expect_enough(calls, accepted_first);
     printf("random_bytes: %u calls on random bytes and lengths, %u accepted; only what was lent was touched, and only by accepted changes\n",
-           (unsigned)calls_made, (unsigned)accepted);
+           (unsigned)calls, (unsigned)accepted_first);
+    printf("random_bytes: %u pair questions besides; of all %u found a job and %u none, refused %u with 1, %u with 4, %u with 2\n",
+           (unsigned)calls, (unsigned)found, (unsigned)(pairs[JOBBOARD_OK] - found), (unsigned)pairs[JOBBOARD_SIZES],
+           (unsigned)pairs[JOBBOARD_BENCH_NUMBER], (unsigned)pairs[JOBBOARD_UNSOUND]);
     return 0;
 }

@@ -1,6 +1,6 @@
 /*
- * The scope, sentence by sentence. On small boards the paths are listed one by one and compared as the rules say; on larger ones
- * distances take the place of the list, as a path of fewest jobs between two benches never has a bench twice.
+ * The scope and its requests, sentence by sentence. On small boards the paths are listed one by one and compared as the rules say; on
+ * larger ones distances take the place of the list, as a path of fewest jobs between two benches never has a bench twice.
  */
 #include "reference.h"
 
@@ -555,6 +555,57 @@ static struct answer load(const struct board *s, uint32_t bench)
     return (struct answer){0, {s->loads[bench], UNSET, UNSET}};
 }
 
+/*
+ * Tests a record to be read: "each must have a number of 1 to J above the one before, name two different benches of
+ * 1 to B and have the walked one as holder".
+ */
+static bool may_be_read(const uint8_t *table, uint32_t walked, uint32_t before, uint32_t job)
+{
+    uint32_t benches = word(table, 0), jobs = word(table, 1);
+    if (!is_within(job, jobs) || job <= before)
+        return false;
+    size_t r = record(benches, job);
+    uint32_t a = word(table, r), b = word(table, r + 1), holder = word(table, r + 2);
+    if (!is_within(a, benches) || !is_within(b, benches) || a == b)
+        return false;
+    return (holder == 1 && a == walked) || (holder == 2 && b == walked);
+}
+
+/*
+ * Reads a bench's chain "up to a match, a number above the first match (that record is not read), or its end"; a first
+ * match of 0 is none. Counts the records. False where one to be read may not be.
+ */
+static bool read_chain(const uint8_t *table, uint32_t walked, uint32_t other, uint32_t first_match, uint32_t *match, uint32_t *records)
+{
+    uint32_t before = 0, job = word(table, 3 + (size_t)walked);
+    *match = 0;
+    while (job != 0 && *match == 0 && (first_match == 0 || job <= first_match)) {
+        if (!may_be_read(table, walked, before, job))
+            return false;
+        size_t r = record(word(table, 0), job);
+        ++*records;
+        if (word(table, r) == other || word(table, r + 1) == other)
+            *match = job;
+        before = job;
+        job = word(table, r + 3);
+    }
+    return true;
+}
+
+/* Asks the words themselves, which nobody checked: "Only records to be read are tested [..], else 2, which here comes after 4." */
+static struct answer between(const uint8_t *table, uint32_t first, uint32_t second)
+{
+    uint32_t benches = word(table, 0), first_match, second_match, records = 0;
+    if (!is_within(first, benches) || !is_within(second, benches) || first == second)
+        return refused(4);
+    if (!read_chain(table, first, second, 0, &first_match, &records) ||
+        !read_chain(table, second, first, first_match, &second_match, &records))
+        return refused(2);
+    /* "the lowest job number [..], or none" */
+    uint32_t lowest = first_match == 0 || (second_match != 0 && second_match < first_match) ? second_match : first_match;
+    return (struct answer){0, {lowest, records, UNSET}};
+}
+
 static struct answer on_board(struct board *s, const struct call *call)
 {
     switch (call->kind) {
@@ -586,6 +637,8 @@ struct answer reference_call(const struct call *call, uint8_t *table, size_t byt
         return blank(call, table, bytes);
     if (!sizes_fit(table, bytes))
         return refused(1);
+    if (call->kind == BETWEEN)
+        return between(table, call->numbers[0], call->numbers[1]);
     if (!is_sound(table))
         return refused(2);
     read_board(&s, table);

@@ -186,6 +186,7 @@ static void measure_board(const struct table *t, uint8_t *stack)
     measure("blanking", (struct call){BLANK, {B, J, 0}, NULL, 0}, t, stack);
     measure("levelling", (struct call){LEVELLING, {JOBBOARD_ENOUGH_PATHS, 0, 0}, NULL, 0}, t, stack);
     measure("sheet", (struct call){SHEET, {0, 0, 0}, page, sizeof page}, t, stack);
+    measure("pair question", (struct call){BETWEEN, {1, B, 0}, NULL, 0}, t, stack);
     measure_changes(t, stack);
     if (jobboard_heaviest(t->bytes, t->length, &most) != JOBBOARD_OK)
         fail("stack: a board is not sound");

@@ -3,11 +3,11 @@
  * data/calls, from before the change requests, and those of data/requests, from the newest request.
  *
  * `index` has for each table its form check, level check, heaviest load and a hash of its loads; `calls` has calls, each on a fresh copy,
- * with the answer and two hashes. The first is of the whole table, and it is compared with that of the bytes as the call leaves them:
+ * with the answer and hashes. The first is of the whole table, and it is compared with that of the bytes as the call leaves them:
  * nothing is put in order here. From request 02 on an accepted arrival, closing or levelling leaves every chain rising, so every byte is
  * compared, in the older files too; a refused call and a load leave the bytes as they were. The second hash is of the same table with
  * chain heads and next words zero, and only says which part differs. For a tight set both are of its list; for a wall sheet they are of
- * the table and of the page. List and page are filled with a5 before.
+ * the table and of the page; for a pair question there is the first alone. List and page are filled with a5 before.
  *
  * Arguments: the folder of tables and the folder of index and calls; the folder of the newest request, which has all.
  */
@@ -128,6 +128,7 @@ static const struct {
     {"S", TIGHT_SET, 2, true},
     {"O", LOAD, 1, false},
     {"sheet", SHEET, 1, true},
+    {"pair", BETWEEN, 2, false},
 };
 
 /* Reads a call, such as "A 27 19 2". */
@@ -150,7 +151,7 @@ static struct call call_of(const char *text)
     return call;
 }
 
-/* Writes the answer in the file's words: "19 19 0", "3 level", "R 2". */
+/* Writes the answer in the file's words: "19 19 0", "3 level", "none 21", "R 2". */
 static void answer_words(enum kind kind, struct answer a, char text[LINE])
 {
     const uint32_t *v = a.values;
@@ -162,6 +163,8 @@ static void answer_words(enum kind kind, struct answer a, char text[LINE])
         snprintf(text, LINE, "%u %s", (unsigned)v[0], v[1] == 1 ? "level" : "stopped");
     else if (kind == LOAD || kind == SHEET)
         snprintf(text, LINE, "%u", (unsigned)v[0]);
+    else if (kind == BETWEEN && v[0] == 0)
+        snprintf(text, LINE, "none %u", (unsigned)v[1]);
     else
         snprintf(text, LINE, "%u %u", (unsigned)v[0], (unsigned)v[1]);
 }
@@ -178,7 +181,7 @@ static void forget_chains(uint8_t *table, size_t length)
         put_word(table, 4 + benches + 4 * (size_t)j + 3, 0);
 }
 
-/* Writes what the call gives, in the words of `calls`: answer and both hashes. */
+/* Writes what the call gives, in the words of `calls`: answer and hashes. */
 static void run_call(const struct file *f, const char *text, char result[2 * LINE])
 {
     char words[LINE];
@@ -192,7 +195,9 @@ static void run_call(const struct file *f, const char *text, char result[2 * LIN
     forget_chains(left, f->length);
     uint64_t first = call.kind == TIGHT_SET ? lent : table;
     uint64_t second = call.kind == TIGHT_SET || call.kind == SHEET ? lent : hash_of(left, f->length);
-    snprintf(result, 2 * LINE, "%s %016" PRIx64 " %016" PRIx64, words, first, second);
+    int used = snprintf(result, 2 * LINE, "%s %016" PRIx64, words, first);
+    if (call.kind != BETWEEN)
+        snprintf(result + used, 2 * LINE - (size_t)used, " %016" PRIx64, second);
     free(left);
     free(call.lent);
 }
@@ -237,6 +242,6 @@ int main(int argc, char **argv)
     if (argc != 4)
         fail("vectors: three arguments: the folder of tables, the folder of index and calls, the folder of the newest request");
     run_all(argv[1], argv[2], 96, 720);
-    run_all(argv[3], argv[3], 60, 576);
+    run_all(argv[3], argv[3], 60, 900);
     return 0;
 }

@@ -209,7 +209,7 @@ module _ (t : List ℕ) (s : T (sound t)) where
         let two : T (leb (length names) 2) = leb-T (length names) 2 (omega (arith, ap length (stored-names j on), record-pair t j)) in
         let held = held-named names h x i (shares-nth b ((sound-storable t s) .valid) j) in
         elim (ℕ-discrete h x) [
-          yes e ↦ inl ((on-bench x j (pair .0)) .1 (on, e))
+          | yes e ↦ inl ((on-bench x j (pair .0)) .1 (on, e))
           | no d ↦ inr ((on-bench y j (pair .1)) .1 (on, one-other names x h y two i held k d (λ e. pair .2 (sym e))))
         ]
 
