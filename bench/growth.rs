@@ -131,8 +131,8 @@ fn print_pairs(files: &[String]) {
     head(
         "Questions for two benches, whatever J is, in µs: proved calls at B = 500, both benches with 8 jobs and none between them,\n\
          so that 16 records are read; the table stays in the caches from one question to the next. The same seven benches are asked\n\
-         for at each J. All benches with 8 jobs are 7, 75 and 490: of more benches the processor knows fewer branches by heart, so\n\
-         that code which branches by the holder takes longer. Beside them the form check of the same tables.",
+         for at each J. All benches with 8 jobs are 7, 75 and 490; the records of the last take 31,360 bytes, as much as the nearest\n\
+         cache of many processors holds. Beside them the form check of the same tables.",
         "asked | J = 60 | J = 600 | J = 4,000 | greatest / least",
     );
     for row in rows(OF_PAIRS, files) {
