@@ -87,7 +87,7 @@ extern "C" {
 enum jobboard_refusal {
     JOBBOARD_OK = 0,               /* accepted */
     JOBBOARD_SIZES = 1,            /* length odd or below 8, B not 1 to 500, J not 1 to 4,000, or length not that of B and J */
-    JOBBOARD_UNSOUND = 2,          /* sizes fit, table not sound; jobboard_between: a record to be read may not be */
+    JOBBOARD_UNSOUND = 2,          /* sizes fit, table not sound; jobboard_between: a record to be read fails */
     JOBBOARD_JOB_NUMBER = 3,       /* job number not 1 to J */
     JOBBOARD_BENCH_NUMBER = 4,     /* bench not 1 to B, or both benches the same */
     JOBBOARD_ALREADY_STANDING = 5, /* arrival of a standing job */
@@ -207,9 +207,9 @@ uint32_t jobboard_tight_set(const uint8_t *table, size_t table_bytes, uint32_t h
 uint32_t jobboard_sheet(const uint8_t *table, size_t table_bytes, uint8_t *page, size_t page_bytes, uint32_t *length);
 
 /*
- * Is there a job between these two benches? A quick answer for a table that nobody checked first: the form check is not made, and how
- * long it takes does not depend on J. The chain of bench `first` is read up to a job that names both benches, the first match, or to its
- * end. Then the chain of bench `second` is read up to such a job, up to a number above the first match (that record is not read), or to
+ * Is there a job between these two benches? A quick answer for a table that nobody checked first: the form check is not made, and the
+ * call takes as long as the records that it reads, however large J is. The chain of bench `first` is read up to a job that names both
+ * benches, the first match, or to its end. Then the chain of bench `second` is read up to such a job, up to a number above the first match (that record is not read), or to
  * its end. The lower of the two jobs is the answer.
  *
  * Only records to be read are tested: each must have a number of 1 to J above the one before it on its chain, name two different benches

@@ -1,4 +1,5 @@
--- A table whose form is refused: every call answers so, and leaves what it was lent. And what a call left is its outcome.
+-- A table whose form is refused: every call that tests the form first answers so, and leaves what it was lent. And what a
+-- call left is its outcome.
 use mathlib.Core.Path.{_≡_, refl, sym, subst}
 use mathlib.Core.List.{List}
 use mathlib.Core.Option.{some}

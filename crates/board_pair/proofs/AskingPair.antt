@@ -3,14 +3,14 @@ use Prim.Native.Nat.{ℕ, zero, suc, _+_, _*_, _≤_}
 use native.Mathlib.Omega.{arith}
 use mathlib.Core.Path.{_≡_, refl, sym, ap, subst, _∙_}
 use mathlib.Core.Logic.{_⊎_, _≢_}
-use mathlib.Core.Bool.{Bool, true, false}
+use mathlib.Core.Bool.{true, false}
 use mathlib.Core.List.{List, [], _∷_}
 use mathlib.Core.Option.{none, some}
 use lib.Dec.{T}
 use lib.ListN.{length, length-append}
 use Rattle.spec_lists.specs.Lists.{within, nth}
 use Rattle.spec_table.specs.Board.{namesFit}
-use Rattle.spec_table.specs.Table.{mostJobs, chains, fits}
+use Rattle.spec_table.specs.Table.{mostJobs, chains}
 use Rattle.spec_pair.specs.Pair.{End, broken, unmatched, matched, Walk, walk, metBy, isBroken, firstWalk, secondWalk, unreadablePair, recordsRead, jobFound}
 use Rattle.spec_calls.specs.Answers.{said}
 use Rattle.spec_calls.specs.Calls.{between, betweenTold, betweenFact, outcome}
@@ -19,8 +19,8 @@ use Rattle.spec_table.proofs.Named.{pair-fits, pair-misfits}
 use Rattle.spec_pair.proofs.Walks.{pair-read, met-within, found-second, found-first}
 use Rattle.spec_calls.proofs.Pairs.{between-sizes-refused, between-benches-refused, between-unreadable-refused, between-answered}
 use Rattle.table_words.specs.Bytes.{layoutIn}
-use Rattle.table_size.specs.Sizes.{SizeOf, BenchIn, fitIf, sizeIn}
-use Rattle.table_size.proofs.Sizes.{bench-in}
+use Rattle.table_size.specs.Sizes.{SizeOf, BenchIn, sizeIn}
+use Rattle.table_size.proofs.Sizes.{misfit-size, bench-in}
 use Rattle.table_size.specs.declared.Size.{Size}
 use Rattle.table_size.specs.declared.Sizing.the-variants.{Misfit}
 use Rattle.table_refusals.specs.declared.Refusal.the-variants as code
@@ -62,14 +62,6 @@ walked-matched w j n e = go (w .end) refl e
 match-in : (j : ℕ) → 1 ≤ j → matchIn j ≡ some j
 match-in zero l = absurd (omega arith)
 match-in (suc i) l = refl
-
--- a table without a size does not fit
-misfit-size : (t : List ℕ) → sizeIn t ≡ Misfit → fits t ≡ false
-misfit-size t e = go (fits t) refl e
-  where
-    go : (z : Bool) → fits t ≡ z → fitIf z ((layoutIn t) .benches) ((layoutIn t) .jobs) ≡ Misfit → fits t ≡ false
-    go true h d = absurd (true→T false cc)
-    go false h d = h
 
 -- a table without a size is refused with 1 ..
 pub misfit-refused : (t : List ℕ) (x y : ℕ) → sizeIn t ≡ Misfit → Leaves (outcome (between x y) t) (told.Refused code.Sizes) t []

@@ -23,10 +23,11 @@ fn with_first(t: &[u8], s: Size, first: usize, second: usize, met: usize, read: 
         Walked::Broken => Answer::Refused(Refusal::Unsound),
         Walked::Matched(job, more) => Answer::Between(job, read + more),
         Walked::Unmatched(more) => {
+            let records = read + more;
             if met == 0 {
-                Answer::NoneBetween(read + more)
+                Answer::NoneBetween(records)
             } else {
-                Answer::Between(met, read + more)
+                Answer::Between(met, records)
             }
         }
     }
@@ -45,8 +46,8 @@ fn between_two(t: &[u8], s: Size, first: usize, second: usize) -> Answer
     }
 }
 
-// Answers the lowest job between two benches, and how many records were read. The form check is not made: only the
-// records that are read are tested, after the benches.
+// Answers a job between two benches, the lowest where all chains rise, and how many records were read. The form check
+// is not made: only the records that are read are tested, after the benches.
 pub fn between(t: &[u8], first: usize, second: usize) -> Answer
     ensures { λ r. ⌜ Leaves (outcome (between first second) (now (t .entry))) r (now (t .entry)) [] ⌝ }
 {

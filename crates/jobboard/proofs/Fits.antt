@@ -108,7 +108,7 @@ asked-fits levelCheck lent b s = go (level b)
     go false = (omega arith, tt)
 asked-fits wallSheet page b s = (omega (arith, sheet-most b s), tt)
 
--- a job's number is at most J, and no chain has more than one number above J
+-- a job's number is at most J, and at most 2 (J + 1) records are read
 between-fits : (x y : ℕ) (t : List ℕ) → T (fits t) → Fitting (said ((betweenTold x y t) .fact))
 unfolding betweenTold
 between-fits x y t f = go (jobFound l x y) refl

@@ -130,8 +130,8 @@ pub extern "C" fn jobboard_sheet(table: &[u8], page: &mut [u8], length: &mut u32
     jobboard_report::one(board_sheet::sheet(table, page), length)
 }
 
-// Answers whether there is a job between two benches, on a table that nobody checked. Results: the lowest, 0 for none;
-// the records read.
+// Answers whether there is a job between two benches, on a table that nobody checked. Results: such a job, the lowest
+// where all chains rise, 0 for none; the records read.
 #[no_mangle]
 pub extern "C" fn jobboard_between(
     table: &[u8],

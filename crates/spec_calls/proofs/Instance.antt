@@ -1,5 +1,5 @@
 -- The hypotheses of demand 3 can be met: every list of calls has a run, and the claim holds of it. And so can those of request
--- 02: there is a sound table whose chains do not rise. Of request 03, that the order counts.
+-- 02: there is a sound table whose chains do not rise. In request 03 the order counts: that table shows it.
 use Prim.Native.Nat.{ℕ}
 use mathlib.Core.Path.{_≡_, refl}
 use mathlib.Core.Bool.{true, false}
@@ -42,7 +42,7 @@ falling-reordered =
     let r = allowance-0-reorders fallingTable (true→T (sound fallingTable) (two-orders .0)) in
     (r, r .table)
 
--- 02: "Here, unlike in 01, the chains' order counts": the two tables, one board in two orders, are told another job
+-- 02: "Here, unlike in 01, the chains' order counts": the two tables, one board in two orders, are answered with different jobs
 pub order-counts : ((outcome (between 1 2) fallingTable) .answer ≡ said (jobBetween 2 1)) × ((outcome (between 1 2) risingTable) .answer ≡ said (jobBetween 1 1))
 unfolding outcome refusals betweenConditions accepted betweenTold fits sizesFit layout unreadablePair firstWalk secondWalk recordsRead jobFound
 order-counts = (refl, refl)

@@ -24,8 +24,8 @@ refusalNumber unreadable = 10
 refusalNumber pageTooShort = 11
 
 -- what a call says that is neither an arrival's nor a closing's answer. A tight set: benches, inside jobs. A
--- levelling: paths turned, and level or stopped. A sheet: its length. A job between two benches, or none: the records
--- read
+-- levelling: paths turned, and level or stopped. A sheet: its length. A job between two benches: the job, the records
+-- read; none: the records read
 pub data Fact : Type 0 where
   blanked : Fact
   loadIs : ℕ → Fact

@@ -75,6 +75,14 @@ pub match-counts : asked (
 unfolding unreadablePair jobFound recordsRead firstWalk secondWalk layout
 match-counts = refl
 
+-- what follows a match is not looked at: its next job is 9 of one
+pub after-match : asked (
+    2 ∷ 1 ∷ 1 ∷ 0 ∷
+    1 ∷ 0 ∷
+    1 ∷ 2 ∷ 1 ∷ 9 ∷ []) 1 2 ≡ (false, some 1, 1 ∷ [])
+unfolding unreadablePair jobFound recordsRead firstWalk secondWalk layout
+after-match = refl
+
 -- a chain that returns is refused where it does, and the second is not read then: to the job itself, job 1 ..
 pub returning-chain : asked (
     3 ∷ 2 ∷ 2 ∷ 0 ∷
@@ -114,25 +122,3 @@ pub falling-broken : (sound (bytesOf inOrder) ≡ true) × (asked inOrder 1 2 �
     × (sound (bytesOf falling) ≡ true) × (asked falling 1 2 ≡ (true, none, 2 ∷ []))
 unfolding unreadablePair jobFound recordsRead firstWalk secondWalk sound fits sizesFit formed layout
 falling-broken = (refl, refl, refl, refl)
-
--- the same with both jobs between 1 and 2: in rising order ..
-abbrev bothInOrder : List ℕ
-bothInOrder =
-    2 ∷ 2 ∷ 2 ∷ 0 ∷
-    1 ∷ 0 ∷
-    1 ∷ 2 ∷ 1 ∷ 2 ∷
-    1 ∷ 2 ∷ 1 ∷ 0 ∷ []
-
--- .. and with job 2 before job 1
-abbrev bothFalling : List ℕ
-bothFalling =
-    2 ∷ 2 ∷ 2 ∷ 0 ∷
-    2 ∷ 0 ∷
-    1 ∷ 2 ∷ 1 ∷ 0 ∷
-    1 ∷ 2 ∷ 1 ∷ 1 ∷ []
-
--- both tables are sound; where the chain falls after the match, the match is another job, and not the lowest
-pub falling-other : (sound (bytesOf bothInOrder) ≡ true) × (asked bothInOrder 1 2 ≡ (false, some 1, 1 ∷ []))
-    × (sound (bytesOf bothFalling) ≡ true) × (asked bothFalling 1 2 ≡ (false, some 2, 2 ∷ []))
-unfolding unreadablePair jobFound recordsRead firstWalk secondWalk sound fits sizesFit formed layout
-falling-other = (refl, refl, refl, refl)

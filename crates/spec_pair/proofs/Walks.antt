@@ -94,6 +94,10 @@ module _ (l : Layout) (x y : ℕ) where
           record { isRead = inl (sym q); reached = rw q at a; held = rw q at h; names = rw q at n }
       go (passed a f h n) ih e = let m = ih e in record { isRead = inr (m .isRead); reached = m .reached; held = m .held; names = m .names }
 
+  -- so it has a number of 1 to J
+  pub met-within : (first : Option ℕ) (before : ℕ) (chain : List ℕ) (j : ℕ) → (walk l x y first before chain) .end ≡ matched j → T (within 1 (l .jobs) j)
+  met-within first before chain j e = read-within first before chain j ((met first before chain j e) .isRead)
+
   -- a walk that is not limited and meets none has no matching job on its chain
   pub unmatched-none : (before : ℕ) (chain : List ℕ) → (walk l x y none before chain) .end ≡ unmatched → (i : ℕ) → In i chain → bothIn i ≡ false
   unmatched-none before [] e i o = absurd o
@@ -107,14 +111,6 @@ module _ (l : Layout) (x y : ℕ) where
       go (found a f h n) ih e o = absurd (true→T false cc)
       go (passed a f h n) ih e (inl q) = rw q n
       go (passed a f h n) ih e (inr o) = ih e o
-
-  -- so it has a number of 1 to J ..
-  pub met-within : (first : Option ℕ) (before : ℕ) (chain : List ℕ) (j : ℕ) → (walk l x y first before chain) .end ≡ matched j → T (within 1 (l .jobs) j)
-  met-within first before chain j e = read-within first before chain j ((met first before chain j e) .isRead)
-
-  -- .. which is not above the first match
-  pub met-not-above : (m before : ℕ) (chain : List ℕ) (j : ℕ) → (walk l x y (some m) before chain) .end ≡ matched j → j ≤ m
-  met-not-above m before chain j e = ltb-false m j ((met (some m) before chain j e) .reached)
 
 follow-few : (es : List Entry) (k j : ℕ) → length (follow es k j) ≤ k
 follow-few es zero j = omega arith

@@ -10,7 +10,7 @@ use Rattle.spec_lists.specs.Lists.{within, member, range, filter, In, nth}
 use Rattle.spec_table.specs.Board.{Board, namesOf}
 use Rattle.spec_table.specs.Table.{words, Entry, Layout, layout, vacant, holderIn, chains, entryFits}
 
--- how a walk along a chain ends: at a record that may not be read, without a match, or at a matching job
+-- how a walk along a chain ends: at a number or record that fails, without a match, or at a matching job
 pub data End : Type 0 where
   broken : End
   unmatched : End
@@ -46,14 +46,15 @@ abbrev pub isAbove : Option ℕ → ℕ → Bool
 isAbove none j = false
 isAbove (some m) j = ltb m j
 
--- job j's record is read: it may not be, or matches, or the walk goes on
+-- job j's record is read: it fails, matches, or the walk goes on
 abbrev pub atRecord : Layout → ℕ → ℕ → ℕ → Walk → Walk
 atRecord l x y j onward =
     let e = nth (l .entries) j vacant in
     readThen j (cond (isHeldBy (l .benches) x e) (cond (namesBoth x y (e .names)) (stop (matched j)) onward) (stop broken))
 
 -- bench x's chain read up to a match with bench y, "a number above the first match (that record is not read), or its
--- end"; "only records to be read are tested"
+-- end". "Only records to be read are tested". Numbers that rise up to J are at most J, so the fuel of `chains` is never
+-- used up before the walk has ended
 abbrev pub walk : Layout → ℕ → ℕ → Option ℕ → ℕ → List ℕ → Walk
 walk l x y first before [] = stop unmatched
 walk l x y first before (j ∷ chain) =
@@ -67,7 +68,7 @@ metBy broken = none
 metBy unmatched = none
 metBy (matched j) = some j
 
--- the walk ends at a record that may not be read
+-- the walk ends at a number or record that fails
 abbrev pub isBroken : End → Bool
 isBroken broken = true
 isBroken unmatched = false

@@ -2,8 +2,8 @@
 use Prim.Native.Nat.{ℕ}
 use native.Mathlib.Decide.{decLe}
 use native.Mathlib.Omega.{arith}
-use mathlib.Core.Path.{_≡_, refl, sym, ap, _∙_}
-use mathlib.Core.Bool.{Bool, true, false}
+use mathlib.Core.Path.{_≡_, sym, ap, _∙_}
+use mathlib.Core.Bool.{true, false}
 use mathlib.Core.List.{List, []}
 use lib.Dec.{T}
 use Rattle.spec_lists.proofs.Tests.{true→T, T→true, both}
@@ -13,7 +13,8 @@ use Rattle.spec_calls.specs.Calls.{ask, formCheck, questionConditions, asked, a
 use Rattle.spec_calls.proofs.Refusals.{form-stops}
 use Rattle.spec_calls.proofs.ChainOrder.{sound-outcome}
 use Rattle.table_words.specs.Bytes.{layoutIn}
-use Rattle.table_size.specs.Sizes.{fitIf, sizeIn, SizeOf, BenchIn, SoundTable}
+use Rattle.table_size.proofs.Sizes.{misfit-size}
+use Rattle.table_size.specs.Sizes.{sizeIn, SizeOf, SoundTable}
 use Rattle.table_size.specs.declared.Size.{Size}
 use Rattle.table_size.specs.declared.Sizing.the-variants.{Misfit}
 use Rattle.table_board.specs.BoardView.{Loaded}
@@ -36,11 +37,7 @@ answered t loads (Sound s rising) k =
 
 -- refusal 1 where the sizes do not fit ..
 pub misfit-answered : (t loads : List ℕ) → sizeIn t ≡ Misfit → FormOf t loads (Refused Sizes)
-misfit-answered t loads e = answered t loads (Refused Sizes) (go (fits t) refl e)
-  where
-    go : (z : Bool) → fits t ≡ z → fitIf z ((layoutIn t) .benches) ((layoutIn t) .jobs) ≡ Misfit → Checked t loads (Refused Sizes)
-    go false p q = rw p
-    go true p q = absurd (true→T false cc)
+misfit-answered t loads e = answered t loads (Refused Sizes) (rw (misfit-size t e))
 
 module _ {t : List ℕ} {s : Size} (z : SizeOf t s) where
   -- .. 2 where they do, but the clauses after them do not hold ..

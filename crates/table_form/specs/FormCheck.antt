@@ -28,8 +28,8 @@ pub record FoundSound (t loads : List ℕ) (s : Size) (rising : Bool) : Type 0 w
   pub loaded : Loaded (decode t) loads
   pub bytes : T rising ↔ (t ≡ encode (decode t))
 
--- what each answer says of the table: the first of 1 and 2 that holds, as every call on a table tests first, or that
--- it is sound
+-- what each answer says of the table: the first of 1 and 2 that holds, as all calls but the pair question test first,
+-- or that it is sound
 abbrev pub Checked : List ℕ → List ℕ → Form → Type 0
 Checked t loads (Refused r) = firstHolding (formConditions t) ≡ some (refusalOf r)
 Checked t loads (Sound s rising) = FoundSound t loads s rising

@@ -1,6 +1,6 @@
 // The form check, of any bytes: refusal 1, refusal 2, or sound. One pass over the table, where every chain rises; else
-// the other records, and the chains one after the other. It stands in front of every call but the pair question, and
-// each gets the loads from it.
+// the other records, and the chains one after the other. It stands in front of every call that reads a
+// table, but the pair question, and each gets the loads from it.
 ghost use mathlib.Core.Path.{_≡_};
 ghost use Prim.Native.Nat.{_+_};
 ghost use lib.ListN.{replicate};

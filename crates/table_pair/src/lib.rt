@@ -12,8 +12,8 @@ use table_record_form::Kind;
 use table_size::Size;
 
 // What a record says to the walk that reads it.
-pub enum Step {
-    // It may not be read.
+enum Step {
+    // It fails.
     Broken,
     // It names both benches.
     Match,
@@ -23,7 +23,7 @@ pub enum Step {
 
 // How a walk ends.
 pub enum Walked {
-    // At a record that may not be read.
+    // At a number or record that fails.
     Broken,
     // Without a match: the records read.
     Unmatched(usize),
@@ -55,12 +55,12 @@ fn step_at(t: &[u8], s: Size, x: usize, y: usize, j: usize) -> Step
     }
 }
 
-// Reads bench x's chain up to a match with bench y, a number above `first`, or its end. `first` is the first match, 0
-// for none; the record of a number above it is not read, so that the number is not tested.
-pub fn walk(t: &[u8], s: Size, x: usize, y: usize, first: usize) -> Walked
+// Reads bench x's chain up to a match with bench y, a number above `met`, or its end. `met` is the first match, 0 for
+// none; the record of a number above it is not read, so that the number is not tested.
+pub fn walk(t: &[u8], s: Size, x: usize, y: usize, met: usize) -> Walked
     requires { ⌜ SizeOf (now t) s ⌝ }
     requires { ⌜ BenchIn s x ⌝ }
-    ensures { λ r. ⌜ r ≡ walkOf (walk (layoutIn (now (t .entry))) x y (matchIn first) 0
+    ensures { λ r. ⌜ r ≡ walkOf (walk (layoutIn (now (t .entry))) x y (matchIn met) 0
         (nth (chains (layoutIn (now (t .entry)))) x [])) ⌝ }
 {
     let jobs = s.jobs();
@@ -68,7 +68,7 @@ pub fn walk(t: &[u8], s: Size, x: usize, y: usize, first: usize) -> Walked
     let mut read = 0;
     let mut j = heads::head(t, s, x);
     while j != 0 {
-        if 0 < first && first < j {
+        if 0 < met && met < j {
             return Walked::Unmatched(read);
         }
         if j <= before || jobs < j {

@@ -118,6 +118,14 @@ fit-size t s = go (fits t) refl
         size-of t s (true→T (fits t) p) (ap (λ (r : Size). r .benches) same) (ap (λ (r : Size). r .jobs) same)
     go false p e = absurd (true→T false cc)
 
+-- a table that is refused a size does not fit
+pub misfit-size : (t : List ℕ) → sizeIn t ≡ Misfit → fits t ≡ false
+misfit-size t e = go (fits t) refl e
+  where
+    go : (z : Bool) → fits t ≡ z → fitIf z ((layoutIn t) .benches) ((layoutIn t) .jobs) ≡ Misfit → fits t ≡ false
+    go true h d = absurd (true→T false cc)
+    go false h d = h
+
 -- a table of fewer than 8 bytes has no size ..
 pub short-misfit : (t : List ℕ) → length t < 8 → sizeIn t ≡ Misfit
 unfolding fits layout

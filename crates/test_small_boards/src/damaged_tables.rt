@@ -1,5 +1,5 @@
-// Tables that are not sound, or whose sizes do not fit: every call is refused with 2 or 1, whatever its numbers, and
-// leaves all bytes.
+// Tables that are not sound, or whose sizes do not fit: every call of 01 is refused with 2 or 1, whatever its numbers,
+// and leaves all bytes.
 use crate::board::Board;
 use crate::calls::Call;
 use crate::calls::perform;
@@ -135,7 +135,7 @@ fn questions_refused(board: Board, due: u32, bench: usize) -> bool {
         & (tight_sets::ask(board, bench, bytes::SPACE).number == due)
 }
 
-// Makes every call on a damaged copy of the table.
+// Makes every call of 01 on a damaged copy of the table.
 pub fn every_call(board: Board, seed: u64) -> Outcome {
     let way = random::below(seed, 2, 4);
     let due = if way < 2 { SIZES } else { UNSOUND };

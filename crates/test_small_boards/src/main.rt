@@ -54,7 +54,7 @@ const REPORT: [u8; 453] = *b"# runs
 # wrong starts
 ";
 
-// Makes a drawn call: one that may change the board, a question, or all calls on a damaged copy.
+// Makes a drawn call: one that may change the board, a question, or all calls of 01 on a damaged copy.
 fn call(board: Board, seed: u64) -> Outcome {
     let what = random::below(seed, 1, 16);
     if what < 7 {

@@ -18,8 +18,8 @@ enum-told c = search needs
 enum-known-job : tie.Need-enum-known-job
 enum-known-job c = search needs
 
-add-t13 : tie.Need-add-t13
-add-t13 c =
+add-t14 : tie.Need-add-t14
+add-t14 c =
     let pre = c .before .before .before .before .before .pre in
     let few = matched-few (pre .0) _ _ (pre .1 .0) (pre .1 .1) _ _ (sym (c .before .job .given .1) ∙ c .before .before .before .walk .ensures) in
     omega (arith, few)
@@ -27,17 +27,10 @@ add-t13 c =
 enum-known-more : tie.Need-enum-known-more
 enum-known-more c = search needs
 
--- the second walk has no match, and read so many records
-add-t16 : tie.Need-add-t16
-add-t16 c =
-    let pre = c .before .before .before .before .before .before .pre in
-    let few = unmatched-few (pre .0) _ _ (pre .1 .0) (pre .1 .1) _ (sym (c .before .before .more .given .1) ∙ c .before .before .before .before .walk .ensures) in
-    omega (arith, few)
-
-add-t17 : tie.Need-add-t17
-add-t17 c =
-    let pre = c .before .before .before .before .before .before .pre in
-    let few = unmatched-few (pre .0) _ _ (pre .1 .0) (pre .1 .1) _ (sym (c .before .before .more .given .1) ∙ c .before .before .before .before .walk .ensures) in
+add-records : tie.Need-add-records
+add-records c =
+    let pre = c .before .before .before .before .before .pre in
+    let few = unmatched-few (pre .0) _ _ (pre .1 .0) (pre .1 .1) _ (sym (c .before .more .given .1) ∙ c .before .before .before .walk .ensures) in
     omega (arith, few)
 
 returns : tie.Need-returns
@@ -67,10 +60,9 @@ with-first-spec =
     walk-requires
     enum-told
     enum-known-job
-    add-t13
+    add-t14
     enum-known-more
-    add-t16
-    add-t17
+    add-records
     returns
     returns-2
     returns-3

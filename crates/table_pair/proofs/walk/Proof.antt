@@ -10,10 +10,10 @@ use Rattle.table_pair.proofs.walk.Statement.{statement}
 use Rattle.table_pair.proofs.walk.Tie as tie
 
 abbrev Inv-loop : tie.InvT-loop
-Inv-loop t s x y first jobs before₀ read₀ j₀ before read j = Along t s x y first before read j
+Inv-loop t s x y met jobs before₀ read₀ j₀ before read j = Along t s x y met before read j
 
 abbrev μ-loop : tie.MeasureT-loop
-μ-loop t s x y first jobs before₀ read₀ j₀ before read j = jobs - before
+μ-loop t s x y met jobs before₀ read₀ j₀ before read j = jobs - before
 
 jobs-requires : tie.Need-jobs-requires Inv-loop μ-loop
 jobs-requires c κs = search needs
@@ -24,14 +24,14 @@ head-requires c κs = search needs
 loop-holds : tie.Need-loop-holds Inv-loop μ-loop
 loop-holds c =
     let start = c .before .before .before in
-    along-start (start .args .y) (start .args .first) (start .pre .0) (c .head .ensures)
+    along-start (start .args .y) (start .args .met) (start .pre .0) (c .head .ensures)
 
 returns : tie.Need-returns Inv-loop μ-loop
 returns c =
     along-above (c .before .before .before .before .before .before .before .pre .0) (c .before .before .before .loop .inv) (omega arith) (omega (arith, ltb-true))
 
 -- the number is not above the first match, if there is one
-limit : (c : tie.Joined1 Inv-loop μ-loop) → let first = c .before .before .before .before .before .before .args .first in 0 < first → c .before .before .loop .j ≤ first
+limit : (c : tie.Joined1 Inv-loop μ-loop) → let met = c .before .before .before .before .before .before .args .met in 0 < met → c .before .before .loop .j ≤ met
 limit c m = ⊎-elim (λ w. omega (arith, ltb-false)) (λ w. omega arith) (c .if1 .came)
 
 returns-2 : tie.Need-returns-2 Inv-loop μ-loop
@@ -44,7 +44,7 @@ add-read : tie.Need-add-read Inv-loop μ-loop
 add-read c = search needs
 
 -- job j's record is read
-to-read : (c : tie.Else4 Inv-loop μ-loop) → let l = c .before .before .before .before .loop in let a = c .before .before .before .before .before .before .before .before .args in ToRead (a .s) (a .first) (l .before) (l .j)
+to-read : (c : tie.Else4 Inv-loop μ-loop) → let l = c .before .before .before .before .loop in let a = c .before .before .before .before .before .before .before .before .args in ToRead (a .s) (a .met) (l .before) (l .j)
 to-read c = record { limit = limit (c .before .before); after = omega arith; most = omega (arith, ltb-false) }
 
 step-at-requires : tie.Need-step-at-requires Inv-loop μ-loop
