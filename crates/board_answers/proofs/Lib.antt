@@ -1,2 +1,3 @@
--- Refusals of a table's form.
+-- Answers that are no refusals; refusals of a table's form.
+pub mod Accepted
 pub mod Formal

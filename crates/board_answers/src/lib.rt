@@ -104,20 +104,7 @@ impl Answer {
     {
         match self {
             Answer::Refused(r) => r.number(),
-            Answer::Blanked => 0,
-            Answer::Arrived(_, _, _) => 0,
-            Answer::Closed(_, _) => 0,
-            Answer::Load(_) => 0,
-            Answer::Heaviest(_) => 0,
-            Answer::TightSet(_, _) => 0,
-            Answer::Sound => 0,
-            Answer::Level => 0,
-            Answer::NotLevel => 0,
-            Answer::Levelled(_) => 0,
-            Answer::Stopped(_) => 0,
-            Answer::Sheet(_) => 0,
-            Answer::Between(_, _) => 0,
-            Answer::NoneBetween(_) => 0,
+            _ => 0,
         }
     }
 

@@ -3,7 +3,6 @@ use Prim.Native.Nat.{ℕ, _+_, _-_, _≤_}
 use native.Mathlib.Omega.{arith}
 use mathlib.Core.Path.{_≡_, refl, sym, ap, subst, _∙_}
 use mathlib.Core.Bool.{Bool, true, false, not, _&&_, false≢true}
-use mathlib.Core.Logic.{inl, inr}
 use mathlib.Core.List.{List, [], _∷_}
 use lib.Dec.{T, leb}
 use mir.Val.{Val}
@@ -11,7 +10,7 @@ use denote.Laws.{Is}
 use denote.Struct.Laws as SL
 use types.Run.{OneOf}
 use denote.Enum.Declared.{tagOf}
-use Rattle.spec_lists.specs.Lists.{member, In}
+use Rattle.spec_lists.specs.Lists.{member}
 use Rattle.spec_lists.proofs.Tests.{tests-same, not-false, not→false, true→T, T→true, T-leb, leb-T}
 use Rattle.spec_lists.proofs.NumberLists.{in-member}
 use Rattle.spec_calls.specs.Tally.{mostCount, countsFit, raised, noted}
@@ -19,6 +18,7 @@ use Rattle.spec_calls.proofs.Tally.{Fits32, counts-fit, isChange, other-noted}
 use Rattle.board_answers.specs.Answered.{answerOf}
 use Rattle.board_answers.specs.declared.Answer.{Answer}
 use Rattle.board_answers.proofs.Answer as told
+use Rattle.board_answers.proofs.Accepted.{of-arm}
 use Rattle.board_answers.specs.declared.Answer.the-variants.{Refused, Blanked, Arrived, Closed, Load, Heaviest, TightSet, Sound, Level, NotLevel, Levelled, Stopped, Sheet, Between, NoneBetween}
 use Rattle.board_tally.proofs.Tally as tally-type
 use Rattle.board_tally.proofs.Tally.Laws as tally-laws
@@ -75,13 +75,6 @@ module _ (t : Tally) (added : Added) (fit : Bool) (e : fit ≡ countsFit (more t
     full-noted h =
         let f : countsFit (more t added) ≡ false = sym e ∙ not→false fit (true→T (not fit) h) in
         record { tally = rw (n, f); refusal = rw (n, f) }
-
--- a tag of an arm is in its list
-of-arm : (x : ℕ) (ks : List ℕ) → OneOf ks x → In x ks
-of-arm x [] h = absurd h
-of-arm x (k ∷ []) e = inl e
-of-arm x (k ∷ l ∷ ks) (inl e) = inl e
-of-arm x (k ∷ l ∷ ks) (inr h) = inr (of-arm x (l ∷ ks) h)
 
 -- the tags of all answers but an arrival's and a closing's
 abbrev others : List ℕ

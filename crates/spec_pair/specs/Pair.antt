@@ -53,7 +53,7 @@ atRecord l x y j onward =
     readThen j (cond (isHeldBy (l .benches) x e) (cond (namesBoth x y (e .names)) (stop (matched j)) onward) (stop broken))
 
 -- bench x's chain read up to a match with bench y, "a number above the first match (that record is not read), or its
--- end". "Only records to be read are tested". Numbers that rise up to J are at most J, so the fuel of `chains` is never
+-- end". "Only records to be read are tested". At most J numbers rise from 1 to J, so the fuel of `chains` is never
 -- used up before the walk has ended
 abbrev pub walk : Layout → ℕ → ℕ → Option ℕ → ℕ → List ℕ → Walk
 walk l x y first before [] = stop unmatched
