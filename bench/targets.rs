@@ -58,7 +58,7 @@ const TARGETS: [Target; 29] = [
     Target("closing", EVERY, LARGEST, CHECKS, 4.0),
     Target("levelling", EVERY, LARGEST, CHECKS, 4.0),
     Target("sheet", EVERY, LARGEST, CHECKS, 5.0),
-    Target("between, loads 8 and 8", EVERY, LARGEST, CHECKS, 0.05),
+    Target("between, loads 8, 8", EVERY, LARGEST, CHECKS, 0.05),
 ];
 
 /// The most that the greatest time of the same questions for two benches may be of the least, on tables that differ in J.
@@ -110,7 +110,7 @@ fn judged_pairs(same: &Row) -> (bool, String) {
     let slowest = (0..PAIR_JOBS.len()).max_by(|i, j| time(i).total_cmp(&time(j))).unwrap();
     let (missed, end) = verdict(&same.figure(PAIR_JOBS.len()), WHATEVER_J, &format!("J = {}", PAIR_JOBS[slowest]));
     let jobs = PAIR_JOBS.map(|jobs| jobs.to_string()).join(", ");
-    (missed, format!("| between, loads 8 and 8 | the same benches | 500 | {jobs} | {WHATEVER_J:?} of the least time | {end}"))
+    (missed, format!("| between, loads 8, 8 | the same benches | 500 | {jobs} | {WHATEVER_J:?} of the least time | {end}"))
 }
 
 /// Prints each target and each goal at each of its sizes, the missed ones first. `same` has the times of the same questions for two

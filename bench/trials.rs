@@ -270,7 +270,7 @@ fn pair(call: Call, t: &[u8]) -> String {
     };
     let [x, y] = [first, second].map(|bench| boards::loads(t)[bench as usize - 1]);
     let [job, ..] = INDEPENDENT(call, &mut t.to_vec(), &mut []).unwrap();
-    format!(", loads {x} and {y}, {}", if job == 0 { "no job" } else { "a job" })
+    format!(", loads {x}, {y}, {}", if job == 0 { "no job" } else { "a job" })
 }
 
 /// Gives the cells that tell what was timed: the call, the pair that it is for and whether it is refused, the board, B and J.

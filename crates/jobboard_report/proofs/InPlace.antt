@@ -1,54 +1,61 @@
 -- Values written one by one are in place of the lent numbers.
-use Prim.Native.Nat.{ℕ, zero, suc, _<_, _≤_}
-use native.Mathlib.Omega.{arith}
-use mathlib.Core.Path.{_≡_, refl, ap, subst, _∙_}
+use Prim.Native.Nat.{ℕ, suc, _<_, _≤_}
+use mathlib.Core.Path.{_≡_, refl, ap, _∙_}
 use mathlib.Core.List.{List, [], _∷_, _++_}
-use lib.ListN.{length, getD, drop}
+use lib.ListN.{length, drop}
+use borrow.Author.Tests.{lt-ltb, le-ltb}
 use Rattle.spec_lists.specs.Lists.{nth, Each}
 use Rattle.spec_calls.specs.Answers.{Answer, inNumbers}
 use Rattle.board_answers.specs.Answered.{returned}
-use Rattle.jobboard_report.specs.Report.{inPlace, Delivered}
+use Rattle.jobboard_report.specs.Report.{inPlace, placed, writtenIn, Written, Fitting, Delivered}
 
--- what stands in a list with m for "none" is an element if it is below m ..
-element-below : (m : ℕ) (l : List ℕ) (i d : ℕ) → getD l i m < m → getD l i m ≡ getD l i d
-element-below m [] i d h = absurd (omega (arith, h))
-element-below m (n ∷ l) zero d h = refl
-element-below m (n ∷ l) (suc i) d h = element-below m l i d h
+-- a value that fits is in place, and else the lent number stays
+placed-fits : (v n : ℕ) → v < 4294967296 → v ≡ placed v n
+placed-fits v n h = rw (lt-ltb v 4294967296 h)
 
--- .. and none if it is not, where all elements are
-none-from : (m : ℕ) (l : List ℕ) (i d : ℕ) → Each (λ n. n < m) l → m ≤ getD l i m → d ≡ getD l i d
-none-from m [] i d each h = refl
-none-from m (n ∷ l) zero d each h = absurd (omega (arith, each .0, h))
-none-from m (n ∷ l) (suc i) d each h = none-from m l i d (each .1) h
+placed-stays : (v n : ℕ) → 4294967296 ≤ v → n ≡ placed v n
+placed-stays v n h = rw (le-ltb v 4294967296 h)
 
--- what was got with m for "none" is value k if it is below m, and else the lent number stays
-module _ {vs values : List ℕ} (told : vs ≡ values) (m lent : ℕ) {r : ℕ} where
-  pub value-got : (k : ℕ) → r ≡ nth vs k m → r < m → r ≡ nth values k lent
-  value-got zero got h = absurd (omega (arith, got, h))
-  value-got (suc i) got h =
-      let e = got ∙ ap (λ l. getD l i m) told in
-      e ∙ element-below m values i lent (subst (λ (n : ℕ). n < m) e h)
+-- so of value k as it was got, with a number that does not fit for "none"
+module _ {vs values : List ℕ} (told : vs ≡ values) (lent k : ℕ) {r : ℕ} (got : r ≡ nth vs k 4294967296) where
+  value-k : r ≡ nth values k 4294967296
+  value-k = got ∙ ap (λ l. nth l k 4294967296) told
 
-  pub value-none : Each (λ n. n < m) values → (k : ℕ) → r ≡ nth vs k m → m ≤ r → lent ≡ nth values k lent
-  value-none each zero got h = refl
-  value-none each (suc i) got h =
-      let e = got ∙ ap (λ l. getD l i m) told in
-      none-from m values i lent each (subst (λ (n : ℕ). m ≤ n) e h)
+  pub value-got : r < 4294967296 → r ≡ placed (nth values k 4294967296) lent
+  value-got h = placed-fits r lent h ∙ ap (λ v. placed v lent) value-k
+
+  pub value-none : 4294967296 ≤ r → lent ≡ placed (nth values k 4294967296) lent
+  value-none h = placed-stays r lent h ∙ ap (λ v. placed v lent) value-k
 
 -- one lent number more gets the next value
-in-place-next : (values lent : List ℕ) (n : ℕ) → inPlace values (lent ++ (n ∷ [])) ≡ inPlace values lent ++ (nth values (suc (length lent)) n ∷ [])
-in-place-next [] [] n = refl
-in-place-next (v ∷ values) [] n = refl
-in-place-next [] (m ∷ lent) n = refl
-in-place-next (v ∷ values) (m ∷ lent) n = ap (λ l. v ∷ l) (in-place-next values lent n)
+written-more : (values lent : List ℕ) (n : ℕ) → writtenIn values (lent ++ (n ∷ [])) ≡ writtenIn values lent ++ (placed (nth values (suc (length lent)) 4294967296) n ∷ [])
+written-more [] [] n = refl
+written-more (v ∷ values) [] n = refl
+written-more [] (m ∷ lent) n = refl
+written-more (v ∷ values) (m ∷ lent) n = ap (λ l. placed v m ∷ l) (written-more values lent n)
 
 -- an answer's number tells all where no number is lent ..
-pub delivered-none : {a : Answer} {r : ℕ} → r ≡ returned a → Delivered a r [] []
-delivered-none e = record { number = e; values = refl }
+pub written-none : {a : Answer} {r : ℕ} → r ≡ returned a → Written a r [] []
+written-none e = record { number = e; values = refl }
 
 -- .. and with one lent number more its next value is written
-pub delivered-next : {a : Answer} {r : ℕ} {lent left : List ℕ} (n : ℕ) {m : ℕ} → Delivered a r lent left → m ≡ nth (drop 1 (inNumbers a)) (suc (length lent)) n → Delivered a r (lent ++ (n ∷ [])) (left ++ (m ∷ []))
-delivered-next {a} {lent} {left} n d e =
+pub written-next : {a : Answer} {r : ℕ} {lent left : List ℕ} (n : ℕ) {m : ℕ} → Written a r lent left → m ≡ placed (nth (drop 1 (inNumbers a)) (suc (length lent)) 4294967296) n → Written a r (lent ++ (n ∷ [])) (left ++ (m ∷ []))
+written-next {a} {lent} {left} n d e =
     let here = d .values in
-    let next = in-place-next (drop 1 (inNumbers a)) lent n in
+    let next = written-more (drop 1 (inNumbers a)) lent n in
     record { number = d .number; values = cc }
+
+-- values that all fit are all in place
+fit-in-place : (values lent : List ℕ) → Each (λ v. v < 4294967296) values → writtenIn values lent ≡ inPlace values lent
+fit-in-place [] [] f = refl
+fit-in-place (v ∷ values) [] f = refl
+fit-in-place [] (n ∷ lent) f = refl
+fit-in-place (v ∷ values) (n ∷ lent) f =
+    let first = placed-fits v n (f .0) in
+    let rest = fit-in-place values lent (f .1) in
+    cc
+
+-- so an answer whose values fit is delivered
+pub delivered : {a : Answer} {r : ℕ} {lent left : List ℕ} → Fitting a → Written a r lent left → Delivered a r lent left
+delivered {a} {lent} f w =
+    record { number = w .number; values = w .values ∙ fit-in-place (drop 1 (inNumbers a)) lent f }

@@ -1,5 +1,5 @@
 -- The job and the records read.
-use Rattle.jobboard.proofs.Reports.{answer-fits, reported}
+use Rattle.jobboard.proofs.Reports.{reported-values}
 use borrow.Author.Needs.{needs}
 use Rattle.jobboard.proofs.jobboard_between.Statement.{statement}
 use Rattle.jobboard.proofs.jobboard_between.Tie as tie
@@ -8,10 +8,10 @@ between-requires : tie.Need-between-requires
 between-requires c κs = search needs
 
 two-requires : tie.Need-two-requires
-two-requires c κs = answer-fits _ _ (c .before .before .between .ensures) tt
+two-requires c κs = search needs
 
 returns : tie.Need-returns
-returns c = reported (c .before .before .before .between .ensures) (c .two .ensures)
+returns c = reported-values _ _ (c .before .before .before .between .ensures) tt (c .two .ensures)
 
 pub jobboard-between-spec : {M : Type 1} → statement M
 jobboard-between-spec = tie.close (tie.spec between-requires two-requires returns)

@@ -1,5 +1,5 @@
 -- The bench that fell and the moved jobs.
-use Rattle.jobboard.proofs.Reports.{answer-fits, reported}
+use Rattle.jobboard.proofs.Reports.{reported-values}
 use borrow.Author.Needs.{needs}
 use Rattle.jobboard.proofs.jobboard_closing.Statement.{statement}
 use Rattle.jobboard.proofs.jobboard_closing.Tie as tie
@@ -8,13 +8,13 @@ closing-requires : tie.Need-closing-requires
 closing-requires c κs = search needs
 
 two-requires : tie.Need-two-requires
-two-requires c κs = answer-fits _ _ (c .before .before .before .before .closing .ensures) tt
+two-requires c κs = search needs
 
 same-length : tie.Need-same-length
 same-length c = search needs
 
 returns : tie.Need-returns
-returns c = reported (c .before .before .before .before .before .closing .ensures) (c .two .ensures)
+returns c = reported-values _ _ (c .before .before .before .before .before .closing .ensures) tt (c .two .ensures)
 
 pub jobboard-closing-spec : {M : Type 1} → statement M
 jobboard-closing-spec = tie.close (tie.spec closing-requires two-requires same-length returns)

@@ -17,13 +17,13 @@ returns : tie.Need-returns
 returns c =
     let called = c .before .before in
     let start = called .before in
-    value-got (called .values .ensures) 4294967296 (start .args .lent .now) (start .args .k) (c .before .get .ensures) (c .if1 .taken)
+    value-got (called .values .ensures) (start .args .lent .now) (start .args .k) (c .before .get .ensures) (c .if1 .taken)
 
 returns-2 : tie.Need-returns-2
 returns-2 c =
     let called = c .before .before in
     let start = called .before in
-    value-none (called .values .ensures) 4294967296 (start .args .lent .now) (start .pre) (start .args .k) (c .before .get .ensures) (c .if1 .left)
+    value-none (called .values .ensures) (start .args .lent .now) (start .args .k) (c .before .get .ensures) (c .if1 .left)
 
 pub write-spec : {M : Type 1} → statement M
 write-spec = tie.close (tie.spec values-requires get-requires cast-lent returns returns-2)
