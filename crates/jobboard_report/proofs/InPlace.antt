@@ -7,39 +7,39 @@ use borrow.Author.Tests.{lt-ltb, le-ltb}
 use Rattle.spec_lists.specs.Lists.{nth, Each}
 use Rattle.spec_calls.specs.Answers.{Answer, inNumbers}
 use Rattle.board_answers.specs.Answered.{returned}
-use Rattle.jobboard_report.specs.Report.{inPlace, placed, writtenIn, Written, Fitting, Delivered}
+use Rattle.jobboard_report.specs.Report.{inPlace, writtenOver, writtenIn, Written, Fitting, Delivered}
 
 -- a value that fits is in place, and else the lent number stays
-placed-fits : (v n : ℕ) → v < 4294967296 → v ≡ placed v n
-placed-fits v n h = rw (lt-ltb v 4294967296 h)
+fits-written : (v n : ℕ) → v < 4294967296 → v ≡ writtenOver v n
+fits-written v n h = rw (lt-ltb v 4294967296 h)
 
-placed-stays : (v n : ℕ) → 4294967296 ≤ v → n ≡ placed v n
-placed-stays v n h = rw (le-ltb v 4294967296 h)
+stays-written : (v n : ℕ) → 4294967296 ≤ v → n ≡ writtenOver v n
+stays-written v n h = rw (le-ltb v 4294967296 h)
 
 -- so of value k as it was got, with a number that does not fit for "none"
 module _ {vs values : List ℕ} (told : vs ≡ values) (lent k : ℕ) {r : ℕ} (got : r ≡ nth vs k 4294967296) where
   value-k : r ≡ nth values k 4294967296
   value-k = got ∙ ap (λ l. nth l k 4294967296) told
 
-  pub value-got : r < 4294967296 → r ≡ placed (nth values k 4294967296) lent
-  value-got h = placed-fits r lent h ∙ ap (λ v. placed v lent) value-k
+  pub value-got : r < 4294967296 → r ≡ writtenOver (nth values k 4294967296) lent
+  value-got h = fits-written r lent h ∙ ap (λ v. writtenOver v lent) value-k
 
-  pub value-none : 4294967296 ≤ r → lent ≡ placed (nth values k 4294967296) lent
-  value-none h = placed-stays r lent h ∙ ap (λ v. placed v lent) value-k
+  pub value-none : 4294967296 ≤ r → lent ≡ writtenOver (nth values k 4294967296) lent
+  value-none h = stays-written r lent h ∙ ap (λ v. writtenOver v lent) value-k
 
 -- one lent number more gets the next value
-written-more : (values lent : List ℕ) (n : ℕ) → writtenIn values (lent ++ (n ∷ [])) ≡ writtenIn values lent ++ (placed (nth values (suc (length lent)) 4294967296) n ∷ [])
+written-more : (values lent : List ℕ) (n : ℕ) → writtenIn values (lent ++ (n ∷ [])) ≡ writtenIn values lent ++ (writtenOver (nth values (suc (length lent)) 4294967296) n ∷ [])
 written-more [] [] n = refl
 written-more (v ∷ values) [] n = refl
 written-more [] (m ∷ lent) n = refl
-written-more (v ∷ values) (m ∷ lent) n = ap (λ l. placed v m ∷ l) (written-more values lent n)
+written-more (v ∷ values) (m ∷ lent) n = ap (λ l. writtenOver v m ∷ l) (written-more values lent n)
 
 -- an answer's number tells all where no number is lent ..
 pub written-none : {a : Answer} {r : ℕ} → r ≡ returned a → Written a r [] []
 written-none e = record { number = e; values = refl }
 
 -- .. and with one lent number more its next value is written
-pub written-next : {a : Answer} {r : ℕ} {lent left : List ℕ} (n : ℕ) {m : ℕ} → Written a r lent left → m ≡ placed (nth (drop 1 (inNumbers a)) (suc (length lent)) 4294967296) n → Written a r (lent ++ (n ∷ [])) (left ++ (m ∷ []))
+pub written-next : {a : Answer} {r : ℕ} {lent left : List ℕ} (n : ℕ) {m : ℕ} → Written a r lent left → m ≡ writtenOver (nth (drop 1 (inNumbers a)) (suc (length lent)) 4294967296) n → Written a r (lent ++ (n ∷ [])) (left ++ (m ∷ []))
 written-next {a} {lent} {left} n d e =
     let here = d .values in
     let next = written-more (drop 1 (inNumbers a)) lent n in
@@ -51,7 +51,7 @@ fit-in-place [] [] f = refl
 fit-in-place (v ∷ values) [] f = refl
 fit-in-place [] (n ∷ lent) f = refl
 fit-in-place (v ∷ values) (n ∷ lent) f =
-    let first = placed-fits v n (f .0) in
+    let first = fits-written v n (f .0) in
     let rest = fit-in-place values lent (f .1) in
     cc
 

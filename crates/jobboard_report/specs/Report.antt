@@ -19,15 +19,15 @@ inPlace (v ∷ values) (n ∷ lent) = v ∷ inPlace values lent
 abbrev pub results : Answer → List ℕ → List ℕ
 results a lent = inPlace (drop 1 (inNumbers a)) lent
 
--- a value in place of a lent number; one that does not fit 32 bits has no room there, and the number stays
-abbrev pub placed : ℕ → ℕ → ℕ
-placed v n = cond (ltb v 4294967296) v n
+-- a value written over a lent number; one that does not fit 32 bits has no room there, and the number stays
+abbrev pub writtenOver : ℕ → ℕ → ℕ
+writtenOver v n = cond (ltb v 4294967296) v n
 
 -- the values in place of the lent numbers, as far as they fit
 abbrev pub writtenIn : List ℕ → List ℕ → List ℕ
 writtenIn values [] = []
 writtenIn [] (n ∷ lent) = n ∷ lent
-writtenIn (v ∷ values) (n ∷ lent) = placed v n ∷ writtenIn values lent
+writtenIn (v ∷ values) (n ∷ lent) = writtenOver v n ∷ writtenIn values lent
 
 -- r is the answer's number, and its values are in the lent numbers, which are now `left`, as far as they fit
 pub record Written (a : Answer) (r : ℕ) (lent left : List ℕ) : Type 0 where

@@ -7,7 +7,7 @@ ghost use lib.ListN.{drop};
 ghost use Rattle.spec_lists.specs.Lists.{nth};
 ghost use Rattle.spec_calls.specs.Answers.{inNumbers};
 ghost use Rattle.board_answers.specs.Answered.{answerOf};
-ghost use Rattle.jobboard_report.specs.Report.{placed, Written};
+ghost use Rattle.jobboard_report.specs.Report.{writtenOver, Written};
 use board_answers::Answer;
 
 // Marks that there is no value; a value that is not below it has no room in a lent number.
@@ -15,7 +15,7 @@ const NO_VALUE: usize = 4294967296;
 
 // Writes value k, counted from 1, into the lent number, which is never read and stays where there is none.
 fn write(a: Answer, k: usize, lent: &mut u32)
-    ensures { λ _. ⌜ now (lent .exit) ≡ placed (nth (drop 1 (inNumbers (answerOf a))) k 4294967296)
+    ensures { λ _. ⌜ now (lent .exit) ≡ writtenOver (nth (drop 1 (inNumbers (answerOf a))) k 4294967296)
         (now (lent .entry)) ⌝ }
 {
     let value = a.values().get(k, NO_VALUE);
