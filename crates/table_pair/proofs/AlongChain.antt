@@ -10,7 +10,7 @@ use lib.ListN.{length}
 use borrow.Author.Tests.{lt-ltb, le-ltb, ltb-true}
 use Rattle.spec_lists.specs.Lists.{within, nth}
 use Rattle.spec_lists.proofs.Tests.{true→T, T→true, never→false, both, left, right, within-high, within-both}
-use Rattle.spec_lists.proofs.Elements.{nth-map}
+use Rattle.spec_table.proofs.Sound.{chain-from}
 use Rattle.spec_table.specs.Table.{Entry, Layout, vacant, follow, chains}
 use Rattle.spec_pair.specs.Pair as paper
 use Rattle.table_words.specs.Bytes.{layoutIn}
@@ -134,7 +134,7 @@ along-start {t} {s} {x} {j} y first size h =
       most = omega arith;
       room = l .jobs;
       all = omega (arith, size .jobs);
-      rest = none-before (w (f j)) ∙ ap (λ (c : List ℕ). walkOf (w c)) (ap f (h .head) ∙ sym (nth-map f (l .heads) x 0));
+      rest = none-before (w (f j)) ∙ ap (λ (c : List ℕ). walkOf (w c)) (ap f (h .head) ∙ sym (chain-from l x));
     }
 
 -- job j's record is to be read after that of the job `before`, and may be
