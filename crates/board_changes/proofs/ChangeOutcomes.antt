@@ -21,10 +21,11 @@ use Rattle.table_size.specs.Sizes.{JobIn, SoundTable}
 use Rattle.table_size.proofs.Sizes.{job-in, job-of-board, bench-of-board}
 use Rattle.table_board.specs.BoardView.{HoldsBoard}
 use Rattle.table_board.proofs.RecordsAsBoard.{sound-holds-board}
-use Rattle.sharing_paths.specs.declared.Flip.{Flip}
-use Rattle.sharing_changes.specs.declared.Arrival.{Arrival}
+use Rattle.sharing_paths.specs.declared.FoundPath.{FoundPath}
+use Rattle.sharing_arrival.specs.declared.Arrival.{Arrival}
 use Rattle.sharing_levelling.specs.declared.Levelling.{Levelling}
-use Rattle.sharing_changes.specs.ChangeResults.{ArrivalOf, ClosingOf}
+use Rattle.sharing_arrival.specs.ArrivalResult.{ArrivalOf}
+use Rattle.sharing_closing.specs.ClosingResult.{ClosingOf}
 use Rattle.sharing_levelling.specs.LevellingResult.{LevellingOf}
 use Rattle.board_answers.specs.Answered.{answerOf, Leaves}
 use Rattle.board_answers.specs.declared.Answer.{Answer}
@@ -119,7 +120,7 @@ module _ {t : List ℕ} {s : Size} (z : SoundTable t s) where
       rw e (record { answer = λ i. arrived (a .holder i) (a .rose i) (a .moved i); bytes = a .bytes; lent = refl })
 
   -- an accepted closing
-  pub closing-left : {u : List ℕ} (j : ℕ) {r : Flip} → T (stands (decode t) j) → ClosingOf t u j r → Leaves (outcome (closing (record { job = j })) t) (Closed (r .bench) (r .jobs)) u []
+  pub closing-left : {u : List ℕ} (j : ℕ) {r : FoundPath} → T (stands (decode t) j) → ClosingOf t u j r → Leaves (outcome (closing (record { job = j })) t) (Closed (r .bench) (r .jobs)) u []
   unfolding closingOutcome
   closing-left j p a =
       let e = (closing-accepted t (z .sound) (record { job = j }) ((closing-exact t (z .sound) (record { job = j })) .1 p)) .is in

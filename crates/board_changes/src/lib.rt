@@ -1,9 +1,7 @@
 // The calls that write a table: blanking, arrival, closing, levelling.
 ghost use mathlib.Core.List.{[], _∷_};
 ghost use Rattle.spec_calls.specs.Calls.{blanking, outcome, arrival, closing, levelling};
-ghost use Rattle.spec_table.specs.Table.{decode};
-ghost use Rattle.table_size.specs.Sizes.{SoundTable};
-ghost use Rattle.table_board.specs.BoardView.{Loaded};
+ghost use Rattle.table_form.specs.FormCheck.{FoundSound};
 ghost use Rattle.board_answers.specs.Answered.{Leaves};
 use board_answers::Answer;
 use graph_lists::scratch;
@@ -27,13 +25,13 @@ pub fn blank(t: &mut [u8], benches: usize, jobs: usize) -> Answer
 fn arrival_on(
     t: &mut [u8],
     s: Size,
+    rising: bool,
     loads: &mut [u16; Size::MOST_BENCHES + 1],
     job: usize,
     first: usize,
     second: usize,
 ) -> Answer
-    requires { ⌜ SoundTable (now t) s ⌝ }
-    requires { ⌜ Loaded (decode (now t)) (now loads) ⌝ }
+    requires { ⌜ FoundSound (now t) (now loads) s rising ⌝ }
     ensures { λ r. ⌜ Leaves (outcome (arrival (record { job = job; given = first ∷ second ∷ [] })) (now (t .entry))) r
         (now (t .exit)) [] ⌝ }
 {
@@ -46,7 +44,7 @@ fn arrival_on(
     if jobs::stands(t, s, job) {
         return Answer::Refused(Refusal::AlreadyStanding);
     }
-    let a = sharing_changes::arrive(t, s, loads, job, first, second);
+    let a = sharing_arrival::arrive(t, s, rising, loads, job, first, second);
     Answer::Arrived(a.holder, a.rose, a.moved)
 }
 
@@ -58,7 +56,7 @@ pub fn arrival(t: &mut [u8], job: usize, first: usize, second: usize) -> Answer
     let mut loads = scratch::benches();
     match table_form::check(t, &mut loads) {
         Form::Refused(r) => Answer::Refused(r),
-        Form::Sound(s, _) => arrival_on(t, s, &mut loads, job, first, second),
+        Form::Sound(s, rising) => arrival_on(t, s, rising, &mut loads, job, first, second),
     }
 }
 
@@ -66,11 +64,11 @@ pub fn arrival(t: &mut [u8], job: usize, first: usize, second: usize) -> Answer
 fn closing_on(
     t: &mut [u8],
     s: Size,
+    rising: bool,
     loads: &mut [u16; Size::MOST_BENCHES + 1],
     job: usize,
 ) -> Answer
-    requires { ⌜ SoundTable (now t) s ⌝ }
-    requires { ⌜ Loaded (decode (now t)) (now loads) ⌝ }
+    requires { ⌜ FoundSound (now t) (now loads) s rising ⌝ }
     ensures { λ r. ⌜ Leaves (outcome (closing (record { job = job })) (now (t .entry))) r (now (t .exit)) [] ⌝ }
 {
     if !s.has_job(job) {
@@ -79,7 +77,7 @@ fn closing_on(
     if !jobs::stands(t, s, job) {
         return Answer::Refused(Refusal::NotStanding);
     }
-    let c = sharing_changes::close(t, s, loads, job);
+    let c = sharing_closing::close(t, s, rising, loads, job);
     Answer::Closed(c.bench, c.jobs)
 }
 
@@ -90,7 +88,7 @@ pub fn closing(t: &mut [u8], job: usize) -> Answer
     let mut loads = scratch::benches();
     match table_form::check(t, &mut loads) {
         Form::Refused(r) => Answer::Refused(r),
-        Form::Sound(s, _) => closing_on(t, s, &mut loads, job),
+        Form::Sound(s, rising) => closing_on(t, s, rising, &mut loads, job),
     }
 }
 
@@ -101,8 +99,8 @@ pub fn levelling(t: &mut [u8], allowance: u32) -> Answer
     let mut loads = scratch::benches();
     match table_form::check(t, &mut loads) {
         Form::Refused(r) => Answer::Refused(r),
-        Form::Sound(s, _) => {
-            let l = sharing_levelling::relevel(t, s, &mut loads, allowance);
+        Form::Sound(s, rising) => {
+            let l = sharing_levelling::relevel(t, s, rising, &mut loads, allowance);
             if l.level {
                 Answer::Levelled(l.paths)
             } else {

@@ -29,8 +29,8 @@ pub fn level_check(t: &[u8]) -> Answer
     let mut loads = scratch::benches();
     match table_form::check(t, &mut loads) {
         Form::Refused(r) => Answer::Refused(r),
-        Form::Sound(s, _) => {
-            if sharing_levelling::is_level(t, s, &loads) {
+        Form::Sound(s, rising) => {
+            if sharing_levelling::is_level(t, s, rising, &loads) {
                 Answer::Level
             } else {
                 Answer::NotLevel

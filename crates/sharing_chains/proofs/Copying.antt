@@ -7,6 +7,7 @@ use mathlib.Core.Logic.{_≢_}
 use mathlib.Core.List.{List}
 use lib.Dec.{T}
 use lib.ListN.{length, set, length-set}
+use lib.Seq.{getD-set-same, getD-set-other}
 use Rattle.spec_lists.specs.Lists.{within}
 use Rattle.spec_table.specs.Board.{stands, holderOf}
 use Rattle.spec_table.specs.Table.{mostJobs, decode}
@@ -19,9 +20,15 @@ use Rattle.table_board.proofs.RecordsAsBoard.{stands-job}
 use Rattle.table_chains.proofs.ChainView.{held-stands}
 use Rattle.table_chains.specs.Chains.{storedNext}
 use Rattle.graph_lists.specs.Arrays.{at}
-use Rattle.sharing_arcs.specs.Arcs.{otherOf}
-use Rattle.sharing_arcs.proofs.AsArcs.{at-more}
+use Rattle.sharing_steps.specs.Others.{otherOf}
 use Rattle.sharing_chains.specs.StoredChains.{StoredJobs}
+
+-- one more value, written at its place
+at-more : (f : ℕ → ℕ) (l : List ℕ) (n x : ℕ) → n + 1 < length l → x ≡ f (n + 1) → (j : ℕ) → (T (within 1 n j) → at l j ≡ f j) → T (within 1 (n + 1) j) → at (set l (n + 1) x) j ≡ f j
+at-more f l n x h e j g w = elim (ℕ-discrete j (n + 1)) [
+  | yes q ↦ rw q (getD-set-same l (n + 1) x 0 h ∙ e)
+  | no d ↦ getD-set-other l (n + 1) j x 0 d ∙ g (within-both 1 n j (within-low 1 (n + 1) j w) (omega (arith, within-high 1 (n + 1) j w)))
+]
 
 -- what the holder tells: a job that a bench holds stands ..
 pub found-stands : {t : List ℕ} {s : Size} {j x : ℕ} → HoldsBoard t s → HolderOf t s j x → x ≢ 0 → T (stands (decode t) j)

@@ -8,7 +8,7 @@ use Rattle.spec_table.specs.Table.{decode}
 use Rattle.table_size.specs.declared.Size.{Size}
 use Rattle.table_chains.specs.Chains.{storedNext, StoredHeads}
 use Rattle.graph_lists.specs.Arrays.{at}
-use Rattle.sharing_arcs.specs.Arcs.{otherOf}
+use Rattle.sharing_steps.specs.Others.{otherOf}
 
 -- at each standing job the job after it on its chain, and the other bench that it names
 pub record StoredJobs (t next to : List ℕ) : Type 0 where

@@ -26,7 +26,7 @@ fn copy_jobs(
         let j = done + 1;
         let holder = jobs::holder(t, s, j);
         if holder != 0 {
-            let other = sharing_arcs::other(t, s, j, holder);
+            let other = sharing_steps::other(t, s, j, holder);
             next[j] = table_chains::next(t, s, j) as u16;
             to[j] = other as u16;
         }

@@ -1,34 +1,35 @@
--- Levelling: where loads differ by less than two the board is level, the bench that the search finds starts the rule's path, and a loop that
--- flips such paths is levelling.
+-- Levelling: the bench that the search finds starts the rule's path, and a loop that flips such paths is levelling.
 use Prim.Native.Nat.{ℕ, _+_, _-_, _≤_, _<_}
 use native.Mathlib.Omega.{arith}
-use native.Mathlib.Decide.{ℕ-discrete, decLe}
+use native.Mathlib.Decide.{ℕ-discrete}
 use native.Mathlib.Numerals.{add-one}
 use mathlib.Core.Path.{_≡_, refl, sym, ap, subst, _∙_}
-use mathlib.Core.Logic.{_≢_, _↔_}
+use mathlib.Core.Logic.{inl, ⊎-elim, _≢_, _↔_}
+use mathlib.Core.Bool.{Bool, true}
 use mathlib.Core.List.{List}
 use mathlib.Core.Option.{Option, none, some}
 use lib.Dec.{T, eqb}
-use lib.ListN.{length, set, length-set}
-use Rattle.spec_lists.specs.Lists.{bit, within, In}
-use Rattle.spec_table.specs.Board.{Board, Valid, load}
-use Rattle.spec_table.specs.Table.{mostBenches, mostJobs, decode}
-use Rattle.spec_sharing.specs.Paths.{BenchPath, steps, last, IsPath, improves, improvingFrom, flip}
+use lib.ListN.{length, set, take, replicate, length-set, length-map, length-replicate}
+use lib.Seq.{length-take-le}
+use Rattle.spec_lists.specs.Lists.{bit, In}
+use Rattle.spec_table.specs.Board.{Board, Valid, load, heldBy}
+use Rattle.spec_table.specs.Table.{mostBenches, mostJobs, lengthFor, decode, encode}
+use Rattle.spec_sharing.specs.Paths.{Step, BenchPath, pathBy, steps, endOf, last, IsPath, improves, improvingFrom, handOver, flip}
 use Rattle.spec_sharing.specs.Sharing.{arrivalChoice, levellingChoice, level, Levelled}
 use Rattle.spec_sharing.specs.Demand2.{Flips, noFlip}
-use Rattle.table_size.specs.Sizes.{Limits, BenchIn, SoundTable}
+use Rattle.table_size.specs.Sizes.{BenchIn, SizeOf, SoundTable}
 use Rattle.table_size.specs.declared.Size.{Size}
 use Rattle.table_board.specs.BoardView.{HoldsBoard, Loaded}
-use Rattle.table_chains.specs.Chains.{ChainsRebuilt}
-use Rattle.graph_lists.specs.Arrays.{at, HasArc}
-use Rattle.graph_start.specs.PathStart.{Between, StartsLow, StartOf}
-use Rattle.graph_start.specs.declared.Range.{Range}
-use Rattle.sharing_arcs.specs.Arcs.{ArcsOf}
-use Rattle.sharing_paths.specs.declared.Flip.{Flip}
-use Rattle.sharing_paths.specs.Flips.{flippedBy, lastOf, Flipped}
-use Rattle.sharing_levelling.specs.LevellingResult.{IsLevelling, LevellingOf, NextStart}
+use Rattle.table_order.specs.InOrder.{InOrder, TableOf}
+use Rattle.graph_lists.specs.Arrays.{at, LoadsIn}
+use Rattle.sharing_paths.specs.FoundPaths.{jobsIn, lastOf, PathFound, RouteIn}
+use Rattle.sharing_paths.specs.declared.FoundPath.{FoundPath}
+use Rattle.sharing_paths_from.specs.ArrivalSearch.{WithJob}
+use Rattle.sharing_start.specs.PathStart.{StartOf}
+use Rattle.sharing_levelling.specs.LevellingResult.{IsLevelling, LevellingOf}
 use Rattle.sharing_levelling.specs.declared.Levelling.{Levelling}
-use Rattle.spec_lists.proofs.Tests.{tests-same, T-eqb, eqb-T, within-low, within-both}
+use Rattle.spec_lists.proofs.Tests.{true→T, tests-same, T-eqb, eqb-T}
+use Rattle.spec_lists.proofs.Raising.{getD-raised, getD-lowered}
 use Rattle.spec_sharing.proofs.Paths.{improvingFrom-only, improvingFrom-every, improves-loads, loads-improve}
 use Rattle.spec_sharing.proofs.Choice.{arrival-choice, arrival-none, level-choice}
 use Rattle.spec_sharing.proofs.Walks.{Reach, reach-path, path-reach, reach-bench}
@@ -36,10 +37,18 @@ use Rattle.spec_sharing.proofs.Flip.{flip-loads}
 use Rattle.spec_sharing.proofs.Found.{StartsOne, level-starts, levelling-found}
 use Rattle.spec_sharing.proofs.Levelling.{flips-more, flips-relevel}
 use Rattle.table_size.proofs.Sizes.{board-bench}
-use Rattle.table_board.proofs.RecordsAsBoard.{sound-holds-board}
-use Rattle.spec_lists.proofs.Raising.{getD-raised, getD-lowered}
-use Rattle.graph_search.proofs.Expanding.{bench-within}
-use Rattle.sharing_arcs.proofs.AsArcs.{loads-in, on-board, load-at, arcs-reach, steps-reach}
+use Rattle.sharing_steps.proofs.AsSteps.{loads-in, on-board, load-at}
+use Rattle.sharing_search.proofs.OnBoard.{order-holds}
+
+-- the board's loads are those of its table ..
+pub table-loaded : {u : List ℕ} {s : Size} {b : Board} {loads : List ℕ} → TableOf u s b → Loaded b loads → Loaded (decode u) loads
+table-loaded k l = rw (k .board) l
+
+-- .. and loads of its size
+pub order-loads : {t : List ℕ} {s : Size} {loads : List ℕ} → InOrder t s → Loaded (decode t) loads → LoadsIn s loads
+order-loads i l = loads-in (order-holds i) l
+
+-- the first bench
 
 -- a bench that starts an improving path has one that an arrival there would flip
 starts-choice : (b : Board) → Valid b → (x : ℕ) → StartsOne b x → (p : BenchPath) × (arrivalChoice b x ≡ some p)
@@ -52,86 +61,10 @@ starts-choice b v x (y, r, d) = go (arrivalChoice b x) refl
         let i = improvingFrom-every b v p h (loads-improve b p (omega (arith, ap (load (b .holders)) f, ap (load (b .holders)) g))) in
         absurd (subst (In p) (ap (improvingFrom b) f ∙ arrival-none b x e) i)
 
--- the least load is no more than the jobs that there may be
-pub low-most : {s : Size} {loads : List ℕ} {r : Range} → Limits s → Between s loads r → r .low ≤ mostJobs
-low-most {s} m w =
-    let first : BenchIn s 1 = record { least = omega arith; most = m .benches-least } in
-    omega (arith, w .least 1 first, w .most 1 first, w .few)
+module _ {t : List ℕ} {s : Size} {x : ℕ} (i : InOrder t s) (n : StartOf (decode t) s x) where
+  valid : Valid (decode t)
+  valid = i .sound .storable .valid
 
-module _ {t : List ℕ} {s : Size} {loads : List ℕ} (k : HoldsBoard t s) (l : Loaded (decode t) loads) where
-  -- a bench of the board is one of the most that there may be ..
-  among-most : (x : ℕ) → T (within 1 ((decode t) .benches) x) → T (within 1 mostBenches x)
-  among-most x h = bench-within s x (k .size .limits) (board-bench x (k .size) h)
-
-  -- .. its load is at its number ..
-  weighs : (x : ℕ) → T (within 1 ((decode t) .benches) x) → at loads x ≡ load ((decode t) .holders) x
-  weighs x h = load-at k l (board-bench x (k .size) h)
-
-  -- .. and it reaches benches of the board only
-  reached : (x y : ℕ) → T (within 1 ((decode t) .benches) x) → Reach (steps (decode t)) x y → T (within 1 ((decode t) .benches) y)
-  reached x y h r = reach-bench (decode t) (k .storable .valid) x y h r
-
-  -- where the greatest load is less than two above the least, the board is level
-  even-level : {r : Range} → Between s loads r → r .high < r .low + 2 → T (level (decode t))
-  even-level w less = (level-starts (decode t) (k .storable .valid)) .1 none
-    where
-      none : (x : ℕ) → T (within 1 ((decode t) .benches) x) → StartsOne (decode t) x → ⊥
-      none x h (y, q, d) =
-          let g = reached x y h q in
-          omega (arith, d, less, weighs x h, weighs y g, w .most x (board-bench x (k .size) h), w .least y (board-bench y (k .size) g))
-
-  -- so it has no next path
-  pub next-even : {r : Range} {from to : List ℕ} → Between s loads r → r .high < r .low + 2 → length from ≡ mostJobs + 1 → length to ≡ mostJobs + 1 → NextStart (decode t) s from to loads 0
-  next-even w less f g = record { none = λ e. even-level w less; some = λ d. absurd (d refl); from-long = f; to-long = g }
-
-  module _ {from to : List ℕ} (a : ArcsOf (decode t) s from to) where
-    -- a bench of the board reaches one that is lighter by two or more exactly if it starts an improving path
-    starts : (x : ℕ) → T (within 1 ((decode t) .benches) x) → StartsLow (HasArc (s .jobs) from to) loads x ↔ StartsOne (decode t) x
-    starts x h = (forth, back)
-      where
-        forth : StartsLow (HasArc (s .jobs) from to) loads x → StartsOne (decode t) x
-        forth (y, r, d) =
-            let q = arcs-reach k a x y (board-bench x (k .size) h) r in
-            (y, q, omega (arith, d, weighs x h, weighs y (reached x y h q)))
-
-        back : StartsOne (decode t) x → StartsLow (HasArc (s .jobs) from to) loads x
-        back (y, q, d) = (y, steps-reach k a x y q, omega (arith, d, weighs x h, weighs y (reached x y h q)))
-
-    module _ {x : ℕ} (f : StartOf (HasArc (s .jobs) from to) loads x) where
-      -- the bench found is one of the board: those beyond have no load
-      found-bench : x ≢ 0 → T (within 1 ((decode t) .benches) x)
-      found-bench d =
-          let g = f .some d in
-          elim (decLe x ((decode t) .benches)) [
-            | yes h ↦ within-both 1 ((decode t) .benches) x (within-low 1 mostBenches x (g .bench)) h
-            | no h ↦ absurd (omega (arith, g .starts .2, (loads-in k l) .beyond x (omega (arith, k .size .board-benches))))
-          ]
-
-      -- on a level board none is found ..
-      found-uneven : x ≢ 0 → T (level (decode t)) → ⊥
-      found-uneven d h =
-          let w = found-bench d in
-          (level-starts (decode t) (k .storable .valid)) .0 h x w ((starts x w) .0 (f .some d .starts))
-
-      -- .. and only there
-      none-level : x ≡ 0 → T (level (decode t))
-      none-level e =
-          (level-starts (decode t) (k .storable .valid)) .1 (λ w h o. f .none e w (among-most w h) ((starts w h) .1 o))
-
-      -- the bench found starts the next path
-      pub next-found : NextStart (decode t) s from to loads x
-      next-found = record { none = none-level; some = λ d. (a, f); from-long = a .from-long; to-long = a .to-long }
-
-      -- an arrival at the bench found would flip what levelling flips
-      found-choice : x ≢ 0 → (p : BenchPath) × (arrivalChoice (decode t) x ≡ some p) × (levellingChoice (decode t) ≡ some p)
-      found-choice d =
-          let v = k .storable .valid in
-          let g = f .some d in
-          let w = found-bench d in
-          let (p, e) = starts-choice (decode t) v x ((starts x w) .0 (g .starts)) in
-          (p, e, levelling-found (decode t) v x p e (λ z h o. rw (sym (weighs x w), sym (weighs z h)) (g .first z (among-most z h) ((starts z h) .1 o))))
-
-module _ {t : List ℕ} {s : Size} {from to loads : List ℕ} {x : ℕ} (k : HoldsBoard t s) (l : Loaded (decode t) loads) (n : NextStart (decode t) s from to loads x) where
   -- the test for 0 tells whether the board is level
   pub zero-level : eqb x 0 ≡ level (decode t)
   zero-level = tests-same (eqb x 0) (level (decode t)) (λ h. n .none (T-eqb x 0 h), λ h. eqb-T x 0 (level-none h))
@@ -139,16 +72,49 @@ module _ {t : List ℕ} {s : Size} {from to loads : List ℕ} {x : ℕ} (k : Hol
       level-none : T (level (decode t)) → x ≡ 0
       level-none h = elim (ℕ-discrete x 0) [
         | yes e ↦ e
-        | no d ↦ let (a, f) = n .some d in absurd (found-uneven k l a f d h)
+        | no d ↦
+            let f = n .some d in
+            absurd (level-starts (decode t) valid .0 h x (on-board (order-holds i) (f .bench)) (f .starts))
       ]
 
-  -- what starts the next path is a bench ..
-  next-bench : x ≢ 0 → BenchIn s x
-  next-bench d = let (a, f) = n .some d in board-bench x (k .size) (found-bench k l a f d)
-
-  -- .. and an arrival there would flip what levelling flips
+  -- an arrival at the bench found would flip what levelling flips
   next-choice : x ≢ 0 → (p : BenchPath) × (arrivalChoice (decode t) x ≡ some p) × (levellingChoice (decode t) ≡ some p)
-  next-choice d = let (a, f) = n .some d in found-choice k l a f d
+  next-choice d =
+      let f = n .some d in
+      let (p, e) = starts-choice (decode t) valid x (f .starts) in
+      (p, e, levelling-found (decode t) valid x p e (λ w h. f .first w (board-bench w (i .sound .size) h)))
+
+-- of a copy in order it tells so of the board
+pub copy-level : {u : List ℕ} {s : Size} {b : Board} {x : ℕ} → TableOf u s b → StartOf (decode u) s x → eqb x 0 ≡ level b
+copy-level k n = zero-level (k .inOrder) n ∙ ap level (k .board)
+
+-- one path
+
+-- what the search for a path is told: there is no new job, and the board is the table's
+pub same-board : {t : List ℕ} {s : Size} → InOrder t s → (x : ℕ) → WithJob (decode t) (decode t) s x 0 0
+same-board i x =
+    record {
+      storable = i .sound .storable;
+      benches = i .sound .size .board-benches;
+      jobs = i .sound .size .board-jobs;
+      elsewhere = λ z d q. (λ h. h, λ h. h);
+      here = λ q. (inl, ⊎-elim (λ h. h) (λ h. absurd (h .0 refl)));
+      free = refl;
+      few = omega arith;
+      leads = omega arith;
+    }
+
+-- and what it found: the path that an arrival at x would flip
+abbrev FoundFrom : List ℕ → Size → List ℕ → ℕ → List ℕ → FoundPath → Type 0
+FoundFrom t s loads x path r =
+    (c : Board) → WithJob (decode t) c s x 0 0 → Loaded c loads →
+    PathFound (arrivalChoice c x) (lastOf x (arrivalChoice c x)) path r
+
+-- the table u is t with that path handed over
+abbrev HandedAlong : List ℕ → List ℕ → Size → List ℕ → FoundPath → Type 0
+HandedAlong t u s path r =
+    (z : ℕ) (q : List Step) → RouteIn (decode t) path 0 (r .jobs) (r .bench) z q →
+    TableOf u s (heldBy (decode t) (handOver ((decode t) .holders) q))
 
 -- loads with one less at x
 abbrev lowered : List ℕ → ℕ → List ℕ
@@ -162,9 +128,25 @@ pub record Shifts (b : Board) (loads : List ℕ) (x y : ℕ) : Type 0 where
   pub room : at (lowered loads x) y ≤ mostJobs
   pub loaded : Loaded b (set (lowered loads x) y (at (lowered loads x) y + 1))
 
--- so it is if an arrival at x would flip that path
-path-shifts : {t : List ℕ} {s : Size} {loads : List ℕ} {x : ℕ} (p : BenchPath) → HoldsBoard t s → Loaded (decode t) loads → BenchIn s x → arrivalChoice (decode t) x ≡ some p → Shifts (flip (decode t) p) loads x (last p)
-path-shifts {t} {s} {loads} {x} p k l i e =
+module _ (b : Board) (x : ℕ) (p : BenchPath) (e : arrivalChoice b x ≡ some p) where
+  -- what an arrival at x would flip is an improving path from x
+  choice-path : IsPath b p × (p .start ≡ x) × T (improves b p)
+  choice-path = improvingFrom-only b x p (((arrival-choice b x p) .0 e) .listed-is)
+
+  -- its jobs stand in the array, if it was found
+  choice-route : {path : List ℕ} {r : FoundPath} → PathFound (arrivalChoice b x) (lastOf x (arrivalChoice b x)) path r → RouteIn b path 0 (r .jobs) (r .bench) x (p .route)
+  choice-route {r = r} f =
+      let m : r .jobs - 0 ≡ r .jobs = omega arith in
+      record {
+        is = subst (λ (z : ℕ). IsPath b (pathBy z (p .route))) (choice-path .1) (choice-path .0);
+        ends = ap (λ (z : ℕ). endOf z (p .route)) (sym (choice-path .1)) ∙ sym (f .bench ∙ ap (lastOf x) e);
+        listed = rw m (sym (f .listed ∙ ap jobsIn e));
+        count = omega (arith, f .count, ap (λ (o : Option BenchPath). length (jobsIn o)) e, length-map (p .route) (λ q. q .job));
+      }
+
+-- the loads can follow it
+choice-shifts : {t : List ℕ} {s : Size} {loads : List ℕ} {x : ℕ} (p : BenchPath) → HoldsBoard t s → Loaded (decode t) loads → BenchIn s x → arrivalChoice (decode t) x ≡ some p → Shifts (flip (decode t) p) loads x (last p)
+choice-shifts {t} {s} {loads} {x} p k l i e =
     record {
       start = start;
       end = omega (arith, end .most, most);
@@ -180,7 +162,7 @@ path-shifts {t} {s} {loads} {x} p k l i e =
     most = k .size .limits .benches-most
 
     path : IsPath b p × (p .start ≡ x) × T (improves b p)
-    path = improvingFrom-only b x p (((arrival-choice b x p) .0 e) .listed-is)
+    path = choice-path b x p e
 
     end : BenchIn s (last p)
     end =
@@ -199,57 +181,75 @@ path-shifts {t} {s} {loads} {x} p k l i e =
     bench y u v =
         omega (arith, getD-raised (lowered loads x) (last p) y (omega (arith, end .most, most, length-set loads x (at loads x - 1), l .long)), low y, l .bench y u v, flip-loads b (k .storable .valid) p (path .0) y, ap (λ (z : ℕ). bit (eqb z y)) (path .1))
 
--- levelling of the table t₀ has come to the table t with these loads: so many paths were flipped, and x starts the next path, 0 where
--- there is none
-pub record Flipping (t₀ t : List ℕ) (s : Size) (allowance : ℕ) (loads from to : List ℕ) (paths x : ℕ) : Type 0 where
-  pub holdsBoard : HoldsBoard t s
+-- the loop
+
+-- levelling of the board b has come to the table t with these loads: so many paths were flipped, and x starts the next path, 0 where there is
+-- none
+pub record Flipping (b : Board) (t : List ℕ) (s : Size) (allowance : ℕ) (loads path : List ℕ) (paths x : ℕ) : Type 0 where
+  pub inOrder : InOrder t s
   pub loaded : Loaded (decode t) loads
-  pub next : NextStart (decode t) s from to loads x
-  pub flipped : Flips paths (decode t₀) (decode t)
+  pub next : StartOf (decode t) s x
+  pub flipped : Flips paths b (decode t)
   pub allowed : paths ≤ allowance
+  pub long : length path ≡ mostBenches + 1
 
 -- at first no path was flipped
-pub flipping-start : {t : List ℕ} {s : Size} {allowance : ℕ} {loads from to : List ℕ} {x : ℕ} → SoundTable t s → Loaded (decode t) loads → NextStart (decode t) s from to loads x → Flipping t t s allowance loads from to 0 x
-flipping-start {t} {s} z l n =
-    record { holdsBoard = sound-holds-board t s z; loaded = l; next = n; flipped = noFlip (decode t); allowed = omega arith }
+pub flipping-start : {t : List ℕ} {s : Size} {allowance : ℕ} {loads path : List ℕ} {x : ℕ} → InOrder t s → Loaded (decode t) loads → length path ≡ mostBenches + 1 → StartOf (decode t) s x → Flipping (decode t) t s allowance loads path 0 x
+flipping-start {t} i l m n =
+    record { inOrder = i; loaded = l; next = n; flipped = noFlip (decode t); allowed = omega arith; long = m }
 
-module _ {t₀ t : List ℕ} {s : Size} {allowance : ℕ} {loads from to : List ℕ} {paths x : ℕ} (i : Flipping t₀ t s allowance loads from to paths x) where
-  -- what flipping the next path asks
-  pub flipping-ready : x ≢ 0 → HoldsBoard t s × ArcsOf (decode t) s from to × Loaded (decode t) loads × BenchIn s x
-  flipping-ready d =
-      (i .holdsBoard, i .next .some d .0, i .loaded, next-bench (i .holdsBoard) (i .loaded) (i .next) d)
+module _ {b : Board} {t : List ℕ} {s : Size} {allowance : ℕ} {loads path : List ℕ} {paths x : ℕ} (i : Flipping b t s allowance loads path paths x) where
+  module _ {path' : List ℕ} {r : FoundPath} (d : x ≢ 0) (f : FoundFrom t s loads x path' r) where
+    found : PathFound (arrivalChoice (decode t) x) (lastOf x (arrivalChoice (decode t) x)) path' r
+    found = f (decode t) (same-board (i .inOrder) x) (i .loaded)
 
-  module _ {u : List ℕ} {r : Flip} (d : x ≢ 0) (f : Flipped t u s (arrivalChoice (decode t) x) (lastOf x (arrivalChoice (decode t) x)) r) where
-    -- the path is levelling's
-    path : (p : BenchPath) × (arrivalChoice (decode t) x ≡ some p) × (levellingChoice (decode t) ≡ some p) × (decode u ≡ flip (decode t) p)
-    path =
-        let (p, e, g) = next-choice (i .holdsBoard) (i .loaded) (i .next) d in
-        (p, e, g, f .holds .board ∙ ap (flippedBy (decode t)) e)
+    -- the path's jobs have places in the array ..
+    pub flipping-few : (r .jobs ≤ mostBenches) × (length path' ≡ mostBenches + 1)
+    flipping-few = (found .few, found .long)
 
-    -- the loads can follow it ..
-    pub flipping-shifts : Shifts (decode u) loads x (r .bench)
-    flipping-shifts =
-        let (p, e, g, h) = path in
-        rw (f .bench ∙ ap (lastOf x) e, h)
-        (path-shifts p (i .holdsBoard) (i .loaded) (next-bench (i .holdsBoard) (i .loaded) (i .next) d) e)
+    -- .. and stand there
+    pub flipping-route : (z : ℕ) × (q : List Step) × RouteIn (decode t) path' 0 (r .jobs) (r .bench) z q
+    flipping-route =
+        let (p, e, g) = next-choice (i .inOrder) (i .next) d in
+        (x, p .route, choice-route (decode t) x p e found)
 
-    -- .. and then one more path is flipped
-    pub flipping-turn : {loads' from' to' : List ℕ} {x' : ℕ} → paths < allowance → Loaded (decode u) loads' → NextStart (decode u) s from' to' loads' x' → Flipping t₀ u s allowance loads' from' to' (paths + 1) x'
-    flipping-turn less l n =
-        let (p, e, g, h) = path in
-        record {
-          holdsBoard = f .holds .holdsBoard;
-          loaded = l;
-          next = n;
-          flipped = rw (add-one paths, h) (flips-more paths (decode t₀) (decode t) p (i .flipped) g);
-          allowed = omega arith;
-        }
+    module _ {u : List ℕ} (h : HandedAlong t u s path' r) where
+      -- the path is levelling's
+      turned : (p : BenchPath) × (arrivalChoice (decode t) x ≡ some p) × (levellingChoice (decode t) ≡ some p) × TableOf u s (flip (decode t) p)
+      unfolding flip
+      turned =
+          let (p, e, g) = next-choice (i .inOrder) (i .next) d in
+          (p, e, g, h x (p .route) (choice-route (decode t) x p e found))
 
-  -- where none is left or the allowance is used up, and the chains are made anew, that is levelling
-  pub flipping-end : {u : List ℕ} → (paths < allowance → x ≡ 0) → ChainsRebuilt t u s → LevellingOf t₀ u allowance (record { paths = paths; level = eqb x 0 })
-  flipping-end {u} done c =
-      let b = decode t in
-      let e = flips-relevel paths allowance (decode t₀) b (i .flipped) (i .allowed) (λ h. level-choice b (i .next .none (done h))) in
+      -- the table is in order ..
+      pub flipping-order : InOrder u s
+      flipping-order = turned .3 .inOrder
+
+      -- .. the loads can follow the path ..
+      pub flipping-shifts : Shifts (decode u) loads x (r .bench)
+      flipping-shifts =
+          let (p, e, g, o) = turned in
+          rw (found .bench ∙ ap (lastOf x) e, o .board)
+          (choice-shifts p (order-holds (i .inOrder)) (i .loaded) (i .next .some d .bench) e)
+
+      -- .. and then one more path is flipped
+      pub flipping-turn : {loads' : List ℕ} {x' : ℕ} → paths < allowance → Loaded (decode u) loads' → StartOf (decode u) s x' → Flipping b u s allowance loads' path' (paths + 1) x'
+      flipping-turn less l n =
+          let (p, e, g, o) = turned in
+          record {
+            inOrder = o .inOrder;
+            loaded = l;
+            next = n;
+            flipped = rw (add-one paths, o .board) (flips-more paths b (decode t) p (i .flipped) g);
+            allowed = omega arith;
+            long = found .long;
+          }
+
+  -- where none is left or the allowance is used up, that is levelling
+  pub flipping-end : (t₀ : List ℕ) → b ≡ decode t₀ → (paths < allowance → x ≡ 0) → LevellingOf t₀ t allowance (record { paths = paths; level = eqb x 0 })
+  flipping-end t₀ same done =
+      let c = decode t in
+      let e = flips-relevel paths allowance b c (i .flipped) (i .allowed) (λ h. level-choice c (i .next .none (done h))) in
       let r : Levelling = record { paths = paths; level = eqb x 0 } in
-      subst (λ (m : Levelled). IsLevelling u m r) (sym e)
-      (record { bytes = c .bytes; paths = refl; ended = zero-level (i .holdsBoard) (i .loaded) (i .next) })
+      rw (sym same) (subst (λ (m : Levelled). IsLevelling t m r) (sym e)
+      (record { bytes = i .inOrder .bytes; paths = refl; ended = zero-level (i .inOrder) (i .next) }))

@@ -5,8 +5,8 @@ use native.Mathlib.Numerals.{add-one}
 use mathlib.Core.Path.{_≡_, refl, _∙_}
 use mathlib.Core.List.{List}
 use Rattle.spec_lists.specs.Lists.{greatest}
-use Rattle.spec_table.specs.Board.{load, heaviest}
-use Rattle.spec_table.specs.Table.{decode}
+use Rattle.spec_table.specs.Board.{Board, load, heaviest}
+use Rattle.spec_table.specs.Table.{mostBenches, decode}
 use Rattle.table_size.specs.declared.Size.{Size}
 use Rattle.table_board.specs.BoardView.{HoldsBoard, Loaded}
 use Rattle.graph_lists.specs.Arrays.{at}
@@ -34,10 +34,12 @@ greatest-same : (n : ℕ) (f g : ℕ → ℕ) → ((x : ℕ) → 1 ≤ x → x �
 greatest-same zero f g e = refl
 greatest-same (suc n) f g e = omega (arith, greatest-same n f g (λ x l u. e x l (omega arith)), e (suc n) (omega arith) (omega arith))
 
--- the greatest of a board's loads is its heaviest
-pub heaviest-loaded : {t : List ℕ} {s : Size} {loads : List ℕ} {n : ℕ} → HoldsBoard t s → Loaded (decode t) loads → n ≡ greatest (s .benches) (at loads) → n ≡ heaviest (decode t)
+-- the greatest of a board's loads is its heaviest ..
+pub board-heaviest : {c : Board} {benches : ℕ} {loads : List ℕ} {n : ℕ} → c .benches ≡ benches → benches ≤ mostBenches → Loaded c loads → n ≡ greatest benches (at loads) → n ≡ heaviest c
 unfolding heaviest
-heaviest-loaded {t} {s} {loads} k l e =
-    let b = decode t in
-    rw (k .size .board-benches)
-    (e ∙ greatest-same (s .benches) (at loads) (load (b .holders)) (λ x i u. l .bench x i (omega (arith, k .size .limits .benches-most))))
+board-heaviest {c} {benches} {loads} b m l e =
+    rw b (e ∙ greatest-same benches (at loads) (load (c .holders)) (λ x i u. l .bench x i (omega arith)))
+
+-- .. also of a table's board
+pub heaviest-loaded : {t : List ℕ} {s : Size} {loads : List ℕ} {n : ℕ} → HoldsBoard t s → Loaded (decode t) loads → n ≡ greatest (s .benches) (at loads) → n ≡ heaviest (decode t)
+heaviest-loaded k l e = board-heaviest (k .size .board-benches) (k .size .limits .benches-most) l e

@@ -1,2 +1,4 @@
--- The greatest of several loads.
+-- The greatest of several loads, loads in falling order, and the lightest of several benches.
 pub mod Greatest
+pub mod Lower
+pub mod LowestLoad

@@ -1,4 +1,3 @@
--- The path that the rule names.
-pub mod Handing
-pub mod Stopping
-pub mod Chosen
+-- What is proved of paths that were found: followed back, and handed over.
+pub mod Following
+pub mod HandingAlong

@@ -1,2 +1,2 @@
--- What flipping a path does.
-pub mod Flips
+-- What is found of a path, and what handing it over does.
+pub mod FoundPaths

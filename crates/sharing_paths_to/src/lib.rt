@@ -1,50 +1,158 @@
-// The closing's path.
-ghost use Prim.Native.Nat.{_+_};
+// The closing's path: found before anything is written. The search goes forwards from all benches of the greatest load
+// at once, in rising number, until the bench that lost the job is found; if it is not, from those of the next lower
+// load that are not found yet, and so on. What a round found, and leads to no such bench, is not searched again.
+ghost use Prim.Native.Nat.{ℕ, _+_, _≤_};
+ghost use mathlib.Core.Path.{_≡_};
+ghost use mathlib.Core.Logic.{_≢_};
+ghost use mathlib.Core.List.{List};
+ghost use lib.ListN.{length};
+ghost use Rattle.spec_table.specs.Board.{Board};
+ghost use Rattle.spec_table.specs.Table.{mostBenches, decode};
 ghost use Rattle.spec_sharing.specs.Sharing.{closingChoice};
-ghost use Rattle.spec_table.specs.Table.{decode};
-ghost use Rattle.table_size.specs.Sizes.{BenchIn};
-ghost use Rattle.table_board.specs.BoardView.{HoldsBoard, Loaded};
-ghost use Rattle.sharing_arcs.specs.Arcs.{ArcsOf};
-ghost use Rattle.sharing_paths.specs.Flips.{startOf, Flipped};
-use graph_lists::keys;
-use graph_lists::lists;
+ghost use Rattle.table_size.specs.Sizes.{Limits, BenchIn};
+ghost use Rattle.table_board.specs.BoardView.{Loaded};
+ghost use Rattle.table_order.specs.InOrder.{InOrder};
+ghost use Rattle.graph_lists.specs.Arrays.{at, LoadsIn};
+ghost use Rattle.sharing_paths.specs.FoundPaths.{startOf, PathFound};
+ghost use Rattle.sharing_paths_to.specs.ClosingSearch.{WithoutJob, Rounds, InRound, ClosingFound, RoundOf};
 use graph_lists::scratch;
-use graph_routes::ends;
-use sharing_paths::Flip;
+use sharing_paths::FoundPath;
+use table_board::jobs;
 use table_size::Size;
 
-// Flips, of the improving paths to x, the one that the closing's order names; tells its first bench and its jobs,
-// x and 0 where there is none.
-pub fn flip_to(
-    t: &mut [u8],
+// What a round found: how many benches are found in all, and how many jobs lead to the bench that lost one, 0 where it
+// was not found.
+struct Round {
+    found: usize,
+    jobs: usize,
+}
+
+// Starts the search at every bench of this load that is not found, in rising number; tells how many are found then.
+fn seed(
     s: Size,
-    from: &[u16; Size::MOST_JOBS + 1],
-    to: &[u16; Size::MOST_JOBS + 1],
+    loads: &[u16; Size::MOST_BENCHES + 1],
+    load: usize,
+    found: usize,
+    queue: &mut [u16; Size::MOST_BENCHES + 1],
+    came: &mut [u16; Size::MOST_BENCHES + 1],
+) -> usize
+    requires { ⌜ Limits s ⌝ }
+    requires { ⌜ LoadsIn s (now loads) ⌝ }
+    requires { ⌜ ((b c : Board) × (x : ℕ) × (at (now loads) x + 2 ≤ load) ×
+        Rounds b c s (now loads) x load found (now queue) (now came)) ⌝ }
+    ensures { λ r. ⌜ ((b c : Board) (x : ℕ) → at (now (loads .entry)) x + 2 ≤ load →
+        Rounds b c s (now (loads .entry)) x load found (now (queue .entry)) (now (came .entry)) →
+        InRound b c s (now (loads .entry)) x load found r 0 (now (queue .exit)) (now (came .exit))) ⌝ }
+{
+    let benches = s.benches();
+    let mut end = found;
+    let mut x = 1;
+    while x <= benches {
+        if loads[x] as usize == load {
+            end = sharing_search::discover(x, Size::MOST_JOBS as u16 + 1, end, queue, came);
+        }
+        x += 1;
+    }
+    end
+}
+
+// Searches from the benches of this load, level by level, until x is found.
+fn search_round(
+    t: &[u8],
+    s: Size,
+    loads: &[u16; Size::MOST_BENCHES + 1],
+    load: usize,
+    x: usize,
+    found: usize,
+    queue: &mut [u16; Size::MOST_BENCHES + 1],
+    came: &mut [u16; Size::MOST_BENCHES + 1],
+) -> Round
+    requires { ⌜ InOrder (now t) s ⌝ }
+    requires { ⌜ LoadsIn s (now loads) ⌝ }
+    requires { ⌜ at (now loads) x + 2 ≤ load ⌝ }
+    requires { ⌜ ((c : Board) × Rounds (decode (now t)) c s (now loads) x load found (now queue) (now came)) ⌝ }
+    ensures { λ r. ⌜ ((c : Board) →
+        Rounds (decode (now (t .entry))) c s (now (loads .entry)) x load found (now (queue .entry))
+        (now (came .entry)) →
+        RoundOf (decode (now (t .entry))) c s (now (loads .entry)) x load (now (queue .exit)) (now (came .exit)) r) ⌝ }
+{
+    let mut begin = found;
+    let mut end = seed(s, loads, load, found, queue, came);
+    let mut level = 0;
+    while begin < end {
+        let more = sharing_search::expand_level(t, s, begin, end, x, queue, came);
+        level += 1;
+        if came[x] != 0 {
+            return Round {
+                found: more,
+                jobs: level,
+            };
+        }
+        begin = end;
+        end = more;
+    }
+    Round {
+        found: end,
+        jobs: 0,
+    }
+}
+
+// Follows the path of n jobs by which x was found back to its first bench: its jobs into `path`.
+fn path_to(
+    t: &[u8],
+    s: Size,
+    came: &[u16; Size::MOST_BENCHES + 1],
+    x: usize,
+    n: usize,
+    path: &mut [u16; Size::MOST_BENCHES + 1],
+) -> FoundPath
+    requires { ⌜ InOrder (now t) s ⌝ }
+    requires { ⌜ length (now path) ≡ mostBenches + 1 ⌝ }
+    requires { ⌜ n ≢ 0 ⌝ }
+    requires { ⌜ ((c : Board) × (found : ℕ) × (queue : List ℕ) × WithoutJob (decode (now t)) c s x ×
+        ClosingFound (decode (now t)) c s x n found queue (now came)) ⌝ }
+    ensures { λ r. ⌜ ((c : Board) (found : ℕ) (queue : List ℕ) → WithoutJob (decode (now (t .entry))) c s x →
+        ClosingFound (decode (now (t .entry))) c s x n found queue (now (came .entry)) →
+        PathFound (closingChoice c x) (startOf x (closingChoice c x)) (now (path .exit)) r) ⌝ }
+{
+    sharing_paths::follow_back(t, s, came, x, n, path);
+    let bench = jobs::holder(t, s, path[0] as usize);
+    FoundPath { bench, jobs: n }
+}
+
+// Finds, of the improving paths to x on the board without one of its jobs, the one that the closing's order names: its
+// jobs into `path`, its first bench and how many they are; x and 0 where there is none. The loads are those of that
+// board; the table has the job still, but the search never leaves x.
+pub fn find_to(
+    t: &[u8],
+    s: Size,
     loads: &[u16; Size::MOST_BENCHES + 1],
     x: usize,
-) -> Flip
-    requires { ⌜ HoldsBoard (now t) s ⌝ }
-    requires { ⌜ ArcsOf (decode (now t)) s (now from) (now to) ⌝ }
-    requires { ⌜ Loaded (decode (now t)) (now loads) ⌝ }
+    path: &mut [u16; Size::MOST_BENCHES + 1],
+) -> FoundPath
+    requires { ⌜ InOrder (now t) s ⌝ }
     requires { ⌜ BenchIn s x ⌝ }
-    ensures { λ r. ⌜ Flipped (now (t .entry)) (now (t .exit)) s (closingChoice (decode (now (t .entry))) x)
-        (startOf x (closingChoice (decode (now (t .entry))) x)) r ⌝ }
+    requires { ⌜ LoadsIn s (now loads) ⌝ }
+    requires { ⌜ length (now path) ≡ mostBenches + 1 ⌝ }
+    requires { ⌜ ((c : Board) × WithoutJob (decode (now t)) c s x × Loaded c (now loads)) ⌝ }
+    ensures { λ r. ⌜ ((c : Board) → WithoutJob (decode (now (t .entry))) c s x → Loaded c (now (loads .entry)) →
+        PathFound (closingChoice c x) (startOf x (closingChoice c x)) (now (path .exit)) r) ⌝ }
 {
-    let mut weights = scratch::benches();
-    keys::reverse(s, loads, &mut weights);
-    let low = keys::least(s, &weights);
-    if weights[x] < low + 2 {
-        return Flip { bench: x, jobs: 0 };
+    let least = loads[x] as usize + 2;
+    let mut load = sharing_loads::heaviest(s, loads);
+    if load < least {
+        return FoundPath { bench: x, jobs: 0 };
     }
-    let mut near = scratch::benches();
-    graph_search::distances(s, to, from, &weights, low, x, &mut near);
-    let z = ends::choose(s, &weights, &near, x);
-    if z == 0 {
-        return Flip { bench: x, jobs: 0 };
+    // Until the path is written, its array is the queue.
+    let mut came = scratch::benches();
+    let mut found = 0;
+    while least <= load {
+        let round = search_round(t, s, loads, load, x, found, path, &mut came);
+        if round.jobs != 0 {
+            return path_to(t, s, &came, x, round.jobs, path);
+        }
+        found = round.found;
+        load = sharing_loads::next_lower(s, loads, load);
     }
-    let mut head = scratch::benches();
-    let mut next = scratch::jobs();
-    lists::list_by(s.jobs(), from, &mut head, &mut next);
-    let jobs = sharing_paths::flip_along(t, s, from, to, &head, &next, &near, z);
-    Flip { bench: z, jobs }
+    FoundPath { bench: x, jobs: 0 }
 }

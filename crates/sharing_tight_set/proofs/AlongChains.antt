@@ -20,8 +20,8 @@ use Rattle.table_board.proofs.RecordsAsBoard.{sound-holds-board, stands-job}
 use Rattle.table_chains.specs.Chains.{chainFrom, storedHead, storedNext}
 use Rattle.table_chains.proofs.ChainView.{chain-end, chain-begins, first-chain, next-chain}
 use Rattle.graph_lists.specs.Arrays.{at}
-use Rattle.sharing_arcs.specs.Arcs.{otherOf}
-use Rattle.sharing_arcs.proofs.AsArcs.{held-leads, step-job}
+use Rattle.sharing_steps.specs.Others.{otherOf}
+use Rattle.sharing_steps.proofs.AsSteps.{held-leads, step-job}
 use Rattle.sharing_chains.specs.StoredChains.{StoredChains}
 use Rattle.sharing_visits.specs.ArrayChains.{chainAlong, chainOn, Walkable, BenchChains, Leads}
 use Rattle.sharing_visits.proofs.Visiting.{chain-none}

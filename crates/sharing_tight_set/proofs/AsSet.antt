@@ -31,7 +31,7 @@ use Rattle.table_board.specs.BoardView.{HoldsBoard, Loaded}
 use Rattle.table_board.proofs.RecordsAsBoard.{sound-holds-board}
 use Rattle.graph_lists.specs.Arrays.{Tells, at, step, LoadsIn}
 use Rattle.graph_lists.proofs.Listing.{array-at, array-long}
-use Rattle.sharing_arcs.proofs.AsArcs.{on-board, load-at, jobs-reach}
+use Rattle.sharing_steps.proofs.AsSteps.{on-board, load-at, jobs-reach}
 use Rattle.sharing_chains.specs.StoredChains.{StoredChains}
 use Rattle.sharing_visits.specs.ArrayChains.{Leads}
 use Rattle.sharing_visits.specs.Marks.{mark, Marks, Heavy, FromHeavy, ClosedOver}

@@ -28,7 +28,7 @@ pub lexLe-same : (x y : ℕ) (k l : List ℕ) → x ≡ y → T (lexLe k l) → 
 lexLe-same x y k l e t = or-right (ltb x y) (eqb x y && lexLe k l) (both (eqb x y) (lexLe k l) (eqb-T x y e) t)
 
 -- and there is no other way to come first
-lexLe-either : (x y : ℕ) (k l : List ℕ) → T (lexLe (x ∷ k) (y ∷ l)) → (x < y) ⊎ ((x ≡ y) × T (lexLe k l))
+pub lexLe-either : (x y : ℕ) (k l : List ℕ) → T (lexLe (x ∷ k) (y ∷ l)) → (x < y) ⊎ ((x ≡ y) × T (lexLe k l))
 lexLe-either x y k l t = go (either (ltb x y) (eqb x y && lexLe k l) t)
   where
     go : T (ltb x y) ⊎ T (eqb x y && lexLe k l) → (x < y) ⊎ ((x ≡ y) × T (lexLe k l))
@@ -169,7 +169,7 @@ levellingKey-one b p q m n e = path-fixed b p q m n (cc) (cc)
 -- the orders in words
 
 -- the first numbers decide, and if they are equal the rests
-decided : {A E B : Type 0} (x y : ℕ) (k l : List ℕ) → ((x < y) ↔ A) → ((x ≡ y) ↔ E) → (T (lexLe k l) ↔ B) → T (lexLe (x ∷ k) (y ∷ l)) ↔ (A ⊎ (E × B))
+pub decided : {A E B : Type 0} (x y : ℕ) (k l : List ℕ) → ((x < y) ↔ A) → ((x ≡ y) ↔ E) → (T (lexLe k l) ↔ B) → T (lexLe (x ∷ k) (y ∷ l)) ↔ (A ⊎ (E × B))
 decided {A} {E} {B} x y k l f g h = (λ t. there (lexLe-either x y k l t), back)
   where
     there : (x < y) ⊎ ((x ≡ y) × T (lexLe k l)) → A ⊎ (E × B)

@@ -9,12 +9,12 @@ use lib.ListN.{length}
 use Rattle.spec_lists.specs.Lists.{within, distinct, lexLe, Each, In}
 use Rattle.spec_table.specs.Board.{Board, Valid, namesOf, holderOf}
 use Rattle.spec_sharing.specs.Paths.{Step, steps, endOf, Walk}
-use Rattle.spec_table.specs.Table.{paired, Storable}
-use Rattle.spec_lists.proofs.Tests.{T-eqb, leb-T}
+use Rattle.spec_table.specs.Table.{mostJobs, paired, Storable}
+use Rattle.spec_lists.proofs.Tests.{T-eqb, leb-T, within-low, within-high, within-both}
 use Rattle.spec_lists.proofs.Elements.{each-in, in-each, each-nth}
 use Rattle.spec_lists.proofs.NumberLists.{one-other}
-use Rattle.spec_table.proofs.Named.{shares-nth, held-named}
-use Rattle.spec_sharing.proofs.Paths.{step-is, benchesOf, jobsOf}
+use Rattle.spec_table.proofs.Named.{shares-nth, held-named, named-stands, stands-within}
+use Rattle.spec_sharing.proofs.Paths.{step-is, step-bench, benchesOf, jobsOf}
 use Rattle.spec_sharing.proofs.Choice.{lexLe-lower, lexLe-same}
 use Rattle.spec_sharing.proofs.Walks.{fewest-once}
 
@@ -153,3 +153,11 @@ storable-one-other b k =
     two : (names : List ℕ) → Pair names → T (leb (length names) 2)
     two [] t = tt
     two (x ∷ names) t = leb-T (length (x ∷ names)) 2 (omega (arith, T-eqb (length (x ∷ names)) 2 t))
+
+-- the steps of such a board are by jobs that there can be, to its benches
+pub storable-steps : (b : Board) → Storable b → (x : ℕ) (s : Step) → In s (steps b x) → T (within 1 mostJobs (s .job)) × T (within 1 (b .benches) (s .to))
+storable-steps b k x s i =
+    let w = stands-within b (s .job) (named-stands b (s .job) (s .to) (step-is b x s i .1)) in
+    let n = within-high 1 mostJobs (length (b .named)) (k .jobs) in
+    let m = within-high 1 (length (b .named)) (s .job) w in
+    (within-both 1 mostJobs (s .job) (within-low 1 (length (b .named)) (s .job) w) (omega arith), step-bench b (k .valid) x s i)

@@ -63,7 +63,7 @@ walk-step out x (t ∷ r) w s (inl e) = (x, rw e (w .0))
 walk-step out x (t ∷ r) w s (inr i) = walk-step out (t .to) r (w .1) s i
 
 -- a bench that the walk does not come to holds none of its jobs ..
-walk-leaves : (b : Board) (x : ℕ) (r : List Step) → Walk (steps b) x r → (j : ℕ) → (In (holderOf b j) (x ∷ benchesOf r) → ⊥) → In j (jobsOf r) → ⊥
+pub walk-leaves : (b : Board) (x : ℕ) (r : List Step) → Walk (steps b) x r → (j : ℕ) → (In (holderOf b j) (x ∷ benchesOf r) → ⊥) → In j (jobsOf r) → ⊥
 walk-leaves b x [] w j f i = i
 walk-leaves b x (s ∷ r) w j f (inl e) = f (inl (ap (holderOf b) e ∙ (step-is b x s (w .0)) .0))
 walk-leaves b x (s ∷ r) w j f (inr i) = walk-leaves b (s .to) r (w .1) j (λ k. f (inr k)) i

@@ -16,3 +16,4 @@ pub mod Distances
 pub mod Found
 pub mod Far
 pub mod Search
+pub mod Trails

@@ -12,3 +12,4 @@ pub mod Layouts
 pub mod Encode
 pub mod AnyOrder
 pub mod RisingChains
+pub mod Splicing

@@ -23,6 +23,8 @@ impl Size {
 
     pub const MOST_JOBS: usize = 4000;
 
+    pub const MOST_BYTES: usize = 33008;
+
     // Refuses numbers outside 1 to MOST_BENCHES and 1 to MOST_JOBS.
     pub fn new(benches: usize, jobs: usize) -> Sizing
         ensures { λ r. ⌜ SizingOf (within 1 mostBenches benches && within 1 mostJobs jobs) benches jobs r ⌝ }

@@ -20,7 +20,7 @@ enum-known-s c = search needs
 arrival-on-requires : tie.Need-arrival-on-requires
 arrival-on-requires c κs =
     let found = rw (c .before .before .before .s .given .1) at (c .before .before .before .before .before .check .ensures .says) in
-    (found .sound, found .loaded)
+    found
 
 same-length : tie.Need-same-length
 same-length c = search needs

@@ -27,7 +27,7 @@ checked c = rw (c .s .given .1) at (c .before .before .check .ensures .says)
 relevel-requires : tie.Need-relevel-requires
 relevel-requires c κs =
     let found = checked (c .before .before .before) in
-    (found .sound, found .loaded)
+    (found .sound, (found .bytes, found .loaded))
 
 same-length : tie.Need-same-length
 same-length c = search needs

@@ -3,7 +3,7 @@ use mathlib.Core.List.{[]}
 use Rattle.spec_calls.specs.Calls.{ask, heaviestLoad}
 use Rattle.table_form.specs.FormCheck.{FoundSound}
 use Rattle.table_board.proofs.RecordsAsBoard.{sound-holds-board}
-use Rattle.sharing_arcs.proofs.AsArcs.{loads-in}
+use Rattle.sharing_steps.proofs.AsSteps.{loads-in}
 use Rattle.sharing_loads.proofs.Greatest.{heaviest-loaded}
 use Rattle.board_answers.proofs.Formal.{form-refused}
 use Rattle.board_questions.proofs.Asking.{heaviest-told}

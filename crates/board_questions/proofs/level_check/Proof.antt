@@ -4,7 +4,6 @@ use mathlib.Core.Bool.{true, false}
 use mathlib.Core.List.{[]}
 use Rattle.spec_calls.specs.Calls.{ask, levelCheck}
 use Rattle.table_form.specs.FormCheck.{FoundSound}
-use Rattle.table_board.proofs.RecordsAsBoard.{sound-holds-board}
 use Rattle.board_answers.proofs.Formal.{form-refused}
 use Rattle.board_questions.proofs.Asking.{level-told}
 use borrow.Author.Needs.{needs}
@@ -30,7 +29,7 @@ found c = rw (c .before .s .given .1) at (c .before .before .before .check .ensu
 is-level-requires : tie.Need-is-level-requires
 is-level-requires c κs =
     let f = found (c .before) in
-    (sound-holds-board _ _ (f .sound), f .loaded)
+    (f .sound, (f .bytes, f .loaded))
 
 returns : tie.Need-returns
 returns c = form-refused _ (ask levelCheck []) tt _ (rw (c .before .r .given .1) at (c .before .before .before .check .ensures .says))

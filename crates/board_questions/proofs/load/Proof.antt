@@ -12,7 +12,7 @@ use Rattle.table_size.specs.Sizes.{BenchIn}
 use Rattle.table_form.specs.FormCheck.{FoundSound}
 use Rattle.table_size.proofs.Sizes.{bench-in}
 use Rattle.table_board.proofs.RecordsAsBoard.{sound-holds-board}
-use Rattle.sharing_arcs.proofs.AsArcs.{loads-in, load-at}
+use Rattle.sharing_steps.proofs.AsSteps.{loads-in, load-at}
 use Rattle.board_answers.proofs.Formal.{form-refused}
 use Rattle.board_questions.proofs.Asking.{load-told, bench-refused}
 use borrow.Author.Needs.{needs}

@@ -1,32 +1,51 @@
--- Whether there is no next path.
+-- The table, where it is in order, or a copy put in order tells.
 use borrow.Author.Needs.{needs}
-use Rattle.graph_lists.proofs.Listing.{array-long}
-use Rattle.sharing_levelling.proofs.Flipping.{zero-level}
+use Rattle.spec_lists.proofs.Tests.{true→T}
+use Rattle.table_copies.proofs.Ordering.{rising-table, room-long}
+use Rattle.sharing_levelling.proofs.Flipping.{order-loads, copy-level}
 use Rattle.sharing_levelling.proofs.is_level.Statement.{statement}
 use Rattle.sharing_levelling.proofs.is_level.Tie as tie
 
-jobs-requires : tie.Need-jobs-requires
-jobs-requires c κs = search needs
+first-start-requires : tie.Need-first-start-requires
+first-start-requires c κs =
+    let pre = c .before .before .pre in
+    let o = rising-table (pre .0) (pre .1 .0 .0 (true→T (c .before .before .args .rising) (c .if1 .taken))) .inOrder in
+    (o, (order-loads o (pre .1 .1), pre .1 .1))
 
-jobs-requires-2 : tie.Need-jobs-requires-2
-jobs-requires-2 c κs = search needs
+bytes-requires : tie.Need-bytes-requires
+bytes-requires c κs = c .before .before .pre .0 .size .limits
 
-next-start-requires : tie.Need-next-start-requires
-next-start-requires c κs =
-    let made = c .before .before in
-    let pre = made .before .before .before .pre in
-    (pre .0, (pre .1, (array-long 0 (made .before .jobs .ensures), array-long 0 (made .jobs2 .ensures))))
+sub-is-level-copy : tie.Need-sub-is-level-copy
+sub-is-level-copy c = search needs
+
+part-copy-start : tie.Need-part-copy-start
+part-copy-start c = search needs
+
+part-copy-end : tie.Need-part-copy-end
+part-copy-end c = search needs
+
+is-level-copy-requires : tie.Need-is-level-copy-requires
+is-level-copy-requires c κs =
+    let pre = c .before .before .before .before .pre in
+    (pre .0, (pre .1 .1, room-long (pre .0 .size) (c .before .bytes .ensures)))
 
 returns : tie.Need-returns
 returns c =
-    let pre = c .before .before .before .before .before .before .pre in
-    zero-level (pre .0) (pre .1) (c .next-start .ensures)
+    let pre = c .before .before .before .pre in
+    copy-level (rising-table (pre .0) (pre .1 .0 .0 (true→T (c .before .before .before .args .rising) (c .before .if1 .taken)))) (c .first-start .ensures)
+
+returns-2 : tie.Need-returns-2
+returns-2 c = c .before .is-level-copy .ensures
 
 pub is-level-spec : {M : Type 1} → statement M
 is-level-spec =
     tie.close
     (tie.spec
-    jobs-requires
-    jobs-requires-2
-    next-start-requires
-    returns)
+    first-start-requires
+    bytes-requires
+    sub-is-level-copy
+    part-copy-start
+    part-copy-end
+    is-level-copy-requires
+    returns
+    returns-2)

@@ -1,55 +1,62 @@
--- The loop flips one path after the other. Its invariant: the loads are the board's, x starts the next path, and the paths flipped are
--- levelling's. The measure is what is left of the allowance.
+-- The loop flips one path after the other. Its invariant: the table is in order, the loads are the board's, x starts the next path, and the
+-- paths flipped are levelling's (`Flipping`). The measure is what is left of the allowance.
 use Prim.Native.Nat.{_-_, _<_}
 use native.Mathlib.Omega.{arith}
 use mathlib.Core.Logic.{⊎-elim}
 use borrow.Author.Needs.{needs}
 use borrow.Author.Tests.{ltb-true, ltb-false}
 use Rattle.spec_table.specs.Table.{decode}
-use Rattle.table_board.proofs.RecordsAsBoard.{sound-holds-board}
 use Rattle.graph_lists.proofs.Listing.{array-long}
-use Rattle.sharing_levelling.proofs.Flipping.{Shifts, Flipping, flipping-start, flipping-ready, flipping-shifts, flipping-turn, flipping-end}
+use Rattle.sharing_levelling.proofs.Flipping.{order-loads, same-board, Shifts, Flipping, flipping-start, flipping-few, flipping-route, flipping-order, flipping-shifts, flipping-turn, flipping-end, table-loaded}
 use Rattle.sharing_levelling.proofs.relevel.Statement.{statement}
 use Rattle.sharing_levelling.proofs.relevel.Tie as tie
 
 abbrev Inv-loop : tie.InvT-loop
-Inv-loop t₀ s loads₀ allowance from₀ to₀ paths₀ x₀ t loads from to paths x = Flipping t₀ t s allowance loads from to paths x
+Inv-loop t₀ s rising loads₀ allowance path₀ paths₀ x₀ t loads path paths x = Flipping (decode t₀) t s allowance loads path paths x
 
 abbrev μ-loop : tie.MeasureT-loop
-μ-loop t₀ s loads₀ allowance from₀ to₀ paths₀ x₀ t loads from to paths x = allowance - paths
+μ-loop t₀ s rising loads₀ allowance path₀ paths₀ x₀ t loads path paths x = allowance - paths
 
-jobs-requires : tie.Need-jobs-requires Inv-loop μ-loop
-jobs-requires c κs = search needs
+put-in-order-requires : tie.Need-put-in-order-requires Inv-loop μ-loop
+put-in-order-requires c κs = search needs
 
-jobs-requires-2 : tie.Need-jobs-requires-2 Inv-loop μ-loop
-jobs-requires-2 c κs = search needs
+benches-requires : tie.Need-benches-requires Inv-loop μ-loop
+benches-requires c κs = search needs
 
-next-start-requires : tie.Need-next-start-requires Inv-loop μ-loop
-next-start-requires c κs =
-    let made = c .before .before .before .before in
-    let pre = made .before .before .before .pre in
-    (sound-holds-board _ _ (pre .0), (pre .1, (array-long 0 (made .before .jobs .ensures), array-long 0 (made .jobs2 .ensures))))
+first-start-requires : tie.Need-first-start-requires Inv-loop μ-loop
+first-start-requires c κs =
+    let table = c .before .before .before .before .before .put-in-order .ensures in
+    let l = table-loaded table (c .before .before .before .before .before .before .before .before .pre .1 .1) in
+    (table .inOrder, (order-loads (table .inOrder) l, l))
 
 loop-holds : tie.Need-loop-holds Inv-loop μ-loop
 loop-holds c =
-    let pre = c .before .before .before .before .before .before .before .before .pre in
-    flipping-start (pre .0) (pre .1) (c .next-start .ensures)
+    let table = c .before .before .before .before .before .before .put-in-order .ensures in
+    flipping-start (table .inOrder) (table-loaded table (c .before .before .before .before .before .before .before .before .before .pre .1 .1)) (array-long 0 (c .before .before .before .benches .ensures)) (c .first-start .ensures)
 
-flip-from-requires : tie.Need-flip-from-requires Inv-loop μ-loop
-flip-from-requires c κs =
-    let test = c .before .before .before .before .before in
-    let ready = flipping-ready (test .before .loop .inv) (test .loop-test .taken) in
-    (ready .0, (ready .1, (ready .2, ready .3)))
+find-from-requires : tie.Need-find-from-requires Inv-loop μ-loop
+find-from-requires c κs =
+    let test = c .before .before .before .before in
+    let i = test .before .loop .inv in
+    (i .inOrder, (i .next .some (test .loop-test .taken) .bench, (order-loads (i .inOrder) (i .loaded), (i .long, (_, same-board (i .inOrder) (test .before .loop .x), i .loaded)))))
+
+hand-along-requires : tie.Need-hand-along-requires Inv-loop μ-loop
+hand-along-requires c κs =
+    let test = c .before .before .before .before .before .before .before in
+    let i = test .before .loop .inv in
+    let f = c .before .before .find-from .ensures in
+    let n = flipping-few i (test .loop-test .taken) f in
+    (i .inOrder, (n .0, (n .1, flipping-route i (test .loop-test .taken) f)))
 
 -- in the loop the allowance is not used up
-less : (c : tie.Then1 Inv-loop μ-loop) → c .before .before .loop .paths < c .before .before .before .before .before .before .before .before .before .before .before .args .allowance
-less c = let at-loop = c .before .before in ltb-true (at-loop .loop .paths) (at-loop .before .before .before .before .before .before .before .before .before .args .allowance) (c .if1 .taken)
+less : (c : tie.Then1 Inv-loop μ-loop) → c .before .before .loop .paths < c .before .before .before .before .before .before .before .before .before .before .before .before .args .allowance
+less c = ltb-true (c .before .before .loop .paths) (c .before .before .before .before .before .before .before .before .before .before .before .before .args .allowance) (c .if1 .taken)
 
 -- the loads can follow the path
-shifts : (c : tie.After-flip-from Inv-loop μ-loop) → let at-loop = c .before .before .before .before .before .before .before in Shifts (decode (c .flip-from .last .0)) (at-loop .loop .loads) (at-loop .loop .x) (c .flip-from .result .bench)
+shifts : (c : tie.After-hand-along Inv-loop μ-loop) → let l = c .before .before .before .before .before .before .before .before .before .loop in Shifts (decode (c .hand-along .last .0)) (l .loads) (l .x) (c .before .before .before .find-from .result .bench)
 shifts c =
-    let test = c .before .before .before .before .before .before in
-    flipping-shifts (test .before .loop .inv) (test .loop-test .taken) (c .flip-from .ensures)
+    let test = c .before .before .before .before .before .before .before .before in
+    flipping-shifts (test .before .loop .inv) (test .loop-test .taken) (c .before .before .before .find-from .ensures) (c .hand-along .ensures)
 
 mul-loads : tie.Need-mul-loads Inv-loop μ-loop
 mul-loads c = omega (arith, shifts (c .before .before) .start)
@@ -76,38 +83,36 @@ element-write-loads-2 : tie.Need-element-write-loads-2 Inv-loop μ-loop
 element-write-loads-2 c = shifts (c .before .before .before .before) .end
 
 add-paths : tie.Need-add-paths Inv-loop μ-loop
-add-paths c =
-    let test = c .before .before .before .before .before .before .before .before .before in
-    omega (arith, less test, test .before .before .before .before .before .before .before .before .before .before .before .fits .allowance)
+add-paths c = omega (arith, less (c .before .before .before .before .before .before .before .before .before .before .before), c .before .before .before .before .before .before .before .before .before .before .before .before .before .before .before .before .before .before .before .before .before .before .before .fits .allowance)
 
-next-start-requires-2 : tie.Need-next-start-requires-2 Inv-loop μ-loop
-next-start-requires-2 c κs =
-    let flipped = c .before .before .before .before .before .before .before .before in
-    let n = flipped .before .before .before .before .before .before .before .loop .inv .next in
-    (flipped .flip-from .ensures .holds .holdsBoard, (shifts flipped .loaded, (n .from-long, n .to-long)))
+first-start-requires-2 : tie.Need-first-start-requires-2 Inv-loop μ-loop
+first-start-requires-2 c κs =
+    let handed = c .before .before .before .before .before .before in
+    let found = handed .before .before .before in
+    let test = found .before .before .before .before .before in
+    let o = flipping-order (test .before .loop .inv) (test .loop-test .taken) (found .find-from .ensures) (handed .hand-along .ensures) in
+    let l = shifts handed .loaded in
+    (o, (order-loads o l, l))
 
 loop-less : tie.Need-loop-less Inv-loop μ-loop
-loop-less c =
-    omega (arith, less (c .before .before .before .before .before .before .before .before .before .before .before .before .before .before))
+loop-less c = omega (arith, less (c .before .before .before .before .before .before .before .before .before .before .before .before .before .before))
 
 loop-again : tie.Need-loop-again Inv-loop μ-loop
 loop-again c =
-    let flipped = c .before .before .before .before .before .before .before .before .before in
-    let test = flipped .before .before .before .before .before in
-    flipping-turn (test .before .before .loop .inv) (test .before .loop-test .taken) (flipped .flip-from .ensures) (less test) (shifts flipped .loaded) (c .next-start2 .ensures)
-
-rebuild-chains-requires : tie.Need-rebuild-chains-requires Inv-loop μ-loop
-rebuild-chains-requires c κs = c .before .before .loop .inv .holdsBoard
+    let handed = c .before .before .before .before .before .before .before in
+    let found = handed .before .before .before in
+    let less-test = found .before .before .before .before in
+    let test = less-test .before in
+    flipping-turn (test .before .loop .inv) (test .loop-test .taken) (found .find-from .ensures) (handed .hand-along .ensures) (less less-test) (shifts handed .loaded) (c .first-start2 .ensures)
 
 same-length : tie.Need-same-length Inv-loop μ-loop
-same-length c = search needs
+same-length c = omega (arith, c .before .loop .inv .inOrder .sound .size .long, c .before .before .before .before .before .before .before .before .before .before .before .pre .0 .size .long)
 
 returns : tie.Need-returns Inv-loop μ-loop
 returns c =
-    let at-loop = c .before .before .before .before .before in
-    flipping-end (at-loop .loop .inv)
-    (λ h. ⊎-elim (λ w. absurd (omega (arith, h, ltb-false (at-loop .loop .paths) (at-loop .before .before .before .before .before .before .before .before .before .args .allowance) (w .1 .left)))) (λ w. w .left) (c .before .before .before .before .loop-test .came))
-    (c .before .before .rebuild-chains .ensures)
+    let start = c .before .before .before .before .before .before .before .before .before .before .before in
+    flipping-end (c .before .loop .inv) (start .args .t .now) (c .before .before .before .before .before .before .before .before .put-in-order .ensures .board)
+    (λ h. ⊎-elim (λ w. absurd (omega (arith, h, ltb-false (c .before .loop .paths) (start .args .allowance) (w .1 .left)))) (λ w. w .left) (c .loop-test .came))
 
 pub relevel-spec : {M : Type 1} → statement M
 relevel-spec =
@@ -115,11 +120,12 @@ relevel-spec =
     (tie.spec
     Inv-loop
     μ-loop
-    jobs-requires
-    jobs-requires-2
-    next-start-requires
+    put-in-order-requires
+    benches-requires
+    first-start-requires
     loop-holds
-    flip-from-requires
+    find-from-requires
+    hand-along-requires
     mul-loads
     element-copy-out-loads
     sub-loads
@@ -129,9 +135,8 @@ relevel-spec =
     add-loads
     element-write-loads-2
     add-paths
-    next-start-requires-2
+    first-start-requires-2
     loop-less
     loop-again
-    rebuild-chains-requires
     same-length
     returns)

@@ -2,7 +2,7 @@
 use borrow.Author.Needs.{needs}
 use Rattle.table_board.proofs.RecordsAsBoard.{sound-holds-board}
 use Rattle.graph_lists.proofs.Listing.{array-long}
-use Rattle.sharing_arcs.proofs.AsArcs.{loads-in}
+use Rattle.sharing_steps.proofs.AsSteps.{loads-in}
 use Rattle.sharing_tight_set.proofs.AlongChains.{chains-walkable}
 use Rattle.sharing_tight_set.proofs.AsSet.{found-tight}
 use Rattle.sharing_tight_set.proofs.mark_closure.Statement.{statement}

@@ -7,7 +7,7 @@ use Rattle.spec_table.specs.Table.{decode}
 use Rattle.spec_sharing.specs.Sharing.{tightSet}
 use Rattle.table_board.proofs.RecordsAsBoard.{sound-holds-board}
 use Rattle.graph_lists.specs.Arrays.{Tells}
-use Rattle.sharing_arcs.proofs.AsArcs.{loads-in}
+use Rattle.sharing_steps.proofs.AsSteps.{loads-in}
 use Rattle.sharing_tight_set.specs.MarkedSets.{marked, Lighter}
 use Rattle.sharing_tight_set.proofs.AsSet.{all-tight, measured-tight}
 use Rattle.sharing_tight_set.proofs.tight_set.Statement.{statement}

@@ -1,3 +1,0 @@
--- Ends and first lists: the laws behind each.
-pub mod Choosing
-pub mod Routing

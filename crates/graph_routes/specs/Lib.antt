@@ -1,3 +1,0 @@
--- What ends and routes promise.
-pub mod Ends
-pub mod Route

@@ -1,2 +1,0 @@
--- Breadth-first search.
-pub mod Expanding

@@ -1,2 +1,0 @@
--- What the search promises.
-pub mod BreadthFirst

@@ -1,2 +1,0 @@
--- Arcs are steps, numbers are distances.
-pub mod AsArcs

@@ -1,2 +1,0 @@
--- Arcs.
-pub mod Arcs

@@ -1,0 +1,2 @@
+-- What an arrival finds and leaves.
+pub mod ArrivalResult

@@ -1,0 +1,183 @@
+// Arrival of a job that may arrive. What it hands along is found first, and nothing is written; then it is applied.
+ghost use mathlib.Core.Path.{_≡_};
+ghost use mathlib.Core.Logic.{_↔_};
+ghost use mathlib.Core.List.{[], _∷_};
+ghost use Prim.Native.Nat.{ℕ, _+_, _≤_};
+ghost use lib.Dec.{T};
+ghost use lib.ListN.{length};
+ghost use Rattle.spec_lists.specs.Lists.{within};
+ghost use Rattle.spec_table.specs.Board.{Board};
+ghost use Rattle.spec_sharing.specs.Sharing.{lightestNamed, arrivalChoice};
+ghost use Rattle.spec_table.specs.Table.{mostBenches, decode, encode};
+ghost use Rattle.spec_calls.specs.Calls.{MayArrive};
+ghost use Rattle.table_size.specs.Sizes.{BenchIn, SoundTable};
+ghost use Rattle.table_board.specs.BoardView.{HoldsBoard, Loaded};
+ghost use Rattle.graph_lists.specs.Arrays.{LoadsIn};
+ghost use Rattle.sharing_paths.specs.FoundPaths.{lastOf, PathFound, JobAt};
+ghost use Rattle.sharing_paths_from.specs.ArrivalSearch.{WithJob};
+ghost use Rattle.sharing_arrival.specs.ArrivalResult.{ArrivalFound, EntersAt, ArrivalOf};
+use graph_lists::scratch;
+use sharing_paths::FoundPath;
+use table_size::Size;
+
+// What an arrival reports: the bench that holds the new job in the end, the bench whose load rose, and the other jobs
+// that changed holder.
+pub struct Arrival {
+    pub holder: usize,
+    pub rose: usize,
+    pub moved: usize,
+}
+
+// Where an arriving job is taken in: the bench that holds it, and the place from which on the path is left.
+struct Entry {
+    holder: usize,
+    place: usize,
+}
+
+// Picks the lighter of two benches, the first-named if they are equal.
+pub fn lighter(loads: &[u16; Size::MOST_BENCHES + 1], first: usize, second: usize) -> usize
+    requires { ⌜ T (within 1 mostBenches first) ⌝ }
+    requires { ⌜ T (within 1 mostBenches second) ⌝ }
+    ensures { λ r. ⌜ ((b : Board) → Loaded b (now (loads .entry)) →
+        r ≡ lightestNamed (b .holders) (first ∷ second ∷ [])) ⌝ }
+{
+    if loads[second] < loads[first] {
+        second
+    } else {
+        first
+    }
+}
+
+// Finds the path from x as find_from does, on a table in any order: in a copy, as long as the table,
+// that is put in order.
+fn find_from_copy(
+    t: &[u8],
+    s: Size,
+    loads: &[u16; Size::MOST_BENCHES + 1],
+    x: usize,
+    job: usize,
+    other: usize,
+    copy: &mut [u8],
+    path: &mut [u16; Size::MOST_BENCHES + 1],
+) -> FoundPath
+    requires { ⌜ SoundTable (now t) s ⌝ }
+    requires { ⌜ BenchIn s x ⌝ }
+    requires { ⌜ LoadsIn s (now loads) ⌝ }
+    requires { ⌜ length (now copy) ≡ length (now t) ⌝ }
+    requires { ⌜ length (now path) ≡ mostBenches + 1 ⌝ }
+    requires { ⌜ ((c : Board) × WithJob (decode (now t)) c s x job other × Loaded c (now loads)) ⌝ }
+    ensures { λ r. ⌜ ((c : Board) → WithJob (decode (now (t .entry))) c s x job other → Loaded c (now (loads .entry)) →
+        PathFound (arrivalChoice c x) (lastOf x (arrivalChoice c x)) (now (path .exit)) r) ⌝ }
+{
+    table_copies::copy_in_order(t, s, copy);
+    sharing_paths_from::find_from(copy, s, loads, x, job, other, path)
+}
+
+// Finds what an arrival of job j at x, the lighter of its two benches, hands along: the path's jobs into `path`. The
+// loads get the new job, since the search reads them; nothing reads them afterwards.
+pub fn find_arrival(
+    t: &[u8],
+    s: Size,
+    rising: bool,
+    loads: &mut [u16; Size::MOST_BENCHES + 1],
+    j: usize,
+    first: usize,
+    second: usize,
+    x: usize,
+    path: &mut [u16; Size::MOST_BENCHES + 1],
+) -> FoundPath
+    requires { ⌜ SoundTable (now t) s ⌝ }
+    requires { ⌜ T rising ↔ (now t ≡ encode (decode (now t))) ⌝ }
+    requires { ⌜ MayArrive (decode (now t)) (record { job = j; given = first ∷ second ∷ [] }) ⌝ }
+    requires { ⌜ Loaded (decode (now t)) (now loads) ⌝ }
+    requires { ⌜ x ≡ lightestNamed (decode (now t) .holders) (first ∷ second ∷ []) ⌝ }
+    requires { ⌜ length (now path) ≡ mostBenches + 1 ⌝ }
+    ensures { λ r. ⌜ ArrivalFound (decode (now (t .entry))) j (first ∷ second ∷ []) x (now (path .exit)) r ⌝ }
+{
+    loads[x] += 1;
+    let other = first + second - x;
+    if rising {
+        sharing_paths_from::find_from(t, s, loads, x, j, other, path)
+    } else {
+        let mut copy = [0; Size::MOST_BYTES];
+        let n = s.bytes();
+        find_from_copy(t, s, loads, x, j, other, &mut copy[0..n], path)
+    }
+}
+
+// Tells where job j is taken in: if it is the path's first, at once where it goes, else at x.
+fn enter(
+    t: &[u8],
+    s: Size,
+    j: usize,
+    x: usize,
+    found: FoundPath,
+    path: &[u16; Size::MOST_BENCHES + 1],
+) -> Entry
+    requires { ⌜ HoldsBoard (now t) s ⌝ }
+    requires { ⌜ found .jobs ≤ mostBenches ⌝ }
+    requires { ⌜ length (now path) ≡ mostBenches + 1 ⌝ }
+    requires { ⌜ ((i : ℕ) → JobAt s (now path) i (found .jobs)) ⌝ }
+    ensures { λ r. ⌜ EntersAt (decode (now (t .entry))) j x (now (path .entry)) found r ⌝ }
+{
+    if found.jobs != 0 && path[0] as usize == j {
+        let holder = sharing_paths::bench_after(t, s, path, 1, found.jobs, found.bench);
+        return Entry { holder, place: 1 };
+    }
+    Entry {
+        holder: x,
+        place: 0,
+    }
+}
+
+// Takes in job j at x and hands the path's jobs along. A table in another order is put in order first.
+pub fn apply_arrival(
+    t: &mut [u8],
+    s: Size,
+    rising: bool,
+    j: usize,
+    first: usize,
+    second: usize,
+    x: usize,
+    found: FoundPath,
+    path: &[u16; Size::MOST_BENCHES + 1],
+) -> Arrival
+    requires { ⌜ SoundTable (now t) s ⌝ }
+    requires { ⌜ T rising ↔ (now t ≡ encode (decode (now t))) ⌝ }
+    requires { ⌜ MayArrive (decode (now t)) (record { job = j; given = first ∷ second ∷ [] }) ⌝ }
+    requires { ⌜ ArrivalFound (decode (now t)) j (first ∷ second ∷ []) x (now path) found ⌝ }
+    ensures { λ r. ⌜ ArrivalOf (now (t .entry)) (now (t .exit)) j first second r ⌝ }
+{
+    table_copies::put_in_order(t, s, rising);
+    let entry = enter(t, s, j, x, found, path);
+    let names = [first, second];
+    table_splices::add_job(t, s, j, &names, entry.holder);
+    sharing_paths::hand_along(t, s, path, entry.place, found.jobs, found.bench);
+    Arrival {
+        holder: entry.holder,
+        rose: found.bench,
+        moved: found.jobs - entry.place,
+    }
+}
+
+// Takes in job j for two benches: what is handed along is found first, and then all is written.
+pub fn arrive(
+    t: &mut [u8],
+    s: Size,
+    rising: bool,
+    loads: &mut [u16; Size::MOST_BENCHES + 1],
+    j: usize,
+    first: usize,
+    second: usize,
+) -> Arrival
+    requires { ⌜ SoundTable (now t) s ⌝ }
+    requires { ⌜ T rising ↔ (now t ≡ encode (decode (now t))) ⌝ }
+    requires { ⌜ MayArrive (decode (now t)) (record { job = j; given = first ∷ second ∷ [] }) ⌝ }
+    requires { ⌜ Loaded (decode (now t)) (now loads) ⌝ }
+    ensures { λ r. ⌜ ArrivalOf (now (t .entry)) (now (t .exit)) j first second r ⌝ }
+{
+    let x = lighter(loads, first, second);
+    let mut path = scratch::benches();
+    let found = find_arrival(t, s, rising, loads, j, first, second, x, &mut path);
+    apply_arrival(t, s, rising, j, first, second, x, found, &path)
+}

@@ -1,2 +1,0 @@
--- Arrival and closing.
-pub mod Changing

@@ -1,2 +1,0 @@
--- What arrival and closing leave.
-pub mod ChangeResults

@@ -1,0 +1,2 @@
+-- The board without the job, and the path handed along.
+pub mod Closing

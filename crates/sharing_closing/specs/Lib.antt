@@ -1,0 +1,2 @@
+-- What a closing finds and leaves.
+pub mod ClosingResult

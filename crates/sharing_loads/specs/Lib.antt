@@ -1,0 +1,2 @@
+-- What is asked of loads.
+pub mod LoadRanks

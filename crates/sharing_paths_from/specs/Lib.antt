@@ -1,0 +1,2 @@
+-- What the search for the arrival's path knows.
+pub mod ArrivalSearch

@@ -1,0 +1,2 @@
+-- What the search for the closing's path knows.
+pub mod ClosingSearch

@@ -1,0 +1,2 @@
+-- What a search is, as far as it went.
+pub mod Searching

@@ -1,0 +1,3 @@
+-- Jobs as steps, and a board with one job written anew.
+pub mod AsSteps
+pub mod JobWritten

@@ -1,0 +1,2 @@
+-- Jobs as steps.
+pub mod Others

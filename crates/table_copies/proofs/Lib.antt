@@ -1,0 +1,2 @@
+-- Tables put in order.
+pub mod Ordering

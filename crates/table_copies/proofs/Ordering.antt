@@ -1,0 +1,45 @@
+-- Tables in order: one whose chains rise, one whose chains were made anew, and a copy whose chains were. A copy takes the first bytes of a
+-- room for any table.
+use Prim.Native.Nat.{ℕ, _-_, _≤_}
+use native.Mathlib.Omega.{arith}
+use mathlib.Core.Path.{_≡_, refl, sym, ap, subst, _∙_}
+use mathlib.Core.List.{List, _++_, append-nil}
+use lib.ListN.{length, take, drop, replicate, length-replicate, drop-of-length-le}
+use lib.Seq.{take-length, length-take-le}
+use Rattle.spec_table.specs.Table.{mostBenches, mostJobs, lengthFor, decode, encode}
+use Rattle.table_size.specs.Sizes.{SizeOf, SoundTable}
+use Rattle.table_size.specs.declared.Size.{Size}
+use Rattle.table_board.specs.BoardView.{HoldsBoard}
+use Rattle.table_board.proofs.RecordsAsBoard.{sound-holds-board}
+use Rattle.table_chains.specs.Chains.{ChainsRebuilt}
+use Rattle.table_order.specs.InOrder.{TableOf}
+
+-- a sound table with the bytes of its board is, in order, the table of that board
+pub rising-table : {t : List ℕ} {s : Size} → SoundTable t s → t ≡ encode (decode t) → TableOf t s (decode t)
+rising-table z e = record { inOrder = record { sound = z; bytes = e }; board = refl }
+
+-- one whose chains were made anew is, in order, the table of the board that it held
+pub rebuilt-table : {t u : List ℕ} {s : Size} → ChainsRebuilt t u s → TableOf u s (decode t)
+rebuilt-table c =
+    record { inOrder = record { sound = c .sound; bytes = c .bytes ∙ ap encode (sym (c .board)) }; board = c .board }
+
+-- the first of two lists of one length, written over the second, is the first
+written-over : (t u : List ℕ) → length u ≡ length t → take (length t) t ++ drop (length t) u ≡ t
+written-over t u e =
+    rw (take-length t, drop-of-length-le u {i = length t} (omega arith)) (append-nil t)
+
+module _ (u : List ℕ) {t v : List ℕ} {s : Size} (z : SoundTable t s) (e : length u ≡ length t) (c : v ≡ take (length t) t ++ drop (length t) u) where
+  -- the copy holds the table's board ..
+  pub copy-holds : HoldsBoard v s
+  copy-holds = rw (c ∙ written-over t u e) (sound-holds-board t s z)
+
+  -- .. and so it does once it is in order
+  pub copy-table : {w : List ℕ} → ChainsRebuilt v w s → TableOf w s (decode t)
+  copy-table {w} r = subst (λ (l : List ℕ). TableOf w s (decode l)) (c ∙ written-over t u e) (rebuilt-table r)
+
+-- the part of a copy's room that the table takes is as long as the table
+pub room-long : {t : List ℕ} {s : Size} {n : ℕ} → SizeOf t s → n ≡ lengthFor (s .benches) (s .jobs) → length (take (n - 0) (replicate {A = ℕ} (lengthFor mostBenches mostJobs) 0)) ≡ length t
+room-long {n = n} k e =
+    let most = lengthFor mostBenches mostJobs in
+    let few : n - 0 ≤ most = omega (arith, k .limits .benches-most, k .limits .jobs-most) in
+    length-take-le (n - 0) (replicate {A = ℕ} most 0) (rw (length-replicate {A = ℕ} most 0) few) ∙ omega (arith, k .long)

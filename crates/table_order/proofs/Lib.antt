@@ -1,0 +1,2 @@
+-- Tables in order, and how one comes about.
+pub mod Ordered

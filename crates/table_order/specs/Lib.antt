@@ -1,0 +1,2 @@
+-- Tables in order.
+pub mod InOrder
