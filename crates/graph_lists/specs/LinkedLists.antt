@@ -1,12 +1,9 @@
--- Numbers listed by a key, and lists of arcs to walk along.
+-- Numbers listed by a key, and what is on a list.
 use Prim.Native.Nat.{ℕ, suc, _≤_, _<_}
 use mathlib.Core.Path.{_≡_}
-use mathlib.Core.Logic.{_⊎_, _≢_}
+use mathlib.Core.Logic.{_≢_}
 use mathlib.Core.List.{List}
-use lib.Dec.{T}
 use lib.ListN.{length}
-use Rattle.spec_lists.specs.Lists.{within}
-use Rattle.spec_table.specs.Table.{mostBenches, mostJobs}
 use Rattle.graph_lists.specs.Arrays.{at}
 
 -- r is the least number of i to n whose key is k, 0 where there is none
@@ -34,14 +31,6 @@ pub data On (next : List ℕ) : ℕ → ℕ → Type 0 where
   onHead : (a : ℕ) → a ≢ 0 → On next a a
   onTail : (a b : ℕ) → a ≢ 0 → On next (at next a) b → On next a b
 
--- an arc on x's list leads to y
+-- a number on x's list leads to y
 abbrev pub Adjacent : List ℕ → List ℕ → List ℕ → ℕ → ℕ → Type 0
 Adjacent head next to x y = (a : ℕ) × On next (at head x) a × (at to a ≡ y)
-
--- lists of arcs for benches, each rising, that lead to benches
-pub record AdjacencyLists (head next to : List ℕ) : Type 0 where
-  pub heads : (x : ℕ) → T (within 1 mostBenches x) → at head x ≤ mostJobs
-  pub rise :
-      (x a : ℕ) → T (within 1 mostBenches x) → On next (at head x) a →
-      (at next a ≡ 0) ⊎ ((a < at next a) × (at next a ≤ mostJobs))
-  pub leads : (x a : ℕ) → T (within 1 mostBenches x) → On next (at head x) a → T (within 1 mostBenches (at to a))

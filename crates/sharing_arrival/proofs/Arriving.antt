@@ -118,10 +118,6 @@ with-job b s j names x o w v t free k e l u =
     back q (inr r) =
         rw (r .1) (is-step c x (stepBy j o) got (rw (new-names b w j names x t) (k .named)) (k .apart) (sym (length-shares (c .named) (c .holders) (v .valid .shares))))
 
--- a table of the same board leads along the same steps
-pub same-with : {u : List ℕ} {s : Size} {b c : Board} {x j o : ℕ} → TableOf u s b → WithJob b c s x j o → WithJob (decode u) c s x j o
-same-with k w = rw (k .board) w
-
 -- the bench that gets the job is one of its benches
 pub getting-in : (holders : List ℕ) (x y : ℕ) {g : ℕ} → g ≡ lightestNamed holders (x ∷ y ∷ []) → In g (x ∷ y ∷ [])
 getting-in holders x y e = rw e (lightestNamed-in holders (x ∷ y ∷ []) tt)

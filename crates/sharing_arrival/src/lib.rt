@@ -7,14 +7,13 @@ ghost use lib.Dec.{T};
 ghost use lib.ListN.{length};
 ghost use Rattle.spec_lists.specs.Lists.{within};
 ghost use Rattle.spec_table.specs.Board.{Board};
-ghost use Rattle.spec_sharing.specs.Sharing.{lightestNamed, arrivalChoice};
+ghost use Rattle.spec_sharing.specs.Sharing.{lightestNamed};
 ghost use Rattle.spec_table.specs.Table.{mostBenches, decode, encode};
 ghost use Rattle.spec_calls.specs.Calls.{MayArrive};
-ghost use Rattle.table_size.specs.Sizes.{BenchIn, SoundTable};
+ghost use Rattle.table_size.specs.Sizes.{SoundTable};
 ghost use Rattle.table_board.specs.BoardView.{HoldsBoard, Loaded};
-ghost use Rattle.graph_lists.specs.Arrays.{LoadsIn};
-ghost use Rattle.sharing_paths.specs.FoundPaths.{lastOf, PathFound, JobAt};
-ghost use Rattle.sharing_paths_from.specs.ArrivalSearch.{WithJob};
+ghost use Rattle.table_order.specs.InOrder.{InOrder};
+ghost use Rattle.sharing_paths.specs.FoundPaths.{JobAt};
 ghost use Rattle.sharing_arrival.specs.ArrivalResult.{ArrivalFound, EntersAt, ArrivalOf};
 use graph_lists::scratch;
 use sharing_paths::FoundPath;
@@ -48,37 +47,11 @@ pub fn lighter(loads: &[u16; Size::MOST_BENCHES + 1], first: usize, second: usiz
     }
 }
 
-// Finds the path from x as find_from does, on a table in any order: in a copy, as long as the table,
-// that is put in order.
-fn find_from_copy(
-    t: &[u8],
-    s: Size,
-    loads: &[u16; Size::MOST_BENCHES + 1],
-    x: usize,
-    job: usize,
-    other: usize,
-    copy: &mut [u8],
-    path: &mut [u16; Size::MOST_BENCHES + 1],
-) -> FoundPath
-    requires { ⌜ SoundTable (now t) s ⌝ }
-    requires { ⌜ BenchIn s x ⌝ }
-    requires { ⌜ LoadsIn s (now loads) ⌝ }
-    requires { ⌜ length (now copy) ≡ length (now t) ⌝ }
-    requires { ⌜ length (now path) ≡ mostBenches + 1 ⌝ }
-    requires { ⌜ ((c : Board) × WithJob (decode (now t)) c s x job other × Loaded c (now loads)) ⌝ }
-    ensures { λ r. ⌜ ((c : Board) → WithJob (decode (now (t .entry))) c s x job other → Loaded c (now (loads .entry)) →
-        PathFound (arrivalChoice c x) (lastOf x (arrivalChoice c x)) (now (path .exit)) r) ⌝ }
-{
-    table_copies::copy_in_order(t, s, copy);
-    sharing_paths_from::find_from(copy, s, loads, x, job, other, path)
-}
-
 // Finds what an arrival of job j at x, the lighter of its two benches, hands along: the path's jobs into `path`. The
 // loads get the new job, since the search reads them; nothing reads them afterwards.
 pub fn find_arrival(
     t: &[u8],
     s: Size,
-    rising: bool,
     loads: &mut [u16; Size::MOST_BENCHES + 1],
     j: usize,
     first: usize,
@@ -86,8 +59,7 @@ pub fn find_arrival(
     x: usize,
     path: &mut [u16; Size::MOST_BENCHES + 1],
 ) -> FoundPath
-    requires { ⌜ SoundTable (now t) s ⌝ }
-    requires { ⌜ T rising ↔ (now t ≡ encode (decode (now t))) ⌝ }
+    requires { ⌜ InOrder (now t) s ⌝ }
     requires { ⌜ MayArrive (decode (now t)) (record { job = j; given = first ∷ second ∷ [] }) ⌝ }
     requires { ⌜ Loaded (decode (now t)) (now loads) ⌝ }
     requires { ⌜ x ≡ lightestNamed (decode (now t) .holders) (first ∷ second ∷ []) ⌝ }
@@ -96,13 +68,7 @@ pub fn find_arrival(
 {
     loads[x] += 1;
     let other = first + second - x;
-    if rising {
-        sharing_paths_from::find_from(t, s, loads, x, j, other, path)
-    } else {
-        let mut copy = [0; Size::MOST_BYTES];
-        let n = s.bytes();
-        find_from_copy(t, s, loads, x, j, other, &mut copy[0..n], path)
-    }
+    sharing_paths_from::find_from(t, s, loads, x, j, other, path)
 }
 
 // Tells where job j is taken in: if it is the path's first, at once where it goes, else at x.
@@ -130,11 +96,10 @@ fn enter(
     }
 }
 
-// Takes in job j at x and hands the path's jobs along. A table in another order is put in order first.
+// Takes in job j and hands the path's jobs along.
 pub fn apply_arrival(
     t: &mut [u8],
     s: Size,
-    rising: bool,
     j: usize,
     first: usize,
     second: usize,
@@ -142,25 +107,67 @@ pub fn apply_arrival(
     found: FoundPath,
     path: &[u16; Size::MOST_BENCHES + 1],
 ) -> Arrival
-    requires { ⌜ SoundTable (now t) s ⌝ }
-    requires { ⌜ T rising ↔ (now t ≡ encode (decode (now t))) ⌝ }
+    requires { ⌜ InOrder (now t) s ⌝ }
     requires { ⌜ MayArrive (decode (now t)) (record { job = j; given = first ∷ second ∷ [] }) ⌝ }
     requires { ⌜ ArrivalFound (decode (now t)) j (first ∷ second ∷ []) x (now path) found ⌝ }
     ensures { λ r. ⌜ ArrivalOf (now (t .entry)) (now (t .exit)) j first second r ⌝ }
 {
-    table_copies::put_in_order(t, s, rising);
     let entry = enter(t, s, j, x, found, path);
     let names = [first, second];
     table_splices::add_job(t, s, j, &names, entry.holder);
     sharing_paths::hand_along(t, s, path, entry.place, found.jobs, found.bench);
+    let moved = found.jobs - entry.place;
     Arrival {
         holder: entry.holder,
         rose: found.bench,
-        moved: found.jobs - entry.place,
+        moved,
     }
 }
 
-// Takes in job j for two benches: what is handed along is found first, and then all is written.
+// Takes in job j on a table in order: finds first, then writes.
+fn arrive_in_order(
+    t: &mut [u8],
+    s: Size,
+    loads: &mut [u16; Size::MOST_BENCHES + 1],
+    j: usize,
+    first: usize,
+    second: usize,
+) -> Arrival
+    requires { ⌜ InOrder (now t) s ⌝ }
+    requires { ⌜ MayArrive (decode (now t)) (record { job = j; given = first ∷ second ∷ [] }) ⌝ }
+    requires { ⌜ Loaded (decode (now t)) (now loads) ⌝ }
+    ensures { λ r. ⌜ ArrivalOf (now (t .entry)) (now (t .exit)) j first second r ⌝ }
+{
+    let x = lighter(loads, first, second);
+    let mut path = scratch::benches();
+    let found = find_arrival(t, s, loads, j, first, second, x, &mut path);
+    apply_arrival(t, s, j, first, second, x, found, &path)
+}
+
+// Takes in job j on a table in another order: in a copy, as long as the table, that is put in order, and then copied
+// back.
+fn arrive_in_copy(
+    t: &mut [u8],
+    s: Size,
+    loads: &mut [u16; Size::MOST_BENCHES + 1],
+    j: usize,
+    first: usize,
+    second: usize,
+    copy: &mut [u8],
+) -> Arrival
+    requires { ⌜ SoundTable (now t) s ⌝ }
+    requires { ⌜ MayArrive (decode (now t)) (record { job = j; given = first ∷ second ∷ [] }) ⌝ }
+    requires { ⌜ Loaded (decode (now t)) (now loads) ⌝ }
+    requires { ⌜ length (now copy) ≡ length (now t) ⌝ }
+    ensures { λ r. ⌜ ArrivalOf (now (t .entry)) (now (t .exit)) j first second r ⌝ }
+{
+    table_copies::copy_in_order(t, s, copy);
+    let a = arrive_in_order(copy, s, loads, j, first, second);
+    table_copies::copy_back(copy, t);
+    a
+}
+
+// Takes in job j for two benches.
 pub fn arrive(
     t: &mut [u8],
     s: Size,
@@ -176,8 +183,11 @@ pub fn arrive(
     requires { ⌜ Loaded (decode (now t)) (now loads) ⌝ }
     ensures { λ r. ⌜ ArrivalOf (now (t .entry)) (now (t .exit)) j first second r ⌝ }
 {
-    let x = lighter(loads, first, second);
-    let mut path = scratch::benches();
-    let found = find_arrival(t, s, rising, loads, j, first, second, x, &mut path);
-    apply_arrival(t, s, rising, j, first, second, x, found, &path)
+    if rising {
+        arrive_in_order(t, s, loads, j, first, second)
+    } else {
+        let mut copy = [0; Size::MOST_BYTES];
+        let n = s.bytes();
+        arrive_in_copy(t, s, loads, j, first, second, &mut copy[0..n])
+    }
 }

@@ -31,7 +31,7 @@ use Rattle.sharing_paths.specs.FoundPaths.{lastOf, startOf, PathFound, RouteIn}
 use Rattle.sharing_paths.specs.declared.FoundPath.{FoundPath}
 use Rattle.sharing_paths.proofs.HandingAlong.{routeOf, found-route}
 use Rattle.sharing_paths_to.specs.ClosingSearch.{WithoutJob}
-use Rattle.sharing_closing.specs.ClosingResult.{ClosingFound, IsClosing}
+use Rattle.sharing_closing.specs.ClosingResult.{ClosingFound, IsClosing, ClosingOf}
 use Rattle.sharing_steps.proofs.JobWritten.{put-storable, step-same, written-load}
 
 -- one job less at bench x
@@ -55,10 +55,6 @@ without-job b s j w p e l =
     -- the job is no step any more
     gone : (z : ℕ) (q : Step) → In q (steps (put b j [] 0) z) → q .job ≢ j
     gone z q i f = subst (In (q .to)) (ap (namesOf (put b j [] 0)) f ∙ taken-names b j p) ((step-is (put b j [] 0) z q i) .1)
-
--- a table of the same board leads along the same steps
-pub same-without : {u : List ℕ} {s : Size} {b c : Board} {x : ℕ} → TableOf u s b → WithoutJob b c s x → WithoutJob (decode u) c s x
-same-without k w = rw (k .board) w
 
 module _ {t : List ℕ} {s : Size} {j : ℕ} (z : SoundTable t s) (p : T (stands (decode t) j)) where
   -- a job that stands has a number of 1 to J ..
@@ -161,3 +157,7 @@ module _ {b : Board} {s : Size} {j x : ℕ} {path : List ℕ} {r : FoundPath} (f
       let k = h (startOf y d) (routeOf d) closing-route in
       let board = k .board ∙ ap (λ (l : Board). heldBy l (handOver (l .holders) (routeOf d))) removed ∙ closed-board c y d in
       closed-numbers w c y d (k .inOrder .bytes ∙ ap encode board) (f .found)
+
+-- what is left of a table of the board is what the board's closing leaves
+pub closing-copied : {u v : List ℕ} {s : Size} {b : Board} (j : ℕ) {r : FoundPath} → TableOf u s b → ClosingOf u v j r → IsClosing v (close b j) r
+closing-copied {v = v} j {r} k h = subst (λ (b : Board). IsClosing v (close b j) r) (k .board) h

@@ -40,11 +40,7 @@ use Rattle.table_size.proofs.Sizes.{board-bench}
 use Rattle.sharing_steps.proofs.AsSteps.{loads-in, on-board, load-at}
 use Rattle.sharing_search.proofs.OnBoard.{order-holds}
 
--- the board's loads are those of its table ..
-pub table-loaded : {u : List ℕ} {s : Size} {b : Board} {loads : List ℕ} → TableOf u s b → Loaded b loads → Loaded (decode u) loads
-table-loaded k l = rw (k .board) l
-
--- .. and loads of its size
+-- the loads of a table in order are loads of its size
 pub order-loads : {t : List ℕ} {s : Size} {loads : List ℕ} → InOrder t s → Loaded (decode t) loads → LoadsIn s loads
 order-loads i l = loads-in (order-holds i) l
 

@@ -1,7 +1,8 @@
--- What a search finds is what the rules name: distances, the end bench by the rule's order, and the first list, give the chosen path.
+-- What a search finds is what the rules name: an arrival's end bench by the rule's order and the first list give the chosen path,
+-- and levelling's is that of the bench that comes first among those that start one.
 use Prim.Native.Nat.{ℕ, suc, _+_, _≤_, _<_}
 use native.Mathlib.Omega.{arith}
-use native.Mathlib.Decide.{decLt, decLe}
+use native.Mathlib.Decide.{decLt}
 use mathlib.Core.Path.{_≡_, sym, ap, subst, _∙_}
 use mathlib.Core.Logic.{_⊎_, inl, inr, _↔_}
 use mathlib.Core.List.{List, _∷_}
@@ -10,14 +11,14 @@ use lib.Dec.{T}
 use lib.ListN.{length}
 use Rattle.spec_lists.specs.Lists.{within, distinct, lexLe, In}
 use Rattle.spec_table.specs.Board.{Board, Valid, load}
-use Rattle.spec_sharing.specs.Paths.{Step, steps, BenchPath, pathBy, endOf, last, jobs, Walk, IsPath, improves, improvingFrom, improvingTo, improving}
-use Rattle.spec_sharing.specs.Sharing.{arrivalKey, closingKey, arrivalChoice, closingChoice, levellingChoice, level}
+use Rattle.spec_sharing.specs.Paths.{Step, steps, BenchPath, pathBy, endOf, last, jobs, Walk, IsPath, improves, improvingFrom, improving}
+use Rattle.spec_sharing.specs.Sharing.{arrivalKey, arrivalChoice, levellingChoice, level}
 use Rattle.spec_lists.proofs.Tests.{T→true}
 use Rattle.spec_lists.proofs.Elements.{in-empty}
-use Rattle.spec_sharing.proofs.Paths.{benchesOf, jobsOf, improvingFrom-only, improvingFrom-every, improves-loads, loads-improve, improves-start, improving-only, improving-every, improvingTo-only, improvingTo-every, level-exact}
-use Rattle.spec_sharing.proofs.Choice.{argmin-empty, ArrivalFirst, ClosingFirst, LevellingFirst, First, arrival-choice, closing-choice, levelling-choice}
-use Rattle.spec_sharing.proofs.Walks.{Reach, reach-more, reach-all, fewest-once, path-reach, reach-bench, level-reach}
-use Rattle.spec_sharing.proofs.Distances.{To, Away}
+use Rattle.spec_sharing.proofs.Paths.{benchesOf, jobsOf, improvingFrom-only, improvingFrom-every, improves-loads, loads-improve, improves-start, improving-only, improving-every, level-exact}
+use Rattle.spec_sharing.proofs.Choice.{argmin-empty, ArrivalFirst, LevellingFirst, First, arrival-choice, levelling-choice}
+use Rattle.spec_sharing.proofs.Walks.{Reach, fewest-once, path-reach, reach-bench, level-reach}
+use Rattle.spec_sharing.proofs.Distances.{Away}
 
 -- r is a walk from x to y with d - 1 steps, and its list of jobs is the first among the walks with so many
 pub record FirstList (b : Board) (x y d : ℕ) (r : List Step) : Type 0 where
@@ -48,17 +49,6 @@ module _ (b : Board) where
   pub record ArrivalEnd (x : ℕ) (f : ℕ → ℕ) (y : ℕ) : Type 0 where
     pub is : Lower x f y
     pub first : (z : ℕ) → Lower x f z → (load (b .holders) y < load (b .holders) z) ⊎ ((load (b .holders) y ≡ load (b .holders) z) × ((f y < f z) ⊎ ((f y ≡ f z) × (y ≤ z))))
-
-  -- z is a bench where an improving path to x may start: d are the distances to x
-  pub record Higher (x : ℕ) (d : ℕ → ℕ) (z : ℕ) : Type 0 where
-    pub bench : T (within 1 (b .benches) z)
-    pub reaches : 1 ≤ d z
-    pub higher : load (b .holders) x + 2 ≤ load (b .holders) z
-
-  -- "greatest first load, then fewest jobs, lowest first bench"
-  pub record ClosingStart (x : ℕ) (d : ℕ → ℕ) (z : ℕ) : Type 0 where
-    pub is : Higher x d z
-    pub first : (w : ℕ) → Higher x d w → (load (b .holders) w < load (b .holders) z) ⊎ ((load (b .holders) z ≡ load (b .holders) w) × ((d z < d w) ⊎ ((d z ≡ d w) × (z ≤ w))))
 
   -- bench x starts an improving path
   abbrev pub StartsOne : ℕ → Type 0
@@ -112,38 +102,6 @@ module _ (b : Board) (v : Valid b) where
   unfolding arrivalChoice
   arrival-not-found x f a n = argmin-empty (arrivalKey b) (improvingFrom b x) (in-empty (improvingFrom b x) (λ q i. n (last q) (lower-end x f a q i .0)))
 
-  -- an improving path to x starts at a bench where one may start, and is no shorter than its distance
-  higher-start : (x : ℕ) (d : ℕ → ℕ) → To (b .benches) (steps b) x d → (q : BenchPath) → In q (improvingTo b x) → Higher b x d (q .start) × (d (q .start) ≤ suc (length (q .route)))
-  higher-start x d t q i =
-      let h = improvingTo-only b x q i in
-      let s = t .short (q .start) (q .route) (h .1) (h .0 .walk) (h .2) in
-      (record { bench = h .1; reaches = s .0; higher = omega (arith, improves-loads b q (h .3), ap (load (b .holders)) (h .2)) }, s .1)
-
-  -- a closing at x: one search to x, the first bench by the rule's order, and the first list from there are the choice ..
-  pub closing-found : (x z : ℕ) (d : ℕ → ℕ) (r : List Step) → To (b .benches) (steps b) x d → ClosingStart b x d z → FirstList b z x (d z) r → closingChoice b x ≡ some (pathBy z r)
-  closing-found x z d r t s l = (closing-choice b x (pathBy z r)) .1 (record { listed-is = listed; before = before })
-    where
-      path : IsPath b (pathBy z r)
-      path = first-path b z x (d z) r l (λ q w e. (t .short z q (s .is .bench) w e) .1)
-
-      listed : In (pathBy z r) (improvingTo b x)
-      listed =
-          subst (λ (y : ℕ). In (pathBy z r) (improvingTo b y)) (l .ends)
-          (improvingTo-every b v (pathBy z r) path (loads-improve b (pathBy z r) (rw (l .ends) (s .is .higher))))
-
-      before : (q : BenchPath) → In q (improvingTo b x) → ClosingFirst b (pathBy z r) q
-      before q i =
-          let h = improvingTo-only b x q i in
-          let w = higher-start x d t q i in
-          by-length (d z) (d (q .start)) (length r) (length (q .route)) z (q .start) (l .long) (w .1)
-          (λ n e. first-jobs b z x (d z) r l q (h .0) (sym e) (h .2) n)
-          (s .first (q .start) (w .0))
-
-  -- .. and nothing where there is none
-  pub closing-not-found : (x : ℕ) (d : ℕ → ℕ) → To (b .benches) (steps b) x d → ((z : ℕ) → Higher b x d z → ⊥) → closingChoice b x ≡ none
-  unfolding closingChoice
-  closing-not-found x d t n = argmin-empty (closingKey b) (improvingTo b x) (in-empty (improvingTo b x) (λ q i. n (q .start) (higher-start x d t q i .0)))
-
   -- a board is level exactly if no bench starts an improving path
   pub level-starts : T (level b) ↔ ((x : ℕ) → T (within 1 (b .benches) x) → StartsOne b x → ⊥)
   level-starts =
@@ -176,17 +134,3 @@ module _ (b : Board) (v : Valid b) where
           go : (load (b .holders) (q .start) < load (b .holders) z) ⊎ ((load (b .holders) z ≡ load (b .holders) (q .start)) × (z ≤ q .start)) → LevellingFirst b p q
           go (inl l) = inl (omega (arith, ap (load (b .holders)) (h .1)))
           go (inr (l, m)) = inr (ap (load (b .holders)) (h .1) ∙ l, tie m (decLt (p .start) (q .start)))
-
-module _ (b : Board) where
-  -- marks that every step hands on, all at benches of load k - 1 or more: no marked bench of load k or less starts an improving path
-  pub marked-none : (Marked : ℕ → Type 0) (k : ℕ) → ((z : ℕ) (s : Step) → Marked z → In s (steps b z) → Marked (s .to)) → ((y : ℕ) → Marked y → k ≤ load (b .holders) y + 1) → (w : ℕ) → Marked w → load (b .holders) w ≤ k → StartsOne b w → ⊥
-  marked-none Marked k shut high w m l (y, r, d) = omega (arith, high y (reach-all (steps b) Marked shut w y m r))
-
-  -- so a bench that is no heavier than one that reaches it, where that one starts no improving path, starts none either: it need not be
-  -- searched
-  pub searched : (x y : ℕ) → Reach (steps b) x y → load (b .holders) y ≤ load (b .holders) x → (StartsOne b x → ⊥) → StartsOne b y → ⊥
-  searched x y w l n =
-      marked-none (Reach (steps b) x) (load (b .holders) x) (λ z s r i. reach-more (steps b) x z s r i) high y w l
-    where
-      high : (z : ℕ) → Reach (steps b) x z → load (b .holders) x ≤ load (b .holders) z + 1
-      high z r = elim (decLe (load (b .holders) x) (load (b .holders) z + 1)) [ yes h ↦ h | no h ↦ absurd (n (z, r, omega arith)) ]

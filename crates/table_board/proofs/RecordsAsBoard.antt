@@ -1,27 +1,27 @@
 -- Records and the board that they hold.
 use Prim.Native.Nat.{ℕ, _≤_, _<_}
 use native.Mathlib.Omega.{arith}
-use mathlib.Core.Path.{_≡_, refl, sym, ap, _∙_, subst}
+use mathlib.Core.Path.{_≡_, refl, sym, ap, _∙_}
 use mathlib.Core.Logic.{_⊎_, inl, inr, _≢_}
 use mathlib.Core.Bool.{Bool, true, false, cond, not}
 use mathlib.Core.List.{List, [], _∷_}
 use lib.Dec.{T, eqb}
 use lib.ListN.{length, getD, length-map}
-use borrow.Author.Tests.{eq-eqb, ne-eqb}
-use Rattle.spec_lists.specs.Lists.{member, In, empty, nth, update}
-use Rattle.spec_table.specs.Board.{Board, namesOf, holderOf, stands, put, load, heldBy, mayHold, namesFit}
-use Rattle.spec_table.specs.Table.{Entry, vacant, filled, holderIn, positionOf, entryFor, boardOf, decode, paired, Storable}
+use borrow.Author.Tests.{ne-eqb}
+use Rattle.spec_lists.specs.Lists.{In, empty, nth}
+use Rattle.spec_table.specs.Board.{Board, namesOf, holderOf, stands, put, load, mayHold, namesFit}
+use Rattle.spec_table.specs.Table.{Entry, vacant, filled, holderIn, entryFor, boardOf, decode, paired, Storable}
 use Rattle.spec_lists.proofs.Tests.{cond-le, T-eqb, within-high}
-use Rattle.spec_lists.proofs.Elements.{two-elements, each-nth, in-getD, in-nth, map-update, update-same, in-enumerate, enumerate-nth}
+use Rattle.spec_lists.proofs.Elements.{each-nth, in-getD, in-nth, map-update, in-enumerate, enumerate-nth}
 use Rattle.spec_lists.proofs.NumberLists.{member-in}
 use Rattle.spec_lists.proofs.Counting.{count-none}
 use Rattle.spec_table.proofs.Named.{fit-bench, changed-storable, named-may, stands-within, named-stands, named-bench}
 use Rattle.spec_sharing.proofs.Flip.{put-valid}
 use Rattle.spec_table.proofs.Layouts.{holds-entry, holder-entry}
-use Rattle.spec_table.proofs.Sound.{namesIn, two-paired, holder-within, holder-record, record-pair, names-record, Standing, stored-record}
+use Rattle.spec_table.proofs.Sound.{namesIn, two-paired, holder-within, holder-record, names-record, Standing, stored-record}
 use Rattle.table_words.specs.Bytes.{layoutIn}
 use Rattle.table_size.specs.Sizes.{Limits, JobIn, SoundTable, SizeOf}
-use Rattle.table_size.specs.Written.{recordIn, withHolder, withEntry, HasLayout}
+use Rattle.table_size.specs.Written.{recordIn, withEntry, HasLayout}
 use Rattle.table_records.specs.Records.{entryOf, RecordOf}
 use Rattle.table_size.proofs.Sizes.{board-job, board-bench, entries-long}
 use Rattle.table_records.specs.declared.Record.{Record}
@@ -59,13 +59,6 @@ named-record t j x i = go (filled (recordIn t j)) (names-record t j)
     go : (z : Bool) → namesOf (decode t) j ≡ cond z ((recordIn t j) .names) [] → namesOf (decode t) j ≡ (recordIn t j) .names
     go true q = q
     go false q = absurd (rw q at i)
-
--- the benches that a job of a board that is kept names are different ones of 1 to B
-names-fit : (t : List ℕ) (s : Size) (j : ℕ) → HoldsBoard t s → T (namesFit (s .benches) (namesOf (decode t) j))
-names-fit t s j k =
-    let b = decode t in
-    let f = each-nth (λ names. T (namesFit (b .benches) names)) (b .named) j [] tt (k .storable .valid .names) in
-    rw (k .size .board-benches) at f
 
 -- a record of a board that is kept: no job's, all words zero, or a standing job's
 pub holds-record : (t : List ℕ) (s : Size) (j : ℕ) → HoldsBoard t s → (nth ((layoutIn t) .entries) j vacant ≡ vacant) ⊎ Standing (s .benches) (nth ((layoutIn t) .entries) j vacant)
@@ -151,34 +144,9 @@ put-holds t u s j names h n k f l =
     let may = named-may names h (member-in h names (f .held)) in
     written-holds t u s j (entryFor names h n) names h k l (holds-entry (s .benches) names h n (f .fit)) (holder-entry names h n may) (f .fit) may (two-paired names (f .pair))
 
--- .. an emptied one a job taken away ..
+-- .. and an emptied one a job taken away
 pub remove-holds : (t u : List ℕ) (s : Size) (j : ℕ) → HoldsBoard t s → JobIn s j → HasLayout u s (withEntry (layoutIn t) j vacant) → Holds u s (put (decode t) j [] 0)
 remove-holds t u s j k i l = written-holds t u s j vacant [] 0 k l refl refl tt tt tt
-
--- .. and another holder word the same job held otherwise
-pub hand-holds : (t u : List ℕ) (s : Size) (j x : ℕ) → HoldsBoard t s → JobIn s j → T (member x (namesOf (decode t) j)) → let e = nth ((layoutIn t) .entries) j vacant in HasLayout u s (withEntry (layoutIn t) j (record { names = e .names; holder = positionOf x (e .names); next = e .next })) → Holds u s (heldBy (decode t) (update ((decode t) .holders) j x))
-hand-holds t u s j x k i m l = subst (Holds u s) same-names (put-holds t u s j (e .names) x (e .next) k fill (entry (e .names) (record-pair t j) l))
-  where
-    b : Board
-    b = decode t
-
-    e : Entry
-    e = nth ((layoutIn t) .entries) j vacant
-
-    named : namesOf b j ≡ e .names
-    named = named-record t j x (member-in x (namesOf b j) m)
-
-    fill : Fillable s j (e .names) x
-    fill = let fit = names-fit t s j k in record { job = i; pair = record-pair t j; fit = rw named at fit; held = rw named at m }
-
-    entry : (names : List ℕ) → length names ≡ 2 → HasLayout u s (withEntry (layoutIn t) j (record { names = names; holder = positionOf x names; next = e .next })) → HasLayout u s (withEntry (layoutIn t) j (entryFor names x (e .next)))
-    entry [] two l = absurd (omega arith)
-    entry (a ∷ names) two l = l
-
-    same-names : put b j (e .names) x ≡ heldBy b (update (b .holders) j x)
-    same-names =
-        let back : update (b .named) j (e .names) ≡ b .named = ap (update (b .named) j) (sym named) ∙ update-same (b .named) j [] in
-        λ i. record { benches = b .benches; named = back i; holders = update (b .holders) j x }
 
 -- as the code chooses the holder word of a job that h holds: p is 1 if the first bench a is h, else 2
 abbrev pub PlaceFor : ℕ → ℕ → ℕ → Type 0
@@ -189,25 +157,7 @@ pub chosen-small : (a h p : ℕ) → PlaceFor a h p → p < 65536
 chosen-small a h p (inl c) = omega (arith, c .1)
 chosen-small a h p (inr c) = omega (arith, c .1)
 
--- and the holder's place
-chosen-place : (a b h p : ℕ) → PlaceFor a h p → In h (a ∷ b ∷ []) → p ≡ positionOf h (a ∷ b ∷ [])
-chosen-place a b h p (inl c) i = rw (c .1, eq-eqb a h (c .0)) refl
-chosen-place a b h p (inr c) (inl e) = absurd (c .0 (sym e))
-chosen-place a b h p (inr c) (inr (inl e)) = rw (c .1, ne-eqb a h (c .0), eq-eqb b h (sym e)) refl
-chosen-place a b h p (inr c) (inr (inr i)) = absurd i
-
--- a job put on the board as the code writes its record
-pub add-holds : (t u : List ℕ) (s : Size) (j : ℕ) (names : List ℕ) (h p : ℕ) → HoldsBoard t s → Fillable s j names h → PlaceFor (getD names 0 0) h p → HasLayout u s (withEntry (layoutIn t) j (record { names = getD names 0 0 ∷ getD names 1 0 ∷ []; holder = p; next = 0 })) → Holds u s (put (decode t) j names h)
-add-holds t u s j names h p k f c l = put-holds t u s j names h 0 k f (subst (λ e. HasLayout u s (withEntry (layoutIn t) j e)) entry l)
-  where
-    entry : _≡_ {A = Entry} (record { names = getD names 0 0 ∷ getD names 1 0 ∷ []; holder = p; next = 0 }) (entryFor names h 0)
-    entry =
-        let n = two-elements names (f .pair) in
-        let i = member-in h names (f .held) in
-        let place = chosen-place (n .0) (n .1) h p (rw (n .2) at c) (rw (n .2) at i) in
-        rw (n .2) (λ k. record { names = n .0 ∷ n .1 ∷ []; holder = place k; next = 0 })
-
--- its benches are words
+-- the benches of a job that can be filled in are words too
 pub name-small : (s : Size) (j : ℕ) (names : List ℕ) (h i : ℕ) → Limits s → Fillable s j names h → i < 2 → getD names i 0 < 65536
 name-small s j names h i z f l =
     let w = fit-bench (s .benches) names (getD names i 0) (f .fit) (in-getD names i 0 (omega (arith, f .pair))) in
@@ -248,13 +198,3 @@ name-second t s j n r k f low high d =
     let names = namesOf (decode t) j in
     let two : n ≡ 2 = omega (arith, names-most t s j k) in
     rw (names-read t j (nth names n 0) r f (in-nth names n 0 low high), two) refl
-
--- the holder word written anew gives the job to x
-pub hand-word : (t u : List ℕ) (s : Size) (j x p : ℕ) (r : Record) → HoldsBoard t s → JobIn s j → T (member x (namesOf (decode t) j)) → RecordOf t j r → PlaceFor (r .first) x p → HasLayout u s (withEntry (layoutIn t) j (withHolder (nth ((layoutIn t) .entries) j vacant) p)) → Holds u s (heldBy (decode t) (update ((decode t) .holders) j x))
-hand-word t u s j x p r k i m f c l = hand-holds t u s j x k i m (rw (sym place) l)
-  where
-    named : In x ((entryOf r) .names)
-    named = let n = member-in x (namesOf (decode t) j) m in subst (In x) (names-read t j x r f n) n
-
-    place : p ≡ positionOf x ((recordIn t j) .names)
-    place = chosen-place (r .first) (r .second) x p c named ∙ ap (λ (e : Entry). positionOf x (e .names)) (f .entry)

@@ -10,8 +10,7 @@ use Rattle.spec_table.specs.Table.{mostBenches, decode, Storable}
 use Rattle.table_size.specs.Sizes.{SizeOf, JobIn, BenchIn}
 use Rattle.table_size.specs.declared.Size.{Size}
 
--- a table of size s whose records hold a board, whatever its chains are: what a change leaves until the chains are
--- made anew
+-- a table of size s whose records hold a board, whatever its chains are
 pub record HoldsBoard (t : List ℕ) (s : Size) : Type 0 where
   pub size : SizeOf t s
   pub storable : Storable (decode t)

@@ -6,10 +6,11 @@ use mathlib.Core.Path.{_≡_, refl, sym, ap, subst, _∙_}
 use mathlib.Core.List.{List, _++_, append-nil}
 use lib.ListN.{length, take, drop, replicate, length-replicate, drop-of-length-le}
 use lib.Seq.{take-length, length-take-le}
+use Rattle.spec_table.specs.Board.{Board}
 use Rattle.spec_table.specs.Table.{mostBenches, mostJobs, lengthFor, decode, encode}
 use Rattle.table_size.specs.Sizes.{SizeOf, SoundTable}
 use Rattle.table_size.specs.declared.Size.{Size}
-use Rattle.table_board.specs.BoardView.{HoldsBoard}
+use Rattle.table_board.specs.BoardView.{HoldsBoard, Loaded}
 use Rattle.table_board.proofs.RecordsAsBoard.{sound-holds-board}
 use Rattle.table_chains.specs.Chains.{ChainsRebuilt}
 use Rattle.table_order.specs.InOrder.{TableOf}
@@ -24,7 +25,7 @@ rebuilt-table c =
     record { inOrder = record { sound = c .sound; bytes = c .bytes ∙ ap encode (sym (c .board)) }; board = c .board }
 
 -- the first of two lists of one length, written over the second, is the first
-written-over : (t u : List ℕ) → length u ≡ length t → take (length t) t ++ drop (length t) u ≡ t
+pub written-over : (t u : List ℕ) → length u ≡ length t → take (length t) t ++ drop (length t) u ≡ t
 written-over t u e =
     rw (take-length t, drop-of-length-le u {i = length t} (omega arith)) (append-nil t)
 
@@ -43,3 +44,7 @@ room-long {n = n} k e =
     let most = lengthFor mostBenches mostJobs in
     let few : n - 0 ≤ most = omega (arith, k .limits .benches-most, k .limits .jobs-most) in
     length-take-le (n - 0) (replicate {A = ℕ} most 0) (rw (length-replicate {A = ℕ} most 0) few) ∙ omega (arith, k .long)
+
+-- a board's loads are those of its table
+pub table-loaded : {u : List ℕ} {s : Size} {b : Board} {loads : List ℕ} → TableOf u s b → Loaded b loads → Loaded (decode u) loads
+table-loaded k l = rw (k .board) l

@@ -28,3 +28,11 @@ pub fn copy_in_order(t: &[u8], s: Size, copy: &mut [u8])
     bytes::copy(t, copy);
     table_chains::rebuild_chains(copy, s);
 }
+
+// Copies a changed copy back to its table.
+pub fn copy_back(copy: &[u8], t: &mut [u8])
+    requires { ⌜ length (now t) ≡ length (now copy) ⌝ }
+    ensures { λ _. ⌜ now (t .exit) ≡ now (copy .entry) ⌝ }
+{
+    bytes::copy(copy, t);
+}

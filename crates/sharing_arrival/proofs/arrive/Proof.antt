@@ -1,47 +1,56 @@
--- The bench that gets the job is the rule's; what find_arrival found is what apply_arrival asks for.
-use mathlib.Core.Path.{refl}
-use mathlib.Core.Logic.{inl, inr}
+-- The job is taken in on the table, where it is in order, or in a copy put in order.
 use borrow.Author.Needs.{needs}
-use Rattle.spec_table.specs.Table.{decode}
-use Rattle.graph_lists.proofs.Listing.{array-long}
-use Rattle.sharing_arrival.proofs.Arriving.{named-within}
+use Rattle.spec_lists.proofs.Tests.{true→T}
+use Rattle.table_copies.proofs.Ordering.{rising-table, room-long}
 use Rattle.sharing_arrival.proofs.arrive.Statement.{statement}
 use Rattle.sharing_arrival.proofs.arrive.Tie as tie
 
-lighter-requires : tie.Need-lighter-requires
-lighter-requires c κs =
-    let pre = c .before .before .pre in
-    (named-within (pre .0) (pre .1 .1 .0) (inl refl), named-within (pre .0) (pre .1 .1 .0) (inr (inl refl)))
+arrive-in-order-requires : tie.Need-arrive-in-order-requires
+arrive-in-order-requires c κs =
+    let start = c .before .before .before .before in
+    let (z, (rises, (p, l))) = start .pre in
+    (rising-table z (rises .0 (true→T (start .args .rising) (c .before .before .if1 .taken))) .inOrder, (p, l))
 
-benches-requires : tie.Need-benches-requires
-benches-requires c κs = search needs
+bytes-requires : tie.Need-bytes-requires
+bytes-requires c κs = c .before .before .pre .0 .size .limits
 
-find-arrival-requires : tie.Need-find-arrival-requires
-find-arrival-requires c κs =
-    let got = c .before .before .before .before in
-    let start = got .before .before .before in
-    let pre = start .pre in
-    (pre .0, (pre .1 .0, (pre .1 .1 .0, (pre .1 .1 .1, (got .lighter .ensures (decode (start .args .t .now)) (pre .1 .1 .1), array-long 0 (c .before .before .before .benches .ensures))))))
+sub-arrive-in-copy : tie.Need-sub-arrive-in-copy
+sub-arrive-in-copy c = search needs
 
-apply-arrival-requires : tie.Need-apply-arrival-requires
-apply-arrival-requires c κs =
-    let found = c .before .before in
-    let pre = found .before .before .before .before .before .before .before .before .pre in
-    (pre .0, (pre .1 .0, (pre .1 .1 .0, found .find-arrival .ensures)))
+part-copy-start : tie.Need-part-copy-start
+part-copy-start c = search needs
+
+part-copy-end : tie.Need-part-copy-end
+part-copy-end c = search needs
+
+arrive-in-copy-requires : tie.Need-arrive-in-copy-requires
+arrive-in-copy-requires c κs =
+    let (z, (rises, (p, l))) = c .before .before .before .before .before .before .pre in
+    (z, (p, (l, room-long (z .size) (c .before .before .before .bytes .ensures))))
 
 same-length : tie.Need-same-length
 same-length c = search needs
 
 returns : tie.Need-returns
-returns c = search needs
+returns c = c .before .before .arrive-in-order .ensures
+
+same-length-2 : tie.Need-same-length-2
+same-length-2 c = search needs
+
+returns-2 : tie.Need-returns-2
+returns-2 c = c .before .before .before .arrive-in-copy .ensures
 
 pub arrive-spec : {M : Type 1} → statement M
 arrive-spec =
     tie.close
     (tie.spec
-    lighter-requires
-    benches-requires
-    find-arrival-requires
-    apply-arrival-requires
+    arrive-in-order-requires
+    bytes-requires
+    sub-arrive-in-copy
+    part-copy-start
+    part-copy-end
+    arrive-in-copy-requires
     same-length
-    returns)
+    returns
+    same-length-2
+    returns-2)

@@ -1,4 +1,4 @@
--- The loads get the job, and the path is looked for on the board with it: in the table if its chains rise, else in a copy.
+-- The loads get the job, and the path is looked for on the board with it.
 use Prim.Native.Nat.{_+_, _<_}
 use native.Mathlib.Omega.{arith}
 use mathlib.Core.Path.{refl}
@@ -7,22 +7,19 @@ use mathlib.Core.List.{[], _∷_}
 use Rattle.spec_lists.specs.Lists.{In}
 use Rattle.spec_table.specs.Board.{put}
 use Rattle.spec_table.specs.Table.{mostBenches, decode}
-use Rattle.spec_lists.proofs.Tests.{true→T}
-use Rattle.table_board.proofs.RecordsAsBoard.{sound-holds-board}
+use Rattle.sharing_search.proofs.OnBoard.{order-holds}
 use Rattle.sharing_steps.proofs.AsSteps.{loads-in}
-use Rattle.table_copies.proofs.Ordering.{rising-table, room-long}
 use Rattle.sharing_arrival.proofs.Arriving.{getting-in, arriving-bench, arriving-small, arriving-other, arriving-with, arriving-loads, arriving-loads-in, arriving-found}
-use borrow.Author.Needs.{needs}
 use Rattle.sharing_arrival.proofs.find_arrival.Statement.{statement}
 use Rattle.sharing_arrival.proofs.find_arrival.Tie as tie
 
 -- x is one of the two
 one : (c : tie.Start) → In (c .args .x) (c .args .first ∷ c .args .second ∷ [])
-one c = getting-in (decode (c .args .t .now) .holders) (c .args .first) (c .args .second) (c .pre .1 .1 .1 .1 .0)
+one c = getting-in (decode (c .args .t .now) .holders) (c .args .first) (c .args .second) (c .pre .1 .1 .1 .0)
 
 -- so there is a load for it
 small : (c : tie.Start) → c .args .x < mostBenches + 1
-small c = omega (arith, arriving-small (c .pre .0) (c .pre .1 .1 .0) (one c))
+small c = omega (arith, arriving-small (c .pre .0 .sound) (c .pre .1 .0) (one c))
 
 mul-loads : tie.Need-mul-loads
 mul-loads c = omega (arith, small (c .before))
@@ -33,8 +30,8 @@ element-copy-out-loads c = small (c .before)
 add-loads : tie.Need-add-loads
 add-loads c =
     let start = c .before .before in
-    let bench = arriving-bench (start .pre .0) (start .pre .1 .1 .0) (one start) in
-    omega (arith, loads-in (sound-holds-board _ _ (start .pre .0)) (start .pre .1 .1 .1 .0) .most (start .args .x) (bench .least), start .pre .0 .size .limits .jobs-most)
+    let bench = arriving-bench (start .pre .0 .sound) (start .pre .1 .0) (one start) in
+    omega (arith, loads-in (order-holds (start .pre .0)) (start .pre .1 .1 .0) .most (start .args .x) (bench .least), start .pre .0 .sound .size .limits .jobs-most)
 
 element-write-loads : tie.Need-element-write-loads
 element-write-loads c = small (c .before .before)
@@ -42,54 +39,28 @@ element-write-loads c = small (c .before .before)
 add-other : tie.Need-add-other
 add-other c =
     let start = c .before .before in
-    let z = start .pre .0 in
-    let m = start .pre .1 .1 .0 in
+    let z = start .pre .0 .sound in
+    let m = start .pre .1 .0 in
     omega (arith, arriving-small z m (inl refl), arriving-small z m (inr (inl refl)))
 
 sub-other : tie.Need-sub-other
 sub-other c =
-    let start = c .before .before in arriving-other (start .pre .0) (start .pre .1 .1 .0) (one start) .0
+    let start = c .before .before in arriving-other (start .pre .0 .sound) (start .pre .1 .0) (one start) .0
 
 find-from-requires : tie.Need-find-from-requires
 find-from-requires c κs =
-    let start = c .before .before .before .before .before in
+    let start = c .before .before .before .before in
     let a = start .args in
-    let (z, (rises, (m, (l, (lightest, long))))) = start .pre in
+    let (o, (m, (l, (lightest, long)))) = start .pre in
+    let z = o .sound in
     let g = one start in
-    let order = rising-table z (rises .0 (true→T (a .rising) (c .before .before .if1 .taken))) in
-    (order .inOrder, (arriving-bench z m g, (arriving-loads-in z m g l, (long, (put (decode (a .t .now)) (a .j) (a .first ∷ a .second ∷ []) (a .x), arriving-with z m g, arriving-loads z m g l)))))
-
-bytes-requires : tie.Need-bytes-requires
-bytes-requires c κs = c .before .before .before .pre .0 .size .limits
-
-sub-find-from-copy : tie.Need-sub-find-from-copy
-sub-find-from-copy c = search needs
-
-part-copy-start : tie.Need-part-copy-start
-part-copy-start c = search needs
-
-part-copy-end : tie.Need-part-copy-end
-part-copy-end c = search needs
-
-find-from-copy-requires : tie.Need-find-from-copy-requires
-find-from-copy-requires c κs =
-    let start = c .before .before .before .before .before .before .before in
-    let a = start .args in
-    let (z, (rises, (m, (l, (lightest, long))))) = start .pre in
-    let g = one start in
-    (z, (arriving-bench z m g, (arriving-loads-in z m g l, (room-long (z .size) (c .before .before .before .bytes .ensures), (long, (put (decode (a .t .now)) (a .j) (a .first ∷ a .second ∷ []) (a .x), arriving-with z m g, arriving-loads z m g l))))))
+    (o, (arriving-bench z m g, (arriving-loads-in z m g l, (long, (put (decode (a .t .now)) (a .j) (a .first ∷ a .second ∷ []) (a .x), arriving-with z m g, arriving-loads z m g l)))))
 
 returns : tie.Need-returns
 returns c =
-    let start = c .before .before .before .before .before .before in
-    let (z, (rises, (m, (l, (lightest, long))))) = start .pre in
-    arriving-found z m (one start) l lightest (c .find-from .ensures)
-
-returns-2 : tie.Need-returns-2
-returns-2 c =
-    let start = c .before .before .before .before .before .before .before .before .before in
-    let (z, (rises, (m, (l, (lightest, long))))) = start .pre in
-    arriving-found z m (one start) l lightest (c .before .find-from-copy .ensures)
+    let start = c .before .before .before .before .before in
+    let (o, (m, (l, (lightest, long)))) = start .pre in
+    arriving-found (o .sound) m (one start) l lightest (c .find-from .ensures)
 
 pub find-arrival-spec : {M : Type 1} → statement M
 find-arrival-spec =
@@ -102,10 +73,4 @@ find-arrival-spec =
     add-other
     sub-other
     find-from-requires
-    bytes-requires
-    sub-find-from-copy
-    part-copy-start
-    part-copy-end
-    find-from-copy-requires
-    returns
-    returns-2)
+    returns)

@@ -1,30 +1,56 @@
--- What find_closing found is what apply_closing asks for.
+-- The job is closed on the table, where it is in order, or in a copy put in order.
 use borrow.Author.Needs.{needs}
-use Rattle.graph_lists.proofs.Listing.{array-long}
+use Rattle.spec_lists.proofs.Tests.{true→T}
+use Rattle.table_copies.proofs.Ordering.{rising-table, room-long}
 use Rattle.sharing_closing.proofs.close.Statement.{statement}
 use Rattle.sharing_closing.proofs.close.Tie as tie
 
-benches-requires : tie.Need-benches-requires
-benches-requires c κs = search needs
+close-in-order-requires : tie.Need-close-in-order-requires
+close-in-order-requires c κs =
+    let start = c .before .before .before .before in
+    let (z, (rises, (p, l))) = start .pre in
+    (rising-table z (rises .0 (true→T (start .args .rising) (c .before .before .if1 .taken))) .inOrder, (p, l))
 
-find-closing-requires : tie.Need-find-closing-requires
-find-closing-requires c κs =
-    let pre = c .before .before .before .before .before .pre in
-    (pre .0, (pre .1 .0, (pre .1 .1 .0, (pre .1 .1 .1, array-long 0 (c .before .before .before .benches .ensures)))))
+bytes-requires : tie.Need-bytes-requires
+bytes-requires c κs = c .before .before .pre .0 .size .limits
 
-apply-closing-requires : tie.Need-apply-closing-requires
-apply-closing-requires c κs =
-    let found = c .before .before in
-    let pre = found .before .before .before .before .before .before .pre in
-    (pre .0, (pre .1 .0, (pre .1 .1 .0, found .find-closing .ensures)))
+sub-close-in-copy : tie.Need-sub-close-in-copy
+sub-close-in-copy c = search needs
+
+part-copy-start : tie.Need-part-copy-start
+part-copy-start c = search needs
+
+part-copy-end : tie.Need-part-copy-end
+part-copy-end c = search needs
+
+close-in-copy-requires : tie.Need-close-in-copy-requires
+close-in-copy-requires c κs =
+    let (z, (rises, (p, l))) = c .before .before .before .before .before .before .pre in
+    (z, (p, (l, room-long (z .size) (c .before .before .before .bytes .ensures))))
 
 same-length : tie.Need-same-length
 same-length c = search needs
 
 returns : tie.Need-returns
-returns c = search needs
+returns c = c .before .before .close-in-order .ensures
+
+same-length-2 : tie.Need-same-length-2
+same-length-2 c = search needs
+
+returns-2 : tie.Need-returns-2
+returns-2 c = c .before .before .before .close-in-copy .ensures
 
 pub close-spec : {M : Type 1} → statement M
 close-spec =
     tie.close
-    (tie.spec benches-requires find-closing-requires apply-closing-requires same-length returns)
+    (tie.spec
+    close-in-order-requires
+    bytes-requires
+    sub-close-in-copy
+    part-copy-start
+    part-copy-end
+    close-in-copy-requires
+    same-length
+    returns
+    same-length-2
+    returns-2)

@@ -1,6 +1,7 @@
 -- The copy in order has the table's board.
 use borrow.Author.Needs.{needs}
-use Rattle.sharing_levelling.proofs.Flipping.{order-loads, table-loaded, copy-level}
+use Rattle.table_copies.proofs.Ordering.{table-loaded}
+use Rattle.sharing_levelling.proofs.Flipping.{order-loads, copy-level}
 use Rattle.sharing_levelling.proofs.is_level_copy.Statement.{statement}
 use Rattle.sharing_levelling.proofs.is_level_copy.Tie as tie
 

@@ -7,7 +7,8 @@ use borrow.Author.Needs.{needs}
 use borrow.Author.Tests.{ltb-true, ltb-false}
 use Rattle.spec_table.specs.Table.{decode}
 use Rattle.graph_lists.proofs.Listing.{array-long}
-use Rattle.sharing_levelling.proofs.Flipping.{order-loads, same-board, Shifts, Flipping, flipping-start, flipping-few, flipping-route, flipping-order, flipping-shifts, flipping-turn, flipping-end, table-loaded}
+use Rattle.table_copies.proofs.Ordering.{table-loaded}
+use Rattle.sharing_levelling.proofs.Flipping.{order-loads, same-board, Shifts, Flipping, flipping-start, flipping-few, flipping-route, flipping-order, flipping-shifts, flipping-turn, flipping-end}
 use Rattle.sharing_levelling.proofs.relevel.Statement.{statement}
 use Rattle.sharing_levelling.proofs.relevel.Tie as tie
 
