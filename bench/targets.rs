@@ -11,6 +11,7 @@ const EVERY: Boards = Boards("every", |_| true);
 const RISING: Boards = Boards("chains rise", |board| board != NO_ORDER && board != NEARLY);
 const DISORDERED: Boards = Boards(NO_ORDER, |board| board == NO_ORDER);
 const ONE_DISORDERED: Boards = Boards(NEARLY, |board| board == NEARLY);
+const NOT_RISING: Boards = Boards("chains do not all rise", |board| board == NO_ORDER || board == NEARLY);
 
 /// The sizes that a target is for: those of SIZES from here on.
 type From = usize;
@@ -29,7 +30,7 @@ const NAMES: [&str; 4] = ["", "of the plain one's time", "of the independent one
 /// The calls whose name begins so, on which boards, at which sizes, against what, the most their ratio may be on any of these boards.
 struct Target(&'static str, Boards, From, Against, f64);
 
-const TARGETS: [Target; 29] = [
+const TARGETS: [Target; 32] = [
     Target("form check", RISING, ALL, INDEPENDENT, 1.0),
     Target("load", RISING, ALL, INDEPENDENT, 1.0),
     Target("heaviest", RISING, ALL, INDEPENDENT, 1.0),
@@ -38,10 +39,13 @@ const TARGETS: [Target; 29] = [
     Target("heaviest", DISORDERED, ALL, INDEPENDENT, 1.0),
     Target("form check", ONE_DISORDERED, ALL, INDEPENDENT, 1.1),
     Target("blanking", EVERY, LARGEST, INDEPENDENT, 1.0),
-    Target("level check", EVERY, LARGEST, INDEPENDENT, 1.0),
+    Target("level check", RISING, ALL, INDEPENDENT, 1.0),
+    Target("arrival", RISING, ALL, INDEPENDENT, 1.0),
+    Target("closing", RISING, ALL, INDEPENDENT, 1.0),
+    Target("level check", NOT_RISING, ALL, INDEPENDENT, 1.0),
+    Target("arrival", NOT_RISING, ALL, INDEPENDENT, 1.0),
+    Target("closing", NOT_RISING, ALL, INDEPENDENT, 1.0),
     Target("tight set", EVERY, LARGEST, INDEPENDENT, 1.0),
-    Target("arrival", EVERY, LARGEST, INDEPENDENT, 1.0),
-    Target("closing", EVERY, LARGEST, INDEPENDENT, 1.0),
     Target("levelling", EVERY, LARGEST, INDEPENDENT, 1.5),
     Target("blanking", EVERY, LARGEST, PLAIN, 1.0),
     Target("form check", EVERY, LARGEST, PLAIN, 1.3),
