@@ -1,4 +1,4 @@
--- Tables in order: one whose chains rise, one whose chains were made anew, and a copy whose chains were. A copy takes the first bytes of a
+-- Tables in order: one whose chains rise, and a copy whose chains were made anew. A copy takes the first bytes of a
 -- room for any table.
 use Prim.Native.Nat.{ℕ, _-_, _≤_}
 use native.Mathlib.Omega.{arith}
@@ -14,15 +14,11 @@ use Rattle.table_board.specs.BoardView.{HoldsBoard, Loaded}
 use Rattle.table_board.proofs.RecordsAsBoard.{sound-holds-board}
 use Rattle.table_chains.specs.Chains.{ChainsRebuilt}
 use Rattle.table_order.specs.InOrder.{TableOf}
+use Rattle.table_order.proofs.Ordered.{rebuilt-in-order}
 
 -- a sound table with the bytes of its board is, in order, the table of that board
 pub rising-table : {t : List ℕ} {s : Size} → SoundTable t s → t ≡ encode (decode t) → TableOf t s (decode t)
 rising-table z e = record { inOrder = record { sound = z; bytes = e }; board = refl }
-
--- one whose chains were made anew is, in order, the table of the board that it held
-pub rebuilt-table : {t u : List ℕ} {s : Size} → ChainsRebuilt t u s → TableOf u s (decode t)
-rebuilt-table c =
-    record { inOrder = record { sound = c .sound; bytes = c .bytes ∙ ap encode (sym (c .board)) }; board = c .board }
 
 -- the first of two lists of one length, written over the second, is the first
 pub written-over : (t u : List ℕ) → length u ≡ length t → take (length t) t ++ drop (length t) u ≡ t
@@ -36,7 +32,7 @@ module _ (u : List ℕ) {t v : List ℕ} {s : Size} (z : SoundTable t s) (e : le
 
   -- .. and so it does once it is in order
   pub copy-table : {w : List ℕ} → ChainsRebuilt v w s → TableOf w s (decode t)
-  copy-table {w} r = subst (λ (l : List ℕ). TableOf w s (decode l)) (c ∙ written-over t u e) (rebuilt-table r)
+  copy-table {w} r = subst (λ (l : List ℕ). TableOf w s (decode l)) (c ∙ written-over t u e) (rebuilt-in-order r)
 
 -- the part of a copy's room that the table takes is as long as the table
 pub room-long : {t : List ℕ} {s : Size} {n : ℕ} → SizeOf t s → n ≡ lengthFor (s .benches) (s .jobs) → length (take (n - 0) (replicate {A = ℕ} (lengthFor mostBenches mostJobs) 0)) ≡ length t

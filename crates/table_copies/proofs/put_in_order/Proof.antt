@@ -1,7 +1,8 @@
 -- The chains rise, or are made anew.
 use borrow.Author.Needs.{needs}
 use Rattle.spec_lists.proofs.Tests.{not-false}
-use Rattle.table_copies.proofs.Ordering.{rising-table, rebuilt-table}
+use Rattle.table_order.proofs.Ordered.{rebuilt-in-order}
+use Rattle.table_copies.proofs.Ordering.{rising-table}
 use Rattle.table_copies.proofs.put_in_order.Statement.{statement}
 use Rattle.table_copies.proofs.put_in_order.Tie as tie
 
@@ -12,7 +13,7 @@ same-length : tie.Need-same-length
 same-length c = search needs
 
 returns : tie.Need-returns
-returns c = rebuilt-table (c .before .before .rebuild-chains .ensures)
+returns c = rebuilt-in-order (c .before .before .rebuild-chains .ensures)
 
 returns-2 : tie.Need-returns-2
 returns-2 c =
