@@ -155,6 +155,50 @@ pub fn long_path_back(benches: usize, jobs: usize) -> Vec<u8> {
     table(benches, jobs, &standing)
 }
 
+/// Gives each bench as many jobs as `load` says, which lead to the bench that `next` gives: numbered layer by layer, one
+/// job of every bench in each.
+fn in_layers(benches: usize, jobs: usize, load: impl Fn(usize) -> usize, next: impl Fn(usize) -> usize) -> Vec<u8> {
+    let mut standing: Vec<Job> = vec![];
+    for layer in 0..jobs {
+        for x in (1..=benches).filter(|&x| layer < load(x)) {
+            standing.push((standing.len() + 1, [x, next(x)], 1));
+        }
+    }
+    standing.reverse();
+    table(benches, jobs, &standing)
+}
+
+/// Leads from bench 1 to the next and so on. The last bench has no job and none leads to it, so that an arrival at benches
+/// 1 and 2 searches all others for it; it moves so many jobs, 2 to B - 2, since the bench that they lead to has one less
+/// than its like.
+pub fn searched_out(benches: usize, jobs: usize, moved: usize) -> Vec<u8> {
+    let like = (jobs - 1) / benches;
+    let load = |x| match x {
+        _ if x == benches => 0,
+        _ if x == 1 + moved => like - 1,
+        _ => like,
+    };
+    in_layers(benches, jobs, load, |x| if x + 1 < benches { x + 1 } else { x - 1 })
+}
+
+/// Leads from bench 1, the heaviest, to the next and so on. A closing of job B - 1, which the last bench but one holds,
+/// searches all benches from there. If they lead to that bench it moves B - 2 jobs, else one job of the last bench, which
+/// leads there and is the next heaviest.
+pub fn searched_back(benches: usize, jobs: usize, led: bool) -> Vec<u8> {
+    let like = (jobs - 3) / benches;
+    let load = |x| match x {
+        1 => like + 2,
+        _ if x == benches => like + 1,
+        _ => like,
+    };
+    let next = |x| match benches - x {
+        0 | 1 => x - 1,
+        2 if !led => x - 1,
+        _ => x + 1,
+    };
+    in_layers(benches, jobs, load, next)
+}
+
 /// Changes the length, empties a record, or writes one or two words anew: small, copied from elsewhere, or any.
 pub fn damage(t: &mut Vec<u8>, random: &mut Random) {
     let words = t.len() / 2;

@@ -3,7 +3,7 @@ use crate::calls::{moved, room, Call};
 use crate::figures::{head, micros, print_line, rows, two_places, Row};
 use crate::timing::{times, Task};
 use crate::trials::{self, SIZES};
-use crate::{growth, targets, INDEPENDENT, PLAIN, PROVED};
+use crate::{growth, lengths, targets, INDEPENDENT, PLAIN, PROVED};
 
 const TABLE: &str = "each call";
 
@@ -103,7 +103,7 @@ fn print_ranges(rows: &[Row]) {
 
 pub fn print(files: &[String]) {
     let rows = rows(TABLE, files);
-    targets::print(&rows, &growth::same_benches(files));
+    targets::print(&rows, &growth::same_benches(files), &lengths::both(files));
     print_times(&rows);
     print_ratios(&rows);
     print_ranges(&rows);

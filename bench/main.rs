@@ -9,6 +9,7 @@ mod each;
 mod figures;
 mod growth;
 mod independent;
+mod lengths;
 mod order;
 mod plain;
 mod proved;
@@ -30,6 +31,7 @@ fn measure(process: usize) {
     order::measure();
     scratch::measure();
     growth::measure();
+    lengths::measure();
 }
 
 /// Prints the tables of the processes whose lines are in these files.
@@ -38,6 +40,7 @@ fn report(files: &[String]) {
     order::print(files);
     scratch::print(files);
     growth::print(files);
+    lengths::print(files);
 }
 
 fn main() {

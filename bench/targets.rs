@@ -27,6 +27,9 @@ const INDEPENDENT: Against = 2;
 const CHECKS: Against = 3;
 const NAMES: [&str; 4] = ["", "of the plain one's time", "of the independent one's time", "form checks"];
 
+/// As long as the other, and a tenth for noise.
+const NOISY: f64 = 1.1;
+
 /// The calls whose name begins so, on which boards, at which sizes, against what, the most their ratio may be on any of these boards.
 struct Target(&'static str, Boards, From, Against, f64);
 
@@ -39,12 +42,12 @@ const TARGETS: [Target; 32] = [
     Target("heaviest", DISORDERED, ALL, INDEPENDENT, 1.0),
     Target("form check", ONE_DISORDERED, ALL, INDEPENDENT, 1.1),
     Target("blanking", EVERY, LARGEST, INDEPENDENT, 1.0),
-    Target("level check", RISING, ALL, INDEPENDENT, 1.0),
-    Target("arrival", RISING, ALL, INDEPENDENT, 1.0),
-    Target("closing", RISING, ALL, INDEPENDENT, 1.0),
-    Target("level check", NOT_RISING, ALL, INDEPENDENT, 1.0),
-    Target("arrival", NOT_RISING, ALL, INDEPENDENT, 1.0),
-    Target("closing", NOT_RISING, ALL, INDEPENDENT, 1.0),
+    Target("level check", RISING, ALL, INDEPENDENT, NOISY),
+    Target("arrival", RISING, ALL, INDEPENDENT, NOISY),
+    Target("closing", RISING, ALL, INDEPENDENT, NOISY),
+    Target("level check", NOT_RISING, ALL, INDEPENDENT, NOISY),
+    Target("arrival", NOT_RISING, ALL, INDEPENDENT, NOISY),
+    Target("closing", NOT_RISING, ALL, INDEPENDENT, NOISY),
     Target("tight set", EVERY, LARGEST, INDEPENDENT, 1.0),
     Target("levelling", EVERY, LARGEST, INDEPENDENT, 1.5),
     Target("blanking", EVERY, LARGEST, PLAIN, 1.0),
@@ -67,6 +70,9 @@ const TARGETS: [Target; 32] = [
 
 /// The most that the greatest time of the same questions for two benches may be of the least, on tables that differ in J.
 const WHATEVER_J: f64 = 1.2;
+
+/// The most that a long path may take of a short one's time, after the same search.
+const WHATEVER_LENGTH: f64 = 2.0;
 
 /// What is hoped for beyond the targets.
 const GOALS: [Target; 3] = [
@@ -117,14 +123,21 @@ fn judged_pairs(same: &Row) -> (bool, String) {
     (missed, format!("| between, loads 8, 8 | the same benches | 500 | {jobs} | {WHATEVER_J:?} of the least time | {end}"))
 }
 
+/// Writes whether a path's length costs too much, and its row of the table.
+fn judged_length(both: &Row) -> (bool, String) {
+    let [call, benches, jobs, few, many] = &both.cells[..] else { unreachable!() };
+    let (missed, end) = verdict(&both.ratio(1, 0), WHATEVER_LENGTH, &format!("{many} jobs moved, not {few}"));
+    (missed, format!("| {call} | the same search | {benches} | {jobs} | {WHATEVER_LENGTH:?} of a short path's time | {end}"))
+}
+
 /// Prints each target and each goal at each of its sizes, the missed ones first. `same` has the times of the same questions for two
-/// benches.
-pub fn print(rows: &[Row], same: &Row) {
+/// benches, `lengths` those of short and long paths.
+pub fn print(rows: &[Row], same: &Row, lengths: &[Row]) {
     head(
         "What was to be reached, and the board where the median was greatest; missed ones first.",
         "call | boards | B | J | at most | reached | on | verdict",
     );
-    let targets = TARGETS.iter().flat_map(|target| target.judged("", rows)).chain([judged_pairs(same)]);
+    let targets = TARGETS.iter().flat_map(|target| target.judged("", rows)).chain([judged_pairs(same)]).chain(lengths.iter().map(judged_length));
     let goals = GOALS.iter().flat_map(|goal| goal.judged("goal: ", rows));
     let (missed, met): (Vec<_>, Vec<_>) = targets.chain(goals).partition(|(missed, _)| *missed);
     for (_, row) in [missed, met].concat() {

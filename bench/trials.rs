@@ -31,7 +31,7 @@ const RING: Names = |j, benches, random| {
 
 pub const KINDS: [(&str, Names); 2] = [("random pairs", PAIRS), ("ring", RING)];
 
-fn arrival(j: usize, [first, second]: [usize; 2]) -> Call {
+pub fn arrival(j: usize, [first, second]: [usize; 2]) -> Call {
     Call::Arrival(j as u32, first as u32, second as u32)
 }
 

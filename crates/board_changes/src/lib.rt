@@ -1,5 +1,9 @@
 // The calls that write a table: blanking, arrival, closing, levelling.
+ghost use Prim.Native.Nat.{_+_};
+ghost use mathlib.Core.Path.{_≡_};
 ghost use mathlib.Core.List.{[], _∷_};
+ghost use lib.ListN.{length};
+ghost use Rattle.spec_table.specs.Table.{mostBenches};
 ghost use Rattle.spec_calls.specs.Calls.{blanking, outcome, arrival, closing, levelling};
 ghost use Rattle.table_form.specs.FormCheck.{FoundSound};
 ghost use Rattle.board_answers.specs.Answered.{Leaves};
@@ -27,11 +31,13 @@ fn arrival_on(
     s: Size,
     rising: bool,
     loads: &mut [u16; Size::MOST_BENCHES + 1],
+    path: &mut [u16; Size::MOST_BENCHES + 1],
     job: usize,
     first: usize,
     second: usize,
 ) -> Answer
     requires { ⌜ FoundSound (now t) (now loads) s rising ⌝ }
+    requires { ⌜ length (now path) ≡ mostBenches + 1 ⌝ }
     ensures { λ r. ⌜ Leaves (outcome (arrival (record { job = job; given = first ∷ second ∷ [] })) (now (t .entry))) r
         (now (t .exit)) [] ⌝ }
 {
@@ -44,7 +50,7 @@ fn arrival_on(
     if jobs::stands(t, s, job) {
         return Answer::Refused(Refusal::AlreadyStanding);
     }
-    let a = sharing_arrival::arrive(t, s, rising, loads, job, first, second);
+    let a = sharing_arrival::arrive(t, s, rising, loads, path, job, first, second);
     Answer::Arrived(a.holder, a.rose, a.moved)
 }
 
@@ -53,10 +59,21 @@ pub fn arrival(t: &mut [u8], job: usize, first: usize, second: usize) -> Answer
     ensures { λ r. ⌜ Leaves (outcome (arrival (record { job = job; given = first ∷ second ∷ [] })) (now (t .entry))) r
         (now (t .exit)) [] ⌝ }
 {
+    // Serves the form check first: one array less to clear.
+    let mut path = scratch::benches();
     let mut loads = scratch::benches();
-    match table_form::check(t, &mut loads) {
+    match table_form::check_with(t, &mut path, &mut loads) {
         Form::Refused(r) => Answer::Refused(r),
-        Form::Sound(s, rising) => arrival_on(t, s, rising, &mut loads, job, first, second),
+        Form::Sound(s, rising) => arrival_on(
+            t,
+            s,
+            rising,
+            &mut loads,
+            &mut path,
+            job,
+            first,
+            second,
+        ),
     }
 }
 
@@ -66,9 +83,11 @@ fn closing_on(
     s: Size,
     rising: bool,
     loads: &mut [u16; Size::MOST_BENCHES + 1],
+    path: &mut [u16; Size::MOST_BENCHES + 1],
     job: usize,
 ) -> Answer
     requires { ⌜ FoundSound (now t) (now loads) s rising ⌝ }
+    requires { ⌜ length (now path) ≡ mostBenches + 1 ⌝ }
     ensures { λ r. ⌜ Leaves (outcome (closing (record { job = job })) (now (t .entry))) r (now (t .exit)) [] ⌝ }
 {
     if !s.has_job(job) {
@@ -77,7 +96,7 @@ fn closing_on(
     if !jobs::stands(t, s, job) {
         return Answer::Refused(Refusal::NotStanding);
     }
-    let c = sharing_closing::close(t, s, rising, loads, job);
+    let c = sharing_closing::close(t, s, rising, loads, path, job);
     Answer::Closed(c.bench, c.jobs)
 }
 
@@ -85,10 +104,12 @@ fn closing_on(
 pub fn closing(t: &mut [u8], job: usize) -> Answer
     ensures { λ r. ⌜ Leaves (outcome (closing (record { job = job })) (now (t .entry))) r (now (t .exit)) [] ⌝ }
 {
+    // Serves the form check first: one array less to clear.
+    let mut path = scratch::benches();
     let mut loads = scratch::benches();
-    match table_form::check(t, &mut loads) {
+    match table_form::check_with(t, &mut path, &mut loads) {
         Form::Refused(r) => Answer::Refused(r),
-        Form::Sound(s, rising) => closing_on(t, s, rising, &mut loads, job),
+        Form::Sound(s, rising) => closing_on(t, s, rising, &mut loads, &mut path, job),
     }
 }
 
@@ -96,11 +117,13 @@ pub fn closing(t: &mut [u8], job: usize) -> Answer
 pub fn levelling(t: &mut [u8], allowance: u32) -> Answer
     ensures { λ r. ⌜ Leaves (outcome (levelling allowance) (now (t .entry))) r (now (t .exit)) [] ⌝ }
 {
+    // Serves the form check first: one array less to clear.
+    let mut path = scratch::benches();
     let mut loads = scratch::benches();
-    match table_form::check(t, &mut loads) {
+    match table_form::check_with(t, &mut path, &mut loads) {
         Form::Refused(r) => Answer::Refused(r),
         Form::Sound(s, rising) => {
-            let l = sharing_levelling::relevel(t, s, rising, &mut loads, allowance);
+            let l = sharing_levelling::relevel(t, s, rising, &mut loads, &mut path, allowance);
             if l.level {
                 Answer::Levelled(l.paths)
             } else {

@@ -26,11 +26,13 @@ pub fn form_check(t: &[u8]) -> Answer
 pub fn level_check(t: &[u8]) -> Answer
     ensures { λ r. ⌜ Leaves (outcome (ask levelCheck []) (now (t .entry))) r (now (t .entry)) [] ⌝ }
 {
+    // Serves the form check first: one array less to clear.
+    let mut queue = scratch::benches();
     let mut loads = scratch::benches();
-    match table_form::check(t, &mut loads) {
+    match table_form::check_with(t, &mut queue, &mut loads) {
         Form::Refused(r) => Answer::Refused(r),
         Form::Sound(s, rising) => {
-            if sharing_levelling::is_level(t, s, rising, &loads) {
+            if sharing_levelling::is_level(t, s, rising, &loads, &mut queue) {
                 Answer::Level
             } else {
                 Answer::NotLevel

@@ -30,7 +30,3 @@ pub record ListedBy (m n : ℕ) (key head next : List ℕ) : Type 0 where
 pub data On (next : List ℕ) : ℕ → ℕ → Type 0 where
   onHead : (a : ℕ) → a ≢ 0 → On next a a
   onTail : (a b : ℕ) → a ≢ 0 → On next (at next a) b → On next a b
-
--- a number on x's list leads to y
-abbrev pub Adjacent : List ℕ → List ℕ → List ℕ → ℕ → ℕ → Type 0
-Adjacent head next to x y = (a : ℕ) × On next (at head x) a × (at to a ≡ y)

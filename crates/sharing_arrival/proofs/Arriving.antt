@@ -25,45 +25,18 @@ use Rattle.table_size.specs.Sizes.{BenchIn, SoundTable}
 use Rattle.table_size.specs.declared.Size.{Size}
 use Rattle.table_size.proofs.Sizes.{board-bench}
 use Rattle.table_board.specs.BoardView.{Loaded}
-use Rattle.table_board.proofs.RecordsAsBoard.{sound-holds-board}
-use Rattle.table_order.specs.InOrder.{TableOf}
+use Rattle.table_board.proofs.RecordsAsBoard.{sound-holds-board, put-storable}
 use Rattle.graph_lists.specs.Arrays.{at, LoadsIn}
-use Rattle.sharing_steps.proofs.AsSteps.{loads-in}
+use Rattle.sharing_steps.proofs.AsSteps.{OtherName, pair-other, loads-in}
 use Rattle.sharing_paths.specs.FoundPaths.{lastOf, PathFound}
 use Rattle.sharing_paths.specs.declared.FoundPath.{FoundPath}
 use Rattle.sharing_paths_from.specs.ArrivalSearch.{WithJob}
 use Rattle.sharing_arrival.specs.ArrivalResult.{ArrivalFound}
-use Rattle.sharing_steps.proofs.JobWritten.{put-storable, step-same, written-load}
-
--- o is the other of two names than x, and the names' sum tells it from x
-pub record OtherName (names : List ℕ) (x o : ℕ) : Type 0 where
-  pub named : In o names
-  pub apart : o ≢ x
-  pub only : (y : ℕ) → In y names → y ≢ x → y ≡ o
+use Rattle.sharing_steps.proofs.JobWritten.{step-same, written-load}
 
 -- one job more at bench x
 abbrev pub raised : List ℕ → ℕ → List ℕ
 raised loads x = set loads x (at loads x + 1)
-
--- of two names one is x, and the other is what is left of their sum
-pair-other : (a c x : ℕ) → a ≢ c → In x (a ∷ c ∷ []) → (x ≤ a + c) × OtherName (a ∷ c ∷ []) x (a + c - x)
-pair-other a c x d (inl e) =
-    let o : a + c - x ≡ c = omega arith in
-    (omega arith, record { named = inr (inl o); apart = λ f. d (omega arith); only = go o })
-  where
-    go : a + c - x ≡ c → (y : ℕ) → In y (a ∷ c ∷ []) → y ≢ x → y ≡ a + c - x
-    go o y (inl f) n = absurd (n (f ∙ sym e))
-    go o y (inr (inl f)) n = f ∙ sym o
-    go o y (inr (inr i)) n = absurd i
-pair-other a c x d (inr (inl e)) =
-    let o : a + c - x ≡ a = omega arith in
-    (omega arith, record { named = inl o; apart = λ f. d (omega arith); only = go o })
-  where
-    go : a + c - x ≡ a → (y : ℕ) → In y (a ∷ c ∷ []) → y ≢ x → y ≡ a + c - x
-    go o y (inl f) n = f ∙ sym o
-    go o y (inr (inl f)) n = absurd (n (f ∙ sym e))
-    go o y (inr (inr i)) n = absurd i
-pair-other a c x d (inr (inr i)) = absurd i
 
 -- the board with the new job
 
@@ -151,7 +124,8 @@ module _ {t : List ℕ} {s : Size} {j first second : ℕ} (z : SoundTable t s) (
     -- .. the other one is what is left of their sum ..
     pub arriving-other : (x ≤ first + second) × OtherName (first ∷ second ∷ []) x (first + second - x)
     arriving-other =
-        pair-other first second x ((pair-fits ((decode t) .benches) first second) .0 arriving-fit .2) g
+        let o = pair-other first second x ((pair-fits ((decode t) .benches) first second) .0 arriving-fit .2) g in
+        (omega (arith, o .sum), subst (OtherName (first ∷ second ∷ []) x) (omega (arith, o .sum)) o)
 
     -- .. and the steps are those with the new job
     pub arriving-with : WithJob (decode t) (put (decode t) j (first ∷ second ∷ []) x) s x j (first + second - x)

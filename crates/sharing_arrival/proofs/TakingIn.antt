@@ -34,7 +34,7 @@ use Rattle.sharing_paths.specs.declared.FoundPath.{FoundPath}
 use Rattle.sharing_paths.proofs.HandingAlong.{route-at, route-stands, route-job, route-named, route-rest, route-after, found-route}
 use Rattle.sharing_arrival.specs.ArrivalResult.{ArrivalFound, EntersAt, IsArrival, ArrivalOf}
 use Rattle.sharing_arrival.specs.declared.Arrival.{Arrival}
-use Rattle.sharing_arrival.specs.declared.Entry.{Entry}
+use Rattle.sharing_arrival.specs.declared.Intake.{Intake}
 use Rattle.sharing_arrival.proofs.Arriving.{new-holder, new-names, getting-in, arriving-fit, arriving-storable}
 
 -- a list but for j, and how often j stands in it
@@ -117,14 +117,14 @@ module _ (b : Board) (w : Storable b) (j : ℕ) (names : List ℕ) (x : ℕ) (t 
             let there : In (at path 1) (jobsOf l) = subst (λ (i : ℕ). In i (jobsOf l)) (route-at k 1 (omega (arith, k .count))) (in-getD (jobsOf l) 0 0 (omega (arith, k .count, length-map l (λ (s : Step). s .job)))) in
             a .next u ∙ sym (nth-update-other (b .holders) j (at path 1) x 0 (λ e. behind-others q l h (subst (λ (i : ℕ). In i (jobsOf l)) e there)))
 
-    entered-path : (l : List Step) → IsPath (put b j names x) (pathBy y l) → RouteIn (put b j names x) path 0 (r .jobs) (r .bench) y l → (e : Entry) → EntersAt b j x path r e → Entered b j names path (afterArrival (put b j names x) j x (some (pathBy y l))) r (e .holder) (e .place)
+    entered-path : (l : List Step) → IsPath (put b j names x) (pathBy y l) → RouteIn (put b j names x) path 0 (r .jobs) (r .bench) y l → (e : Intake) → EntersAt b j x path r e → Entered b j names path (afterArrival (put b j names x) j x (some (pathBy y l))) r (e .holder) (e .place)
     entered-path l h k e (inr (d, p, o)) =
         subst₂ (λ (a n : ℕ). Entered b j names path (afterArrival (put b j names x) j x (some (pathBy y l))) r a n) (sym o) (sym p) (whole l h k (not-on l h k d))
     entered-path [] h k e (inl (n, i, p, a)) = absurd (n (omega (arith, k .count)))
     entered-path (q ∷ l) h k e (inl (n, i, p, a)) =
         subst₂ (λ (a n : ℕ). Entered b j names path (afterArrival (put b j names x) j x (some (pathBy y (q ∷ l)))) r a n) (sym (goes-to q l h k a)) (sym p) (rest q l h k (sym (route-job k) ∙ i))
 
-  entered-by : (o : Option BenchPath) → arrivalChoice (put b j names x) x ≡ o → PathFound o (lastOf x o) path r → (e : Entry) → EntersAt b j x path r e → Entered b j names path (afterArrival (put b j names x) j x o) r (e .holder) (e .place)
+  entered-by : (o : Option BenchPath) → arrivalChoice (put b j names x) x ≡ o → PathFound o (lastOf x o) path r → (e : Intake) → EntersAt b j x path r e → Entered b j names path (afterArrival (put b j names x) j x o) r (e .holder) (e .place)
   entered-by none q f e (inl (n, i, p, a)) = absurd (n (f .count))
   entered-by none q f e (inr (d, p, o)) = subst₂ (λ (a n : ℕ). Entered b j names path (afterArrival (put b j names x) j x none) r a n) (sym o) (sym p) stays
     where
@@ -146,7 +146,7 @@ module _ (b : Board) (w : Storable b) (j : ℕ) (names : List ℕ) (x : ℕ) (t 
       entered-path (p .start) (only .1) (p .route) (only .0) (rw (f .bench) k) e a
 
 -- the arrival
-pub entered : (b : Board) → Storable b → (j : ℕ) (names : List ℕ) (x : ℕ) → T (within 1 (length (b .named)) j) → Valid (put b j names x) → In x names → {path : List ℕ} {r : FoundPath} {e : Entry} → ArrivalFound b j names x path r → EntersAt b j x path r e → Entered b j names path (arrive b j names) r (e .holder) (e .place)
+pub entered : (b : Board) → Storable b → (j : ℕ) (names : List ℕ) (x : ℕ) → T (within 1 (length (b .named)) j) → Valid (put b j names x) → In x names → {path : List ℕ} {r : FoundPath} {e : Intake} → ArrivalFound b j names x path r → EntersAt b j x path r e → Entered b j names path (arrive b j names) r (e .holder) (e .place)
 unfolding arrive
 entered b w j names x t v g {path} {r} {e} f a =
     rw (sym (f .getter)) (entered-by b w j names x t v g path r (arrivalChoice (put b j names x) x) refl (f .found) e a)
@@ -166,7 +166,7 @@ module _ {t : List ℕ} {s : Size} {j first second x : ℕ} {path : List ℕ} {r
 
   module _ {u : List ℕ} (o : TableOf u s (decode t)) where
     -- the job is taken in where the code says ..
-    pub taking-entered : {e : Entry} → EntersAt (decode u) j x path r e → Entered (decode t) j (first ∷ second ∷ []) path (arrive (decode t) j (first ∷ second ∷ [])) r (e .holder) (e .place)
+    pub taking-entered : {e : Intake} → EntersAt (decode u) j x path r e → Entered (decode t) j (first ∷ second ∷ []) path (arrive (decode t) j (first ∷ second ∷ [])) r (e .holder) (e .place)
     taking-entered {e} a =
         let g = getting-in ((decode t) .holders) first second (f .getter) in
         entered (decode t) (z .storable) j (first ∷ second ∷ []) x (m .number) (arriving-storable z m g .valid) g f (subst (λ (d : Board). EntersAt d j x path r e) (o .board) a)

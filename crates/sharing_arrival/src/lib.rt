@@ -15,7 +15,6 @@ ghost use Rattle.table_board.specs.BoardView.{HoldsBoard, Loaded};
 ghost use Rattle.table_order.specs.InOrder.{InOrder};
 ghost use Rattle.sharing_paths.specs.FoundPaths.{JobAt};
 ghost use Rattle.sharing_arrival.specs.ArrivalResult.{ArrivalFound, EntersAt, ArrivalOf};
-use graph_lists::scratch;
 use sharing_paths::FoundPath;
 use table_size::Size;
 
@@ -28,7 +27,7 @@ pub struct Arrival {
 }
 
 // Where an arriving job is taken in: the bench that holds it, and the place from which on the path is left.
-struct Entry {
+struct Intake {
     holder: usize,
     place: usize,
 }
@@ -79,7 +78,7 @@ fn enter(
     x: usize,
     found: FoundPath,
     path: &[u16; Size::MOST_BENCHES + 1],
-) -> Entry
+) -> Intake
     requires { ⌜ HoldsBoard (now t) s ⌝ }
     requires { ⌜ found .jobs ≤ mostBenches ⌝ }
     requires { ⌜ length (now path) ≡ mostBenches + 1 ⌝ }
@@ -88,9 +87,9 @@ fn enter(
 {
     if found.jobs != 0 && path[0] as usize == j {
         let holder = sharing_paths::bench_after(t, s, path, 1, found.jobs, found.bench);
-        return Entry { holder, place: 1 };
+        return Intake { holder, place: 1 };
     }
-    Entry {
+    Intake {
         holder: x,
         place: 0,
     }
@@ -129,6 +128,7 @@ fn arrive_in_order(
     t: &mut [u8],
     s: Size,
     loads: &mut [u16; Size::MOST_BENCHES + 1],
+    path: &mut [u16; Size::MOST_BENCHES + 1],
     j: usize,
     first: usize,
     second: usize,
@@ -136,12 +136,12 @@ fn arrive_in_order(
     requires { ⌜ InOrder (now t) s ⌝ }
     requires { ⌜ MayArrive (decode (now t)) (record { job = j; given = first ∷ second ∷ [] }) ⌝ }
     requires { ⌜ Loaded (decode (now t)) (now loads) ⌝ }
+    requires { ⌜ length (now path) ≡ mostBenches + 1 ⌝ }
     ensures { λ r. ⌜ ArrivalOf (now (t .entry)) (now (t .exit)) j first second r ⌝ }
 {
     let x = lighter(loads, first, second);
-    let mut path = scratch::benches();
-    let found = find_arrival(t, s, loads, j, first, second, x, &mut path);
-    apply_arrival(t, s, j, first, second, x, found, &path)
+    let found = find_arrival(t, s, loads, j, first, second, x, path);
+    apply_arrival(t, s, j, first, second, x, found, path)
 }
 
 // Takes in job j on a table in another order: in a copy, as long as the table, that is put in order, and then copied
@@ -150,6 +150,7 @@ fn arrive_in_copy(
     t: &mut [u8],
     s: Size,
     loads: &mut [u16; Size::MOST_BENCHES + 1],
+    path: &mut [u16; Size::MOST_BENCHES + 1],
     j: usize,
     first: usize,
     second: usize,
@@ -158,21 +159,23 @@ fn arrive_in_copy(
     requires { ⌜ SoundTable (now t) s ⌝ }
     requires { ⌜ MayArrive (decode (now t)) (record { job = j; given = first ∷ second ∷ [] }) ⌝ }
     requires { ⌜ Loaded (decode (now t)) (now loads) ⌝ }
+    requires { ⌜ length (now path) ≡ mostBenches + 1 ⌝ }
     requires { ⌜ length (now copy) ≡ length (now t) ⌝ }
     ensures { λ r. ⌜ ArrivalOf (now (t .entry)) (now (t .exit)) j first second r ⌝ }
 {
     table_copies::copy_in_order(t, s, copy);
-    let a = arrive_in_order(copy, s, loads, j, first, second);
+    let a = arrive_in_order(copy, s, loads, path, j, first, second);
     table_copies::copy_back(copy, t);
     a
 }
 
-// Takes in job j for two benches.
+// Takes in job j for two benches. `path` is lent for the jobs that are handed along: what it holds does not matter.
 pub fn arrive(
     t: &mut [u8],
     s: Size,
     rising: bool,
     loads: &mut [u16; Size::MOST_BENCHES + 1],
+    path: &mut [u16; Size::MOST_BENCHES + 1],
     j: usize,
     first: usize,
     second: usize,
@@ -181,13 +184,14 @@ pub fn arrive(
     requires { ⌜ T rising ↔ (now t ≡ encode (decode (now t))) ⌝ }
     requires { ⌜ MayArrive (decode (now t)) (record { job = j; given = first ∷ second ∷ [] }) ⌝ }
     requires { ⌜ Loaded (decode (now t)) (now loads) ⌝ }
+    requires { ⌜ length (now path) ≡ mostBenches + 1 ⌝ }
     ensures { λ r. ⌜ ArrivalOf (now (t .entry)) (now (t .exit)) j first second r ⌝ }
 {
     if rising {
-        arrive_in_order(t, s, loads, j, first, second)
+        arrive_in_order(t, s, loads, path, j, first, second)
     } else {
         let mut copy = [0; Size::MOST_BYTES];
         let n = s.bytes();
-        arrive_in_copy(t, s, loads, j, first, second, &mut copy[0..n])
+        arrive_in_copy(t, s, loads, path, j, first, second, &mut copy[0..n])
     }
 }

@@ -2,7 +2,7 @@
 use Prim.Native.Nat.{ℕ, _+_, _≤_, _<_}
 use native.Mathlib.Omega.{arith}
 use native.Mathlib.Decide.{ℕ-discrete}
-use mathlib.Core.Path.{_≡_, sym, subst, _∙_}
+use mathlib.Core.Path.{_≡_, subst, _∙_}
 use mathlib.Core.Logic.{_≢_}
 use mathlib.Core.List.{List}
 use lib.Dec.{T}
@@ -16,8 +16,7 @@ use Rattle.table_size.specs.Sizes.{SizeOf}
 use Rattle.table_size.specs.declared.Size.{Size}
 use Rattle.spec_table.proofs.Named.{holder-bench}
 use Rattle.table_board.specs.BoardView.{HoldsBoard, HolderOf}
-use Rattle.table_board.proofs.RecordsAsBoard.{stands-job}
-use Rattle.table_chains.proofs.ChainView.{held-stands}
+use Rattle.table_board.proofs.RecordsAsBoard.{stands-job, held-stands}
 use Rattle.table_chains.specs.Chains.{storedNext}
 use Rattle.graph_lists.specs.Arrays.{at}
 use Rattle.sharing_steps.specs.Others.{otherOf}
@@ -32,7 +31,7 @@ at-more f l n x h e j g w = elim (ℕ-discrete j (n + 1)) [
 
 -- what the holder tells: a job that a bench holds stands ..
 pub found-stands : {t : List ℕ} {s : Size} {j x : ℕ} → HoldsBoard t s → HolderOf t s j x → x ≢ 0 → T (stands (decode t) j)
-found-stands {t} {s} {j} {x} k h d = held-stands t s j x k (omega arith) (sym (h .value))
+found-stands {t} {s} {j} {x} k h d = held-stands t s j k (λ e. d (h .value ∙ e))
 
 -- .. and one that none holds does not
 pub found-none : {t : List ℕ} {s : Size} {j x : ℕ} → HoldsBoard t s → HolderOf t s j x → x ≡ 0 → T (stands (decode t) j) → ⊥

@@ -7,13 +7,13 @@ use mathlib.Core.List.{List, []}
 use mathlib.Core.Option.{Option, none, some}
 use lib.Dec.{T, eqb}
 use lib.ListN.{length, set, length-set}
-use Rattle.spec_lists.specs.Lists.{bit, In, update}
+use Rattle.spec_lists.specs.Lists.{bit, greatest, In, update}
 use Rattle.spec_table.specs.Board.{Board, namesOf, holderOf, stands, put, load, heldBy}
 use Rattle.spec_table.specs.Table.{mostBenches, decode, encode, Storable}
 use Rattle.spec_sharing.specs.Paths.{Step, BenchPath, steps, handOver, flip}
 use Rattle.spec_sharing.specs.Sharing.{closingChoice, afterClosing, close}
 use Rattle.spec_lists.proofs.Elements.{length-update}
-use Rattle.spec_lists.proofs.Counting.{bit-same, bit-other}
+use Rattle.spec_lists.proofs.Counting.{bit-same, bit-other, greatest-above, greatest-most}
 use Rattle.spec_lists.proofs.Raising.{getD-lowered}
 use Rattle.spec_table.proofs.Named.{stands-within, holder-bench}
 use Rattle.spec_sharing.proofs.Paths.{step-is, improvingTo-only}
@@ -23,7 +23,7 @@ use Rattle.table_size.specs.Sizes.{BenchIn, JobIn, SoundTable}
 use Rattle.table_size.specs.declared.Size.{Size}
 use Rattle.table_size.proofs.Sizes.{board-job, board-bench}
 use Rattle.table_board.specs.BoardView.{HolderOf, Loaded}
-use Rattle.table_board.proofs.RecordsAsBoard.{sound-holds-board}
+use Rattle.table_board.proofs.RecordsAsBoard.{sound-holds-board, put-storable}
 use Rattle.table_order.specs.InOrder.{TableOf}
 use Rattle.graph_lists.specs.Arrays.{at, LoadsIn}
 use Rattle.sharing_steps.proofs.AsSteps.{loads-in}
@@ -32,7 +32,7 @@ use Rattle.sharing_paths.specs.declared.FoundPath.{FoundPath}
 use Rattle.sharing_paths.proofs.HandingAlong.{routeOf, found-route}
 use Rattle.sharing_paths_to.specs.ClosingSearch.{WithoutJob}
 use Rattle.sharing_closing.specs.ClosingResult.{ClosingFound, IsClosing, ClosingOf}
-use Rattle.sharing_steps.proofs.JobWritten.{put-storable, step-same, written-load}
+use Rattle.sharing_steps.proofs.JobWritten.{step-same, written-load}
 
 -- one job less at bench x
 abbrev pub lowered : List ℕ → ℕ → List ℕ
@@ -95,7 +95,7 @@ module _ {t : List ℕ} {s : Size} {j : ℕ} (z : SoundTable t s) (p : T (stands
       closing-loads =
           record { long = length-set loads x _ ∙ l .long; bench = λ i low high. omega (arith, lowered-at i, l .bench i low high, less i low) }
 
-      -- .. which are loads of the size
+      -- .. which are loads of the size, ..
       pub closing-loads-in : LoadsIn s (lowered loads x)
       closing-loads-in =
           let before = loads-in (sound-holds-board t s z) l in
@@ -105,11 +105,16 @@ module _ {t : List ℕ} {s : Size} {j : ℕ} (z : SoundTable t s) (p : T (stands
             long = closing-loads .long;
           }
 
+      -- .. and none is above the heaviest before
+      pub closing-top : {n : ℕ} → n ≡ greatest (s .benches) (at loads) → greatest (s .benches) (at (lowered loads x)) ≤ n
+      closing-top {n} g =
+          greatest-most (s .benches) (at (lowered loads x)) n (λ i low high. omega (arith, lowered-at i, greatest-above (s .benches) (at loads) i low high))
+
       -- so what a search finds on this board is the closing's path
-      pub closing-found : {path : List ℕ} {r : FoundPath} → ((c : Board) → WithoutJob (decode t) c s x → Loaded c (lowered loads x) → PathFound (closingChoice c x) (startOf x (closingChoice c x)) path r) → ClosingFound (decode t) j (holderOf (decode t) j) path r
+      pub closing-found : {path : List ℕ} {r : FoundPath} → ((c : Board) → WithoutJob (decode t) c s x → Loaded c (lowered loads x) → PathFound (closingChoice c x) (startOf x (closingChoice c x)) path r) → ClosingFound (decode t) j path r
       closing-found {path} {r} f =
           let c = put (decode t) j [] 0 in
-          record { loser = refl; found = subst (λ (y : ℕ). PathFound (closingChoice c y) (startOf y (closingChoice c y)) path r) (e .value) (f c closing-without closing-loads) }
+          record { found = subst (λ (y : ℕ). PathFound (closingChoice c y) (startOf y (closingChoice c y)) path r) (e .value) (f c closing-without closing-loads) }
 
 -- the path is handed along
 
@@ -133,7 +138,7 @@ closed-numbers : (u : List ℕ) (c : Board) (x : ℕ) (o : Option BenchPath) {pa
 closed-numbers u c x none e f = record { bytes = e; fell = f .bench; moved = f .count }
 closed-numbers u c x (some p) e f = record { bytes = e; fell = f .bench; moved = f .count }
 
-module _ {b : Board} {s : Size} {j x : ℕ} {path : List ℕ} {r : FoundPath} (f : ClosingFound b j (holderOf b j) path r) {u : List ℕ} (o : TableOf u s b) (e : HolderOf u s j x) {v : List ℕ} (a : TableOf v s (put (decode u) j [] 0)) where
+module _ {b : Board} {s : Size} {j x : ℕ} {path : List ℕ} {r : FoundPath} (f : ClosingFound b j path r) {u : List ℕ} (o : TableOf u s b) (e : HolderOf u s j x) {v : List ℕ} (a : TableOf v s (put (decode u) j [] 0)) where
   removed : decode v ≡ put b j [] 0
   removed = a .board ∙ ap (λ (d : Board). put d j [] 0) (o .board)
 

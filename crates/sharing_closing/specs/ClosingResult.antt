@@ -1,4 +1,5 @@
--- Closing: the path is the rule's, found while every byte is as it was; the table is then the rule's board, and the numbers are the rule's.
+-- Closing: the path is the rule's, found while every byte is as it was; the table is then the rule's board, and the
+-- numbers are the rule's.
 use Prim.Native.Nat.{ℕ}
 use mathlib.Core.Path.{_≡_}
 use mathlib.Core.List.{List, []}
@@ -9,11 +10,10 @@ use Rattle.spec_table.specs.Table.{decode, encode}
 use Rattle.sharing_paths.specs.FoundPaths.{startOf, PathFound}
 use Rattle.sharing_paths.specs.declared.FoundPath.{FoundPath}
 
--- bench x loses job j, and the rule's path to it is found
-pub record ClosingFound (b : Board) (j x : ℕ) (path : List ℕ) (r : FoundPath) : Type 0 where
-  pub loser : x ≡ holderOf b j
+-- the rule's path to the bench that loses job j is found
+pub record ClosingFound (b : Board) (j : ℕ) (path : List ℕ) (r : FoundPath) : Type 0 where
   pub found :
-      PathFound (closingChoice (put b j [] 0) x) (startOf x (closingChoice (put b j [] 0) x)) path r
+      let x = holderOf b j in let choice = closingChoice (put b j [] 0) x in PathFound choice (startOf x choice) path r
 
 -- r and the table u are those of the closing c
 pub record IsClosing (u : List ℕ) (c : Change) (r : FoundPath) : Type 0 where

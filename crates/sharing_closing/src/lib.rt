@@ -4,13 +4,12 @@ ghost use mathlib.Core.Logic.{_↔_};
 ghost use Prim.Native.Nat.{_+_};
 ghost use lib.Dec.{T};
 ghost use lib.ListN.{length};
-ghost use Rattle.spec_table.specs.Board.{stands, holderOf};
+ghost use Rattle.spec_table.specs.Board.{stands};
 ghost use Rattle.spec_table.specs.Table.{mostBenches, decode, encode};
 ghost use Rattle.table_size.specs.Sizes.{SoundTable};
 ghost use Rattle.table_board.specs.BoardView.{Loaded};
 ghost use Rattle.table_order.specs.InOrder.{InOrder};
 ghost use Rattle.sharing_closing.specs.ClosingResult.{ClosingFound, ClosingOf};
-use graph_lists::scratch;
 use sharing_paths::FoundPath;
 use table_board::jobs;
 use table_size::Size;
@@ -27,12 +26,13 @@ pub fn find_closing(
     requires { ⌜ T (stands (decode (now t)) j) ⌝ }
     requires { ⌜ Loaded (decode (now t)) (now loads) ⌝ }
     requires { ⌜ length (now path) ≡ mostBenches + 1 ⌝ }
-    ensures { λ r. ⌜ ClosingFound (decode (now (t .entry))) j (holderOf (decode (now (t .entry))) j) (now (path .exit)) r
-        ⌝ }
+    ensures { λ r. ⌜ ClosingFound (decode (now (t .entry))) j (now (path .exit)) r ⌝ }
 {
     let x = jobs::holder(t, s, j);
+    // Reads the heaviest load before it may fall: a word just written would hold up the reading of all.
+    let top = sharing_loads::heaviest(s, loads);
     loads[x] -= 1;
-    sharing_paths_to::find_to(t, s, loads, x, path)
+    sharing_paths_to::find_to(t, s, loads, x, top, path)
 }
 
 // Closes job j and hands the path's jobs along, the last to the bench that held it.
@@ -45,7 +45,7 @@ pub fn apply_closing(
 )
     requires { ⌜ InOrder (now t) s ⌝ }
     requires { ⌜ T (stands (decode (now t)) j) ⌝ }
-    requires { ⌜ ClosingFound (decode (now t)) j (holderOf (decode (now t)) j) (now path) found ⌝ }
+    requires { ⌜ ClosingFound (decode (now t)) j (now path) found ⌝ }
     ensures { λ _. ⌜ ClosingOf (now (t .entry)) (now (t .exit)) j found ⌝ }
 {
     let x = jobs::holder(t, s, j);
@@ -58,16 +58,17 @@ fn close_in_order(
     t: &mut [u8],
     s: Size,
     loads: &mut [u16; Size::MOST_BENCHES + 1],
+    path: &mut [u16; Size::MOST_BENCHES + 1],
     j: usize,
 ) -> FoundPath
     requires { ⌜ InOrder (now t) s ⌝ }
     requires { ⌜ T (stands (decode (now t)) j) ⌝ }
     requires { ⌜ Loaded (decode (now t)) (now loads) ⌝ }
+    requires { ⌜ length (now path) ≡ mostBenches + 1 ⌝ }
     ensures { λ r. ⌜ ClosingOf (now (t .entry)) (now (t .exit)) j r ⌝ }
 {
-    let mut path = scratch::benches();
-    let found = find_closing(t, s, loads, j, &mut path);
-    apply_closing(t, s, j, found, &path);
+    let found = find_closing(t, s, loads, j, path);
+    apply_closing(t, s, j, found, path);
     found
 }
 
@@ -77,40 +78,45 @@ fn close_in_copy(
     t: &mut [u8],
     s: Size,
     loads: &mut [u16; Size::MOST_BENCHES + 1],
+    path: &mut [u16; Size::MOST_BENCHES + 1],
     j: usize,
     copy: &mut [u8],
 ) -> FoundPath
     requires { ⌜ SoundTable (now t) s ⌝ }
     requires { ⌜ T (stands (decode (now t)) j) ⌝ }
     requires { ⌜ Loaded (decode (now t)) (now loads) ⌝ }
+    requires { ⌜ length (now path) ≡ mostBenches + 1 ⌝ }
     requires { ⌜ length (now copy) ≡ length (now t) ⌝ }
     ensures { λ r. ⌜ ClosingOf (now (t .entry)) (now (t .exit)) j r ⌝ }
 {
     table_copies::copy_in_order(t, s, copy);
-    let found = close_in_order(copy, s, loads, j);
+    let found = close_in_order(copy, s, loads, path, j);
     table_copies::copy_back(copy, t);
     found
 }
 
-// Closes job j, which stands; tells the bench whose load fell, and the jobs that changed holder.
+// Closes job j, which stands; tells the bench whose load fell, and the jobs that changed holder. `path` is lent: what
+// it holds does not matter.
 pub fn close(
     t: &mut [u8],
     s: Size,
     rising: bool,
     loads: &mut [u16; Size::MOST_BENCHES + 1],
+    path: &mut [u16; Size::MOST_BENCHES + 1],
     j: usize,
 ) -> FoundPath
     requires { ⌜ SoundTable (now t) s ⌝ }
     requires { ⌜ T rising ↔ (now t ≡ encode (decode (now t))) ⌝ }
     requires { ⌜ T (stands (decode (now t)) j) ⌝ }
     requires { ⌜ Loaded (decode (now t)) (now loads) ⌝ }
+    requires { ⌜ length (now path) ≡ mostBenches + 1 ⌝ }
     ensures { λ r. ⌜ ClosingOf (now (t .entry)) (now (t .exit)) j r ⌝ }
 {
     if rising {
-        close_in_order(t, s, loads, j)
+        close_in_order(t, s, loads, path, j)
     } else {
         let mut copy = [0; Size::MOST_BYTES];
         let n = s.bytes();
-        close_in_copy(t, s, loads, j, &mut copy[0..n])
+        close_in_copy(t, s, loads, path, j, &mut copy[0..n])
     }
 }

@@ -4,20 +4,19 @@ use native.Mathlib.Omega.{arith}
 use native.Mathlib.Decide.{ℕ-discrete}
 use native.Mathlib.Numerals.{add-one}
 use mathlib.Core.Path.{_≡_, refl, sym, ap, subst, _∙_}
-use mathlib.Core.Logic.{inl, ⊎-elim, _≢_, _↔_}
-use mathlib.Core.Bool.{Bool, true}
+use mathlib.Core.Logic.{inl, ⊎-elim, _≢_}
 use mathlib.Core.List.{List}
 use mathlib.Core.Option.{Option, none, some}
 use lib.Dec.{T, eqb}
-use lib.ListN.{length, set, take, replicate, length-set, length-map, length-replicate}
-use lib.Seq.{length-take-le}
+use lib.ListN.{length, set, length-set, length-map}
 use Rattle.spec_lists.specs.Lists.{bit, In}
 use Rattle.spec_table.specs.Board.{Board, Valid, load, heldBy}
-use Rattle.spec_table.specs.Table.{mostBenches, mostJobs, lengthFor, decode, encode}
+use Rattle.spec_table.specs.Table.{mostBenches, mostJobs, decode}
 use Rattle.spec_sharing.specs.Paths.{Step, BenchPath, pathBy, steps, endOf, last, IsPath, improves, improvingFrom, handOver, flip}
 use Rattle.spec_sharing.specs.Sharing.{arrivalChoice, levellingChoice, level, Levelled}
 use Rattle.spec_sharing.specs.Demand2.{Flips, noFlip}
-use Rattle.table_size.specs.Sizes.{BenchIn, SizeOf, SoundTable}
+use Rattle.spec_sharing.specs.Searches.{Reach, StartsOne}
+use Rattle.table_size.specs.Sizes.{BenchIn}
 use Rattle.table_size.specs.declared.Size.{Size}
 use Rattle.table_board.specs.BoardView.{HoldsBoard, Loaded}
 use Rattle.table_order.specs.InOrder.{InOrder, TableOf}
@@ -28,13 +27,13 @@ use Rattle.sharing_paths_from.specs.ArrivalSearch.{WithJob}
 use Rattle.sharing_start.specs.PathStart.{StartOf}
 use Rattle.sharing_levelling.specs.LevellingResult.{IsLevelling, LevellingOf}
 use Rattle.sharing_levelling.specs.declared.Levelling.{Levelling}
-use Rattle.spec_lists.proofs.Tests.{true→T, tests-same, T-eqb, eqb-T}
+use Rattle.spec_lists.proofs.Tests.{tests-same, T-eqb, eqb-T}
 use Rattle.spec_lists.proofs.Raising.{getD-raised, getD-lowered}
 use Rattle.spec_sharing.proofs.Paths.{improvingFrom-only, improvingFrom-every, improves-loads, loads-improve}
 use Rattle.spec_sharing.proofs.Choice.{arrival-choice, arrival-none, level-choice}
-use Rattle.spec_sharing.proofs.Walks.{Reach, reach-path, path-reach, reach-bench}
+use Rattle.spec_sharing.proofs.Walks.{reach-path, path-reach, reach-bench}
 use Rattle.spec_sharing.proofs.Flip.{flip-loads}
-use Rattle.spec_sharing.proofs.Found.{StartsOne, level-starts, levelling-found}
+use Rattle.spec_sharing.proofs.Found.{level-starts, levelling-found}
 use Rattle.spec_sharing.proofs.Levelling.{flips-more, flips-relevel}
 use Rattle.table_size.proofs.Sizes.{board-bench}
 use Rattle.sharing_steps.proofs.AsSteps.{loads-in, on-board, load-at}
@@ -229,8 +228,8 @@ module _ {b : Board} {t : List ℕ} {s : Size} {allowance : ℕ} {loads path : L
           (choice-shifts p (order-holds (i .inOrder)) (i .loaded) (i .next .some d .bench) e)
 
       -- .. and then one more path is flipped
-      pub flipping-turn : {loads' : List ℕ} {x' : ℕ} → paths < allowance → Loaded (decode u) loads' → StartOf (decode u) s x' → Flipping b u s allowance loads' path' (paths + 1) x'
-      flipping-turn less l n =
+      pub flipping-turn : {loads' queue : List ℕ} {x' : ℕ} → paths < allowance → Loaded (decode u) loads' → length queue ≡ mostBenches + 1 → StartOf (decode u) s x' → Flipping b u s allowance loads' queue (paths + 1) x'
+      flipping-turn less l m n =
           let (p, e, g, o) = turned in
           record {
             inOrder = o .inOrder;
@@ -238,7 +237,7 @@ module _ {b : Board} {t : List ℕ} {s : Size} {allowance : ℕ} {loads path : L
             next = n;
             flipped = rw (add-one paths, o .board) (flips-more paths b (decode t) p (i .flipped) g);
             allowed = omega arith;
-            long = found .long;
+            long = m;
           }
 
   -- where none is left or the allowance is used up, that is levelling

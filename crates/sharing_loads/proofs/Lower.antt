@@ -2,9 +2,10 @@
 use Prim.Native.Nat.{ℕ, _+_, _≤_, _<_}
 use native.Mathlib.Omega.{arith}
 use native.Mathlib.Decide.{ℕ-discrete}
-use mathlib.Core.Path.{_≡_, ap, subst}
+use mathlib.Core.Path.{_≡_, refl, sym, ap, subst, _∙_}
 use mathlib.Core.Logic.{_⊎_, inl, inr}
 use mathlib.Core.List.{List}
+use Rattle.table_size.specs.Sizes.{BenchIn}
 use Rattle.table_size.specs.declared.Size.{Size}
 use Rattle.graph_lists.specs.Arrays.{at}
 use Rattle.sharing_loads.specs.LoadRanks.{NextLower}
@@ -13,6 +14,7 @@ use Rattle.sharing_loads.specs.LoadRanks.{NextLower}
 pub record LowerBefore (n : ℕ) (loads : List ℕ) (load x most : ℕ) : Type 0 where
   pub few : x ≤ n + 1
   pub least : 1 ≤ x
+  pub is : (most ≡ 0) ⊎ ((z : ℕ) × (1 ≤ z) × (z < x) × (at loads z ≡ most))
   pub lower : 1 ≤ load → most < load
   pub passed : (z : ℕ) → 1 ≤ z → z < x → at loads z < load → at loads z ≤ most
 
@@ -22,13 +24,17 @@ Next load most n p = ((n < load) × (most < n) × (p ≡ n)) ⊎ ((n < load → 
 
 -- before bench 1 there is none ..
 pub lower-start : (n : ℕ) (loads : List ℕ) (load : ℕ) → LowerBefore n loads load 1 0
-lower-start n loads load = record { few = omega arith; least = omega arith; lower = λ h. omega arith; passed = λ z l u h. absurd (omega arith) }
+lower-start n loads load = record { few = omega arith; least = omega arith; is = inl refl; lower = λ h. omega arith; passed = λ z l u h. absurd (omega arith) }
 
 module _ {n : ℕ} {loads : List ℕ} {load x most : ℕ} (h : LowerBefore n loads load x most) where
   -- .. each bench brings its load ..
   pub lower-turn : {p : ℕ} → x ≤ n → Next load most (at loads x) p → LowerBefore n loads load (x + 1) p
-  lower-turn {p} l w = record { few = omega arith; least = omega arith; lower = λ one. lower (h .lower one) w; passed = passed }
+  lower-turn {p} l w = record { few = omega arith; least = omega arith; is = is w; lower = λ one. lower (h .lower one) w; passed = passed }
     where
+      is : Next load most (at loads x) p → (p ≡ 0) ⊎ ((z : ℕ) × (1 ≤ z) × (z < x + 1) × (at loads z ≡ p))
+      is (inl g) = inr (x, h .least, omega arith, sym (g .2))
+      is (inr g) = elim (h .is) [ inl e ↦ inl (g .1 ∙ e) | inr v ↦ inr (v .0, v .1, omega (arith, v .2), v .3 ∙ sym (g .1)) ]
+
       lower : most < load → Next load most (at loads x) p → p < load
       lower m (inl g) = omega arith
       lower m (inr g) = omega (arith, g .1)
@@ -46,4 +52,8 @@ module _ {n : ℕ} {loads : List ℕ} {load x most : ℕ} (h : LowerBefore n loa
 
   -- .. and in the end it is that of all benches
   pub lower-end : {s : Size} → n ≡ s .benches → n < x → NextLower s loads load most
-  lower-end e l = record { lower = h .lower; most = λ z b u. h .passed z (b .least) (omega (arith, b .most)) u }
+  lower-end {s} e l = record { is = is (h .is); lower = h .lower; most = λ z b u. h .passed z (b .least) (omega (arith, b .most)) u }
+    where
+      is : (most ≡ 0) ⊎ ((z : ℕ) × (1 ≤ z) × (z < x) × (at loads z ≡ most)) → (most ≡ 0) ⊎ ((z : ℕ) × BenchIn s z × (at loads z ≡ most))
+      is (inl z) = inl z
+      is (inr v) = inr (v .0, record { least = v .1; most = omega (arith, h .few, v .2) }, v .3)

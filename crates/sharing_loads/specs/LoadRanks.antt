@@ -23,5 +23,6 @@ pub record LightestAt (loads : List ℕ) (bench : ℕ → ℕ) (begin end r : �
 
 -- r is the greatest load of benches 1 to B below `load`, 0 where no bench has less
 pub record NextLower (s : Size) (loads : List ℕ) (load r : ℕ) : Type 0 where
+  pub is : (r ≡ 0) ⊎ ((x : ℕ) × BenchIn s x × (at loads x ≡ r))
   pub lower : 1 ≤ load → r < load
   pub most : (x : ℕ) → BenchIn s x → at loads x < load → at loads x ≤ r

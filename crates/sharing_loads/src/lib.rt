@@ -1,4 +1,4 @@
-// The heaviest of all loads.
+// Loads: the heaviest, the lightest bench, the next lower load.
 ghost use mathlib.Core.Path.{_≡_};
 ghost use Rattle.spec_lists.specs.Lists.{greatest};
 ghost use Rattle.table_size.specs.Sizes.{Limits};

@@ -2,23 +2,22 @@
 use Prim.Native.Nat.{ℕ, zero, suc, _+_, _-_, _≤_, _<_}
 use native.Mathlib.Omega.{arith}
 use native.Mathlib.Decide.{ℕ-discrete, decLt}
-use mathlib.Core.Path.{_≡_, refl, sym, ap, subst, _∙_}
+use mathlib.Core.Path.{_≡_, refl, sym, ap, _∙_}
 use mathlib.Core.Logic.{_≢_}
 use mathlib.Core.List.{List, [], _∷_, _++_, map, append-nil, append-assoc}
-use lib.Dec.{T}
 use lib.ListN.{length, set, take, length-set}
 use lib.Seq.{slice, slice-cons, slice-empty, drop-set-lt, take-set-lt, getD-set-same}
-use Rattle.spec_lists.specs.Lists.{within, In}
-use Rattle.spec_table.specs.Board.{holderOf, stands}
+use Rattle.spec_lists.specs.Lists.{In}
+use Rattle.spec_table.specs.Board.{holderOf}
 use Rattle.spec_table.specs.Table.{mostBenches, mostJobs, decode}
 use Rattle.spec_sharing.specs.Paths.{Step, stepBy, jobs}
-use Rattle.spec_lists.proofs.Tests.{within-high}
-use Rattle.spec_sharing.proofs.Trails.{further, Sooner, further-jobs, further-length, further-later, sooner-no-later}
-use Rattle.table_size.specs.Sizes.{JobIn}
+use Rattle.spec_sharing.specs.Searches.{further, Sooner}
+use Rattle.spec_lists.proofs.Tests.{within-low, within-high}
+use Rattle.spec_sharing.proofs.Trails.{further-jobs, further-length, further-later, sooner-no-later}
 use Rattle.table_size.specs.declared.Size.{Size}
 use Rattle.table_board.specs.BoardView.{HoldsBoard, HolderOf}
-use Rattle.table_board.proofs.RecordsAsBoard.{stands-job}
 use Rattle.graph_lists.specs.Arrays.{at}
+use Rattle.sharing_steps.specs.Others.{otherOf}
 use Rattle.sharing_steps.proofs.AsSteps.{step-job}
 use Rattle.sharing_search.specs.Searching.{started, Course, Searching}
 use Rattle.sharing_search.proofs.Steps.{found-bench, search-few}
@@ -85,7 +84,7 @@ pub record Followed {c : Course} {benches limit found : ℕ} {queue came : List 
   pub few : left ≤ n
   pub listed : jobs (k .trail y) ≡ jobs (k .trail bench) ++ slice left n path
 
-module _ {t : List ℕ} {s : Size} {c : Course} {limit found : ℕ} {queue came : List ℕ} {y n : ℕ} (holdsBoard : HoldsBoard t s) (k : Behind (decode t) c (s .benches) limit found queue came y n) where
+module _ {t : List ℕ} {s : Size} {c : Course} {found : ℕ} {queue came : List ℕ} {y n : ℕ} (holdsBoard : HoldsBoard t s) (k : Behind (decode t) c (s .benches) found queue came y n) where
   -- at first the whole trail is left
   pub followed-start : (path : List ℕ) → Followed (k .searching) y n path y n
   followed-start path = record {
@@ -126,25 +125,25 @@ module _ {t : List ℕ} {s : Size} {c : Course} {limit found : ℕ} {queue came 
         let (w, f, j, e) = back in
         omega (arith, count, ap (λ p. length (p .route)) e, further-length (k .searching .trail w) (stepBy (at came x) x))
 
-    -- if that bench is no start, it holds x's job in the table
-    held : 1 ≤ left - 1 → T (stands (decode t) (at came x)) × (holderOf (decode t) (at came x) ≡ back .0)
-    held m =
+    -- if that bench is no start, x's job leads from it to x in the table
+    led : 1 ≤ left - 1 → (holderOf (decode t) (at came x) ≡ back .0) × (otherOf (decode t) (at came x) ≡ x)
+    led m =
         let (w, f, j, e) = back in
         let start : at came w ≢ started = λ d. omega (arith, shorter, ap (λ p. length (p .route)) (k .searching .own w d)) in
         let end : w ≢ y = λ d. omega (arith, shorter, k .jobs, h .few, ap (λ (z : ℕ). length (k .searching .trail z .route)) d) in
         let small = within-high 1 mostJobs (at came x) (k .searching .steps-in w (stepBy (at came x) x) j .0) in
-        let (p, g, o) = step-job holdsBoard w (stepBy (at came x) x) (k .agree w f start end (stepBy (at came x) x) (omega arith) (omega arith) .0 j) in
-        (p, g)
+        let (_, g, o) = step-job holdsBoard w (stepBy (at came x) x) (k .agree w f start end (stepBy (at came x) x) (omega arith) (omega arith) .0 j) in
+        (g, o)
 
-    -- if x's job is not the trail's first, it is one of the table ..
-    pub followed-held : 1 ≤ left - 1 → JobIn s (at came x)
-    followed-held m = stands-job t s (at came x) (holdsBoard .size) (held m .0)
+    -- so if x's job is not the trail's first, it leads to x, which is a bench, ..
+    pub followed-led : 1 ≤ left - 1 → (x ≡ otherOf (decode t) (at came x)) × (x ≢ 0)
+    followed-led m = (sym (led m .1), λ e. omega (arith, within-low 1 (s .benches) x (found-bench (k .searching) x reached)))
 
-    -- .. and its holder is the bench before: so one job more is followed
+    -- .. and its holder is the bench before: one job more is followed
     pub followed-turn : {x' : ℕ} → length path ≡ mostBenches + 1 → (1 ≤ left - 1 → HolderOf t s (at came x) x') → Followed (k .searching) y n (set path (left - 1) (at came x)) x' (left - 1)
     followed-turn {x'} long e = record {
       bench = back .0;
-      here = λ m. e m .value ∙ held m .1;
+      here = λ m. e m .value ∙ led m .0;
       reached = back .1;
       count = shorter;
       few = omega (arith, h .few);

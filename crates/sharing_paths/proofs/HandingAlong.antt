@@ -21,8 +21,7 @@ use Rattle.spec_table.proofs.Named.{length-shares}
 use Rattle.spec_sharing.proofs.Paths.{step-is, is-step, benchesOf, jobsOf}
 use Rattle.spec_sharing.proofs.Flip.{path-stands, path-jobs}
 use Rattle.table_size.specs.declared.Size.{Size}
-use Rattle.table_board.specs.BoardView.{HoldsBoard}
-use Rattle.table_board.proofs.RecordsAsBoard.{sound-holds-board, stands-job}
+use Rattle.table_board.proofs.RecordsAsBoard.{stands-job}
 use Rattle.table_order.specs.InOrder.{InOrder, TableOf}
 use Rattle.graph_lists.specs.Arrays.{at}
 use Rattle.sharing_paths.specs.FoundPaths.{lastOf, startOf, PathFound, JobAt, AfterIn, RouteIn}

@@ -37,9 +37,10 @@ pub record PathFound (choice : Option BenchPath) (end : ℕ) (path : List ℕ) (
   pub few : r .jobs ≤ mostBenches
   pub long : length path ≡ mostBenches + 1
 
--- a search found bench y by n jobs, and from each bench but starts and y itself its course leads along the board's steps
-pub record Behind (b : Board) (c : Course) (benches limit found : ℕ) (queue came : List ℕ) (y n : ℕ) : Type 0 where
-  pub searching : Searching c benches limit found queue came
+-- a search found bench y by n jobs, and from each bench but starts and y itself its course leads along the board's
+-- steps
+pub record Behind (b : Board) (c : Course) (benches found : ℕ) (queue came : List ℕ) (y n : ℕ) : Type 0 where
+  pub searching : Searching c benches 0 found queue came
   pub reached : 1 ≤ at came y
   pub jobs : length (searching .trail y .route) ≡ n
   pub agree : (w : ℕ) → 1 ≤ at came w → at came w ≢ started → w ≢ y → Agree c b w 0 started

@@ -31,11 +31,11 @@ pub fn follow_back(
 )
     requires { ⌜ InOrder (now t) s ⌝ }
     requires { ⌜ length (now path) ≡ mostBenches + 1 ⌝ }
-    requires { ⌜ ((c : Course) × (limit found : ℕ) × (queue : List ℕ) ×
-        Behind (decode (now t)) c (s .benches) limit found queue (now came) y n) ⌝ }
+    requires { ⌜ ((c : Course) × (found : ℕ) × (queue : List ℕ) ×
+        Behind (decode (now t)) c (s .benches) found queue (now came) y n) ⌝ }
     ensures { λ _. ⌜ length (now (path .exit)) ≡ mostBenches + 1 ⌝ }
-    ensures { λ _. ⌜ ((c : Course) (limit found : ℕ) (queue : List ℕ) →
-        (k : Behind (decode (now (t .entry))) c (s .benches) limit found queue (now (came .entry)) y n) →
+    ensures { λ _. ⌜ ((c : Course) (found : ℕ) (queue : List ℕ) →
+        (k : Behind (decode (now (t .entry))) c (s .benches) found queue (now (came .entry)) y n) →
         take n (now (path .exit)) ≡ jobs (k .searching .trail y)) ⌝ }
 {
     let mut x = y;
@@ -45,7 +45,7 @@ pub fn follow_back(
         let j = came[x];
         path[left] = j;
         if 0 < left {
-            x = jobs::holder(t, s, j as usize);
+            x = sharing_steps::origin(t, s, j as usize, x);
         }
     }
 }

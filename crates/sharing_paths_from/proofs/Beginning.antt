@@ -11,7 +11,6 @@ use Rattle.spec_table.specs.Board.{Board, holderOf}
 use Rattle.spec_table.specs.Table.{mostBenches}
 use Rattle.spec_sharing.specs.Paths.{Step, stepBy, BenchPath}
 use Rattle.spec_lists.proofs.Tests.{within-both}
-use Rattle.spec_sharing.proofs.Distances.{storable-one-other}
 use Rattle.table_size.specs.Sizes.{BenchIn}
 use Rattle.table_size.specs.declared.Size.{Size}
 use Rattle.table_order.specs.InOrder.{FirstFrom}
@@ -19,7 +18,7 @@ use Rattle.graph_lists.specs.Arrays.{at}
 use Rattle.graph_lists.proofs.Listing.{array-at}
 use Rattle.sharing_search.specs.Searching.{started, Searching, Discovered, Grown, AtBench}
 use Rattle.sharing_search.proofs.Queue.{discovered-new, grown-one}
-use Rattle.sharing_search.proofs.Steps.{search-none, search-few, search-seed, search-turn, search-leave, search-level}
+use Rattle.sharing_search.proofs.Steps.{search-none, search-most, search-seed, search-turn, search-leave, search-level}
 use Rattle.sharing_paths_from.specs.ArrivalSearch.{WithJob, courseFrom, FromBench}
 use Rattle.sharing_paths_from.proofs.JoinedBoard.{benches-most}
 
@@ -27,21 +26,19 @@ use Rattle.sharing_paths_from.proofs.JoinedBoard.{benches-most}
 pub record Begun (c : Board) (benches x limit found : ℕ) (queue came : List ℕ) : Type 0 where
   pub searching : Searching (courseFrom c 0 1 0) benches limit found queue came
   pub first : at queue 0 ≡ x
-  pub some : 1 ≤ found
   pub start : at came x ≡ started
 
 -- what was found stays so
 pub begun-kept : {c : Board} {benches x low found : ℕ} {queue came : List ℕ} {high found' : ℕ} {queue' came' : List ℕ} → Begun c benches x low found queue came → Grown found queue came found' queue' came' → Searching (courseFrom c 0 1 0) benches high found' queue' came' → Begun c benches x high found' queue' came'
 begun-kept {x = x} k g h = record {
   searching = h;
-  first = g .before 0 (k .some) ∙ k .first;
-  some = omega (arith, k .some, g .more);
+  first = g .before 0 (k .searching .places) ∙ k .first;
   start = g .kept x (omega (arith, k .start)) ∙ k .start;
 }
 
 -- the benches found fit into the arrays
 pub begun-few : {c : Board} {benches x limit found : ℕ} {queue came : List ℕ} → Begun c benches x limit found queue came → found ≤ mostBenches
-begun-few k = omega (arith, search-few (k .searching), k .searching .few)
+begun-few k = search-most (k .searching)
 
 module _ {b c : Board} {s : Size} {x job other : ℕ} (joined : WithJob b c s x job other) where
   -- no bench is found yet
@@ -60,7 +57,6 @@ module _ {b c : Board} {s : Size} {x job other : ℕ} (joined : WithJob b c s x 
       record {
         searching = subst (λ (end : ℕ). Searching (courseFrom c 0 end 0) (s .benches) 0 found' queue' came') one search;
         first = ap (λ (l : List ℕ). at l 0) a ∙ getD-set-same queue 0 x 0 (omega (arith, none .queue-long));
-        some = omega arith;
         start = ap (λ (l : List ℕ). at l x) m ∙ getD-set-same came x started 0 (omega (arith, none .came-long, none .few, bench .most));
       }
 
@@ -116,7 +112,7 @@ module _ {b c : Board} {s : Size} {x job other : ℕ} (joined : WithJob b c s x 
 
 -- every step from x was taken: the first level stands in the queue
 pub begun-end : {c : Board} {benches x found : ℕ} {queue came : List ℕ} → Begun c benches x started found queue came → FromBench c benches x 1 found 1 found queue came
-begun-end {c} {benches} {x} {found} {queue} {came} k = record { searching = search; first = k .first; some = k .some; start = k .start; only = only }
+begun-end {c} {benches} {x} {found} {queue} {came} k = record { searching = search; first = k .first; start = k .start; only = only }
   where
     search : Searching (courseFrom c 1 found 1) benches 0 found queue came
     search = search-level (search-leave (k .searching) (omega arith)) refl

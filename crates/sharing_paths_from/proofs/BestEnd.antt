@@ -10,17 +10,15 @@ use lib.Dec.{T}
 use lib.ListN.{length}
 use Rattle.spec_lists.specs.Lists.{within}
 use Rattle.spec_table.specs.Board.{Board, Valid, load}
-use Rattle.spec_table.specs.Table.{mostBenches}
 use Rattle.spec_sharing.specs.Paths.{steps, BenchPath}
+use Rattle.spec_sharing.specs.Searches.{distance, Lower}
 use Rattle.spec_lists.proofs.Tests.{within-low, within-high}
-use Rattle.spec_sharing.proofs.Far.{distance}
-use Rattle.spec_sharing.proofs.Found.{Lower}
 use Rattle.spec_sharing.proofs.Trails.{Trails, trail-distance, trail-list, beyond-open}
 use Rattle.table_size.specs.Sizes.{BenchIn}
 use Rattle.table_size.specs.declared.Size.{Size}
 use Rattle.graph_lists.specs.Arrays.{at}
 use Rattle.sharing_search.specs.Searching.{started, Searching, Open, Grown}
-use Rattle.sharing_search.proofs.Steps.{search-few, search-trails}
+use Rattle.sharing_search.proofs.Steps.{search-trails}
 use Rattle.sharing_paths.specs.declared.FoundPath.{FoundPath}
 use Rattle.sharing_paths_from.specs.ArrivalSearch.{courseFrom, FromBench, FirstLevel, EndFound}
 use Rattle.sharing_paths_from.proofs.JoinedBoard.{on-board, in-size, load-at}
@@ -39,16 +37,11 @@ module _ {c : Board} {benches x done mid level found : ℕ} {queue came : List �
         later = t .later;
       }
 
-  -- as many benches are found as fit into the arrays
-  pub from-few : found ≤ mostBenches
-  from-few = omega (arith, search-few (h .searching), h .searching .few)
-
   -- where it goes on, and what is new is no start, it is the search from x
   pub from-grown : {done' mid' level' found' : ℕ} {queue' came' : List ℕ} → Grown found queue came found' queue' came' → (S : Searching (courseFrom c done' mid' level') benches 0 found' queue' came') → ((i : ℕ) → found ≤ i → i < found' → length (S .trail (at queue' i) .route) ≢ 0) → FromBench c benches x done' mid' level' found' queue' came'
   from-grown {queue' = queue'} {came'} g S new = record {
     searching = S;
-    first = g .before 0 (h .some) ∙ h .first;
-    some = omega (arith, h .some, g .more);
+    first = let (_, l, _) = h .searching .listed x (omega (arith, h .start)) in g .before 0 (omega arith) ∙ h .first;
     start = g .kept x (omega (arith, h .start)) ∙ h .start;
     only = only;
   }
@@ -164,11 +157,10 @@ module _ {b c : Board} {s : Size} {loads : List ℕ} {x job other goal end₀ : 
           omega (arith, ap (at loads) e)
 
       -- it is the end that the arrival's order names, if no bench comes before it that was not found
-      pub best-end : best .jobs ≤ mostBenches → ((z : ℕ) → Lower c x (distance c x) z → at came z ≡ 0 → Earlier c loads x best bound z) → EndFound b c (s .benches) x queue came best
-      best-end few beyond = record {
+      pub best-end : ((z : ℕ) → Lower c x (distance c x) z → at came z ≡ 0 → Earlier c loads x best bound z) → EndFound b c (s .benches) x queue came best
+      best-end beyond = record {
         none = λ e. (h .none e .0, λ z l. omega (arith, low z l, h .none e .1, l .lower, weight (in-size (k .joined) z (l .bench)), weight (k .bench)));
         some = λ d. record { is = is-lower d; first = λ z l. loaded d z l (every z l) };
-        few = few;
         course = courseFrom c done mid lower;
         found = end;
         behind = record {

@@ -10,8 +10,9 @@ use Rattle.spec_table.specs.Board.{Board, Valid}
 use Rattle.spec_table.specs.Table.{mostBenches}
 use Rattle.spec_sharing.specs.Paths.{Step, jobs}
 use Rattle.spec_sharing.specs.Sharing.{arrivalChoice}
-use Rattle.spec_sharing.proofs.Far.{distance, distance-away}
-use Rattle.spec_sharing.proofs.Found.{Lower, arrival-found, arrival-not-found}
+use Rattle.spec_sharing.specs.Searches.{distance, Lower}
+use Rattle.spec_sharing.proofs.Far.{distance-away}
+use Rattle.spec_sharing.proofs.Found.{arrival-found, arrival-not-found}
 use Rattle.table_size.specs.Sizes.{BenchIn}
 use Rattle.table_size.specs.declared.Size.{Size}
 use Rattle.table_board.specs.BoardView.{Loaded}
@@ -19,6 +20,7 @@ use Rattle.graph_lists.specs.Arrays.{at}
 use Rattle.sharing_loads.specs.LoadRanks.{Lightest}
 use Rattle.sharing_paths.specs.FoundPaths.{lastOf, PathFound}
 use Rattle.sharing_paths.specs.declared.FoundPath.{FoundPath}
+use Rattle.sharing_paths.proofs.Following.{trail-few}
 use Rattle.sharing_paths_from.specs.ArrivalSearch.{WithJob, FromBench, FirstLevel, EndFound}
 use Rattle.sharing_paths_from.proofs.JoinedBoard.{on-board, in-size, load-at}
 
@@ -63,4 +65,4 @@ module _ {b c : Board} {s : Size} {x job other : ℕ} (joined : WithJob b c s x 
       some-found : r .jobs ≢ 0 → Arrival c x path r
       some-found d =
           let chosen = arrival-found c valid x (r .bench) (distance c x) route (distance-away c valid x (on-board joined bench)) (e .some d) (e .list) in
-          rw chosen (record { bench = sym (e .list .ends); count = sym (e .behind .jobs) ∙ sym (length-map route (λ q. q .job)); listed = t; few = e .few; long = l })
+          rw chosen (record { bench = sym (e .list .ends); count = sym (e .behind .jobs) ∙ sym (length-map route (λ q. q .job)); listed = t; few = omega (arith, trail-few (e .behind .searching) (r .bench) (e .behind .reached), e .behind .jobs); long = l })

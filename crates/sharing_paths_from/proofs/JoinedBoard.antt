@@ -5,13 +5,10 @@ use mathlib.Core.Path.{_≡_}
 use mathlib.Core.List.{List}
 use lib.Dec.{T}
 use lib.ListN.{length}
-use Rattle.spec_lists.specs.Lists.{within, In}
+use Rattle.spec_lists.specs.Lists.{within}
 use Rattle.spec_table.specs.Board.{Board, load}
 use Rattle.spec_table.specs.Table.{mostBenches, mostJobs}
-use Rattle.spec_sharing.specs.Paths.{Step, steps}
 use Rattle.spec_lists.proofs.Tests.{within-low, within-high, within-both}
-use Rattle.spec_table.proofs.Named.{named-stands, stands-within}
-use Rattle.spec_sharing.proofs.Paths.{step-is, step-bench}
 use Rattle.table_size.specs.Sizes.{BenchIn}
 use Rattle.table_size.specs.declared.Size.{Size}
 use Rattle.table_board.specs.BoardView.{Loaded}

@@ -9,17 +9,16 @@ use mathlib.Core.Logic.{_⊎_, inl, inr, _≢_}
 use mathlib.Core.List.{List}
 use Rattle.spec_table.specs.Board.{Board}
 use Rattle.spec_table.specs.Table.{mostBenches}
-use Rattle.spec_sharing.proofs.Far.{distance}
-use Rattle.spec_sharing.proofs.Found.{Lower}
+use Rattle.spec_sharing.specs.Searches.{distance, Lower}
 use Rattle.table_size.specs.declared.Size.{Size}
 use Rattle.graph_lists.specs.Arrays.{at, LoadsIn}
 use Rattle.sharing_loads.specs.LoadRanks.{LightestAt}
 use Rattle.sharing_search.specs.Searching.{Searching, AtLevel, Level, Grown}
-use Rattle.sharing_search.proofs.Steps.{search-level}
+use Rattle.sharing_search.proofs.Steps.{search-most, search-level}
 use Rattle.sharing_paths.specs.declared.FoundPath.{FoundPath}
 use Rattle.sharing_paths_from.specs.ArrivalSearch.{courseFrom, FromBench, FirstLevel, Weighed, EndFound}
 use Rattle.sharing_paths_from.proofs.JoinedBoard.{benches-most, jobs-most, in-size}
-use Rattle.sharing_paths_from.proofs.BestEnd.{Earlier, Best, from-few, from-grown, found-distance, start-distance, open-distance, goal-least, place-bench, best-low, best-under, best-kept, best-goal, best-end}
+use Rattle.sharing_paths_from.proofs.BestEnd.{Earlier, Best, from-grown, found-distance, start-distance, open-distance, goal-least, place-bench, best-low, best-under, best-kept, best-goal, best-end}
 
 -- the level at places `begin` to `end` is whole, or the search stopped when it had found `goal`
 abbrev pub Reached : Board → ℕ → ℕ → ℕ → ℕ → ℕ → ℕ → List ℕ → List ℕ → Type 0
@@ -119,7 +118,7 @@ module _ {b c : Board} {s : Size} {loads : List ℕ} {x job other goal end₀ : 
     levels-weighed m l =
         record {
           some = l;
-          most = from-few (r .from);
+          most = search-most (r .from .searching);
           bench = λ i v u.
               let w = place-bench k (r .from) i u in
               (omega (arith, w .most, r .from .searching .few), omega (arith, m .most (at queue i) (w .least), jobs-most (k .joined)));
@@ -188,7 +187,7 @@ module _ {b c : Board} {s : Size} {loads : List ℕ} {x job other goal end₀ : 
     levels-end l =
         let e : begin ≡ end = omega (arith, r .rises) in
         let kept = subst (λ (n : ℕ). Best c loads x best bound level n queue) e (h .kept) in
-        best-end k kept (r .from) (omega (arith, h .kept .fewer, h .count, from-few (r .from))) (λ z w n. beyond kept z w (r .beyond z n (w .reached)))
+        best-end k kept (r .from) (λ z w n. beyond kept z w (r .beyond z n (w .reached)))
       where
         beyond : Best c loads x best bound level end queue → (z : ℕ) → Lower c x (distance c x) z → Farther c x goal begin end level came z → Earlier c loads x best bound z
         beyond kept z w (inl (v, d)) = absurd (omega arith)
@@ -203,7 +202,7 @@ module _ {b c : Board} {s : Size} {loads : List ℕ} {x job other goal end₀ : 
 
     -- there are more places than levels
     pub looked-few : (level < end) × (end ≤ mostBenches)
-    looked-few = (omega (arith, h .count, h .more), from-few (q .from))
+    looked-few = (omega (arith, h .count, h .more), search-most (q .from .searching))
 
     -- the level is whole where the best bench is not as light as the goal
     looked-whole : bound ≢ at loads goal → FromBench c (s .benches) x begin end level end queue came
@@ -212,7 +211,7 @@ module _ {b c : Board} {s : Size} {loads : List ℕ} {x job other goal end₀ : 
     -- where it is as light as the goal, it is the end
     pub looked-end : bound ≡ at loads goal → EndFound b c (s .benches) x queue came best
     looked-end e =
-        best-end k (h .kept) (q .from) (omega (arith, h .kept .fewer, h .count, q .rises, from-few (q .from))) (λ z w n. beyond z w (ℕ-discrete bound (at loads z)) (q .beyond z n (w .reached)))
+        best-end k (h .kept) (q .from) (λ z w n. beyond z w (ℕ-discrete bound (at loads z)) (q .beyond z n (w .reached)))
       where
         beyond : (z : ℕ) → Lower c x (distance c x) z → Dec (bound ≡ at loads z) → Farther c x goal begin end level came z → Earlier c loads x best bound z
         beyond z w (no d) m = inl (omega (arith, goal-least k (in-size (k .joined) z (w .bench))))

@@ -8,8 +8,7 @@ use Rattle.spec_lists.specs.Lists.{In}
 use Rattle.spec_table.specs.Board.{Board, holderOf}
 use Rattle.spec_table.specs.Table.{mostBenches, mostJobs, Storable}
 use Rattle.spec_sharing.specs.Paths.{Step, stepBy, steps}
-use Rattle.spec_sharing.proofs.Far.{distance}
-use Rattle.spec_sharing.proofs.Found.{Lower, ArrivalEnd, FirstList}
+use Rattle.spec_sharing.specs.Searches.{distance, Lower, ArrivalEnd, FirstList}
 use Rattle.table_size.specs.Sizes.{BenchIn}
 use Rattle.table_size.specs.declared.Size.{Size}
 use Rattle.table_board.specs.BoardView.{Loaded}
@@ -19,7 +18,7 @@ use Rattle.sharing_search.specs.Searching.{Course, Searching, started}
 use Rattle.sharing_paths.specs.FoundPaths.{Behind}
 use Rattle.sharing_paths.specs.declared.FoundPath.{FoundPath}
 
--- the board c is b, where bench x has one job more, by which it leads to bench `other`; the same board where job is 0
+-- the board c is b, where bench x has one job more, by which it leads to bench `other`; the same steps where job is 0
 pub record WithJob (b c : Board) (s : Size) (x job other : ℕ) : Type 0 where
   pub storable : Storable c
   pub benches : c .benches ≡ s .benches
@@ -38,13 +37,13 @@ courseFrom c done end level = record { out = steps c; rank = λ v. 0; now = 0; d
 pub record FromBench (c : Board) (benches x done end level found : ℕ) (queue came : List ℕ) : Type 0 where
   pub searching : Searching (courseFrom c done end level) benches 0 found queue came
   pub first : at queue 0 ≡ x
-  pub some : 1 ≤ found
   pub start : at came x ≡ started
   pub only : (v : ℕ) → at came v ≡ started → v ≡ x
 
--- the steps from x were taken: the benches at places 1 to `end` are those that one job leads to. `goal` is the lightest bench of all, and x is
--- heavier by two or more
-pub record FirstLevel (b c : Board) (s : Size) (loads : List ℕ) (x job other goal end : ℕ) (queue came : List ℕ) : Type 0 where
+-- the steps from x were taken: the benches at places 1 to `end` are those that one job leads to. `goal` is the lightest
+-- bench of all, and x is heavier by two or more
+pub record FirstLevel (b c : Board) (s : Size) (loads : List ℕ) (x job other goal end : ℕ) (queue came : List ℕ) :
+    Type 0 where
   pub joined : WithJob b c s x job other
   pub loaded : Loaded c loads
   pub bench : BenchIn s x
@@ -58,12 +57,12 @@ pub record Weighed (queue : List ℕ) (begin end : ℕ) (loads : List ℕ) : Typ
   pub most : end ≤ mostBenches
   pub bench : (i : ℕ) → begin ≤ i → i < end → (at queue i ≤ mostBenches) × (at loads (at queue i) ≤ mostJobs)
 
--- r is the end that the arrival's order names, x and 0 where no bench is one; and it can be followed back, along the first list to it
+-- r is the end that the arrival's order names, x and 0 where no bench is one; and it can be followed back, along the
+-- first list to it
 pub record EndFound (b c : Board) (benches x : ℕ) (queue came : List ℕ) (r : FoundPath) : Type 0 where
   pub none : r .jobs ≡ 0 → (r .bench ≡ x) × ((z : ℕ) → Lower c x (distance c x) z → ⊥)
   pub some : r .jobs ≢ 0 → ArrivalEnd c x (distance c x) (r .bench)
-  pub few : r .jobs ≤ mostBenches
   pub course : Course
   pub found : ℕ
-  pub behind : Behind b course benches 0 found queue came (r .bench) (r .jobs)
+  pub behind : Behind b course benches found queue came (r .bench) (r .jobs)
   pub list : FirstList c x (r .bench) (distance c x (r .bench)) (behind .searching .trail (r .bench) .route)

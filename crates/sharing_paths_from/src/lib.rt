@@ -1,5 +1,5 @@
 // The arrival's path, which levelling flips too: found before anything is written.
-ghost use Prim.Native.Nat.{ℕ, _+_, _≤_, _<_};
+ghost use Prim.Native.Nat.{ℕ, _+_};
 ghost use mathlib.Core.Path.{_≡_};
 ghost use lib.ListN.{length, replicate};
 ghost use Rattle.spec_table.specs.Board.{Board};

@@ -8,8 +8,9 @@ use mathlib.Core.List.{List}
 use lib.ListN.{length}
 use Rattle.spec_table.specs.Board.{Board, holderOf, load}
 use Rattle.spec_sharing.specs.Paths.{stepBy, steps, BenchPath}
+use Rattle.spec_sharing.specs.Searches.{further}
 use Rattle.spec_sharing.proofs.Paths.{step-is}
-use Rattle.spec_sharing.proofs.Trails.{further, further-length}
+use Rattle.spec_sharing.proofs.Trails.{further-length}
 use Rattle.graph_lists.specs.Arrays.{at}
 use Rattle.sharing_search.specs.Searching.{started, Course, Searching}
 use Rattle.sharing_paths_to.specs.ClosingSearch.{FromHeavier, FoundFrom}

@@ -1,5 +1,5 @@
 -- Why the path that is found is the closing's.
 pub mod Keeping
 pub mod Seeding
-pub mod Levels
-pub mod Closing
+pub mod RoundLevels
+pub mod Rounds

@@ -17,8 +17,10 @@ use Rattle.spec_lists.proofs.Tests.{within-low, within-high, within-both}
 use Rattle.spec_table.proofs.Loads.{load-heaviest}
 use Rattle.table_size.specs.Sizes.{BenchIn}
 use Rattle.table_size.specs.declared.Size.{Size}
+use Rattle.table_size.proofs.Sizes.{bench-in}
 use Rattle.table_board.specs.BoardView.{Loaded}
 use Rattle.graph_lists.specs.Arrays.{at}
+use Rattle.sharing_steps.proofs.AsSteps.{bench-load}
 use Rattle.sharing_search.specs.Searching.{started, Searching, Discovered, Grown}
 use Rattle.sharing_search.proofs.Queue.{discovered-had, discovered-new, grown-one}
 use Rattle.sharing_search.proofs.Steps.{found-bench, search-few, search-seed, search-trails}
@@ -71,7 +73,7 @@ module _ {b c : Board} {s : Size} {loads : List ℕ} {x h begin v end : ℕ} {qu
 
     -- the array has its load
     its-load : at loads v ≡ load (c .holders) v
-    its-load = k .loaded .bench v (k .least) (omega (arith, k .searching .few))
+    its-load = bench-load (k .searching .few) (k .loaded) (bench-in s v is-bench)
 
     -- v is passed over, if it is not of load h or was found
     pass : (load (c .holders) v ≡ h → FromHeavier c came (k .searching .trail) v) → Seeding b c s loads x h begin (v + 1) end queue came

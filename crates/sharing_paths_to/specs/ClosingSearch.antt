@@ -50,8 +50,10 @@ pub record Rounds (b c : Board) (s : Size) (loads : List ℕ) (x h found : ℕ) 
   pub missed : at came x ≡ 0
   pub heavier : FoundFrom c (suc h) came (searching .trail)
 
--- the search from the benches of load h has come to those that `level` jobs lead to, at places `begin` to `end`, and did not find x
-pub record InRound (b c : Board) (s : Size) (loads : List ℕ) (x h begin end level : ℕ) (queue came : List ℕ) : Type 0 where
+-- the search from the benches of load h has come to those that `level` jobs lead to, at places `begin` to `end`, and
+-- did not find x
+pub record InRound (b c : Board) (s : Size) (loads : List ℕ) (x h begin end level : ℕ) (queue came : List ℕ) :
+    Type 0 where
   pub without : WithoutJob b c s x
   pub loaded : Loaded c loads
   pub bench : BenchIn s x
@@ -61,12 +63,12 @@ pub record InRound (b c : Board) (s : Size) (loads : List ℕ) (x h begin end le
   pub heavy : FoundFrom c h came (searching .trail)
 
 -- x was found by n jobs, along the path that the closing's order names
-pub record ClosingFound (b c : Board) (s : Size) (x n found : ℕ) (queue came : List ℕ) : Type 0 where
+pub record GoalFound (b c : Board) (s : Size) (x n found : ℕ) (queue came : List ℕ) : Type 0 where
   pub course : Course
-  pub behind : Behind b course (s .benches) 0 found queue came x n
+  pub behind : Behind b course (s .benches) found queue came x n
   pub choice : closingChoice c x ≡ some (behind .searching .trail x)
 
 -- what a round from the benches of load h did: it found x, or is over
 pub record RoundOf (b c : Board) (s : Size) (loads : List ℕ) (x h : ℕ) (queue came : List ℕ) (r : Round) : Type 0 where
   pub none : r .jobs ≡ 0 → Rounds b c s loads x (h - 1) (r .found) queue came
-  pub some : r .jobs ≢ 0 → ClosingFound b c s x (r .jobs) (r .found) queue came
+  pub some : r .jobs ≢ 0 → GoalFound b c s x (r .jobs) (r .found) queue came

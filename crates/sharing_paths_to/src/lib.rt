@@ -1,11 +1,12 @@
 // The closing's path: found before anything is written. The search goes forwards from all benches of the greatest load
 // at once, in rising number, until the bench that lost the job is found; if it is not, from those of the next lower
-// load that are not found yet, and so on. What a round found, and leads to no such bench, is not searched again.
+// load that are not found yet, and so on. What a round found does not lead there, and is not searched again.
 ghost use Prim.Native.Nat.{ℕ, _+_, _≤_};
 ghost use mathlib.Core.Path.{_≡_};
 ghost use mathlib.Core.Logic.{_≢_};
 ghost use mathlib.Core.List.{List};
 ghost use lib.ListN.{length};
+ghost use Rattle.spec_lists.specs.Lists.{greatest};
 ghost use Rattle.spec_table.specs.Board.{Board};
 ghost use Rattle.spec_table.specs.Table.{mostBenches, decode};
 ghost use Rattle.spec_sharing.specs.Sharing.{closingChoice};
@@ -14,7 +15,7 @@ ghost use Rattle.table_board.specs.BoardView.{Loaded};
 ghost use Rattle.table_order.specs.InOrder.{InOrder};
 ghost use Rattle.graph_lists.specs.Arrays.{at, LoadsIn};
 ghost use Rattle.sharing_paths.specs.FoundPaths.{startOf, PathFound};
-ghost use Rattle.sharing_paths_to.specs.ClosingSearch.{WithoutJob, Rounds, InRound, ClosingFound, RoundOf};
+ghost use Rattle.sharing_paths_to.specs.ClosingSearch.{WithoutJob, Rounds, InRound, GoalFound, RoundOf};
 use graph_lists::scratch;
 use sharing_paths::FoundPath;
 use table_board::jobs;
@@ -110,9 +111,9 @@ fn path_to(
     requires { ⌜ length (now path) ≡ mostBenches + 1 ⌝ }
     requires { ⌜ n ≢ 0 ⌝ }
     requires { ⌜ ((c : Board) × (found : ℕ) × (queue : List ℕ) × WithoutJob (decode (now t)) c s x ×
-        ClosingFound (decode (now t)) c s x n found queue (now came)) ⌝ }
+        GoalFound (decode (now t)) c s x n found queue (now came)) ⌝ }
     ensures { λ r. ⌜ ((c : Board) (found : ℕ) (queue : List ℕ) → WithoutJob (decode (now (t .entry))) c s x →
-        ClosingFound (decode (now (t .entry))) c s x n found queue (now (came .entry)) →
+        GoalFound (decode (now (t .entry))) c s x n found queue (now (came .entry)) →
         PathFound (closingChoice c x) (startOf x (closingChoice c x)) (now (path .exit)) r) ⌝ }
 {
     sharing_paths::follow_back(t, s, came, x, n, path);
@@ -122,29 +123,32 @@ fn path_to(
 
 // Finds, of the improving paths to x on the board without one of its jobs, the one that the closing's order names: its
 // jobs into `path`, its first bench and how many they are; x and 0 where there is none. The loads are those of that
-// board; the table has the job still, but the search never leaves x.
+// board; the table has the job still, but the search never leaves x. No load is above `top`: the caller can read the
+// heaviest before it lowers one.
 pub fn find_to(
     t: &[u8],
     s: Size,
     loads: &[u16; Size::MOST_BENCHES + 1],
     x: usize,
+    top: usize,
     path: &mut [u16; Size::MOST_BENCHES + 1],
 ) -> FoundPath
     requires { ⌜ InOrder (now t) s ⌝ }
     requires { ⌜ BenchIn s x ⌝ }
     requires { ⌜ LoadsIn s (now loads) ⌝ }
+    requires { ⌜ greatest (s .benches) (at (now loads)) ≤ top ⌝ }
     requires { ⌜ length (now path) ≡ mostBenches + 1 ⌝ }
     requires { ⌜ ((c : Board) × WithoutJob (decode (now t)) c s x × Loaded c (now loads)) ⌝ }
     ensures { λ r. ⌜ ((c : Board) → WithoutJob (decode (now (t .entry))) c s x → Loaded c (now (loads .entry)) →
         PathFound (closingChoice c x) (startOf x (closingChoice c x)) (now (path .exit)) r) ⌝ }
 {
     let least = loads[x] as usize + 2;
-    let mut load = sharing_loads::heaviest(s, loads);
-    if load < least {
+    if top < least {
         return FoundPath { bench: x, jobs: 0 };
     }
     // Until the path is written, its array is the queue.
     let mut came = scratch::benches();
+    let mut load = top;
     let mut found = 0;
     while least <= load {
         let round = search_round(t, s, loads, load, x, found, path, &mut came);

@@ -4,29 +4,25 @@ use native.Mathlib.Omega.{arith}
 use native.Mathlib.Decide.{ℕ-discrete, decLt}
 use mathlib.Core.Path.{_≡_, refl, sym, ap, subst, _∙_}
 use mathlib.Core.Logic.{_⊎_, inl, inr, ⊎-elim, _≢_}
-use mathlib.Core.Bool.{Bool, cond}
-use mathlib.Core.List.{List, [], _∷_}
+use mathlib.Core.List.{List}
 use lib.Dec.{T}
-use borrow.Author.Tests.{ne-eqb}
 use Rattle.spec_lists.specs.Lists.{In}
-use Rattle.spec_table.specs.Board.{Board, holderOf, namesOf, stands}
+use Rattle.spec_table.specs.Board.{Board, holderOf, stands}
 use Rattle.spec_table.specs.Table.{mostBenches, mostJobs, decode}
 use Rattle.spec_sharing.specs.Paths.{Step, stepBy, steps}
-use Rattle.spec_lists.proofs.Tests.{Compared, same, other, compared, within-low, within-high}
-use Rattle.spec_table.proofs.Named.{length-shares}
-use Rattle.spec_sharing.proofs.Paths.{is-step}
+use Rattle.spec_lists.proofs.Tests.{within-low, within-high}
 use Rattle.table_size.specs.Sizes.{JobIn, BenchIn}
 use Rattle.table_size.specs.declared.Size.{Size}
 use Rattle.table_board.specs.BoardView.{HoldsBoard}
-use Rattle.table_board.proofs.RecordsAsBoard.{sound-holds-board, stands-held, stands-job}
+use Rattle.table_board.proofs.RecordsAsBoard.{sound-holds-board, held-stands, stands-job}
 use Rattle.table_order.specs.InOrder.{InOrder, FirstFrom}
 use Rattle.graph_lists.specs.Arrays.{at}
 use Rattle.graph_lists.proofs.Listing.{left, left-less}
-use Rattle.sharing_steps.specs.Others.{otherOf, OtherOf}
-use Rattle.sharing_steps.proofs.AsSteps.{held-stands, held-leads, job-step, step-job}
+use Rattle.sharing_steps.specs.Others.{OtherOf}
+use Rattle.sharing_steps.proofs.AsSteps.{job-step, step-job}
 use Rattle.sharing_search.specs.Searching.{started, Course, atPlace, Searching, Discovered, Grown, Agree, AtBench, AtLevel, Level}
 use Rattle.sharing_search.proofs.Queue.{grown-none, grown-more, grown-one}
-use Rattle.sharing_search.proofs.Steps.{search-few, search-turn, search-skip, search-leave}
+use Rattle.sharing_search.proofs.Steps.{search-most, search-turn, search-skip, search-leave}
 
 -- steps and jobs
 
@@ -103,7 +99,7 @@ module _ {t : List ℕ} {s : Size} {x : ℕ} (order : InOrder t s) (bench : Benc
 
   -- .. no more benches are found than there can be ..
   pub expand-few : found' ≤ mostBenches
-  expand-few = let a = one-bench .1 .searching in omega (arith, search-few a, a .few)
+  expand-few = search-most (one-bench .1 .searching)
 
   -- .. the next job is one of the board, and the bench holds it ..
   pub expand-job : j ≢ 0 → JobIn s j × (holderOf (decode t) j ≡ x)
@@ -191,7 +187,7 @@ module _ {b : Board} {s : Size} {begin end : ℕ} {queue came : List ℕ} (begun
 
   -- .. the level ends among the benches ..
   pub sweep-few : end ≤ mostBenches
-  sweep-few = let a = one-level .searching in omega (arith, one-level .at-end, a .places, search-few a, a .few)
+  sweep-few = let a = one-level .searching in omega (arith, one-level .at-end, a .places, search-most a)
 
   -- .. a bench stands at the next place ..
   pub sweep-bench : done < end → BenchIn s (at queue' done)

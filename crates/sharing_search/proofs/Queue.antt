@@ -4,16 +4,14 @@ use native.Mathlib.Omega.{arith}
 use native.Mathlib.Decide.{ℕ-discrete, decLe}
 use mathlib.Core.Path.{_≡_, refl, sym, ap, _∙_}
 use mathlib.Core.Logic.{_≢_}
-use mathlib.Core.Bool.{Bool}
 use mathlib.Core.List.{List}
-use lib.Dec.{eqb, ltb}
+use lib.Dec.{ltb}
 use lib.ListN.{length, set, replicate}
 use lib.Seq.{getD-set-same, getD-set-other}
 use borrow.Author.Tests.{lt-ltb, le-ltb, eq-eqb, ne-eqb}
-use Rattle.spec_lists.specs.Lists.{bit, within, total}
+use Rattle.spec_lists.specs.Lists.{bit, total}
 use Rattle.spec_table.specs.Table.{mostBenches}
-use Rattle.spec_lists.proofs.Tests.{Compared, same, other, compared, T→true, within-both}
-use Rattle.spec_lists.proofs.Counting.{bit-le, bit-other, total-add, total-most, total-but-one, total-within}
+use Rattle.spec_lists.proofs.Counting.{bit-le, total-most, total-but-one}
 use Rattle.graph_lists.specs.Arrays.{at}
 use Rattle.graph_lists.proofs.Listing.{array-at}
 use Rattle.sharing_search.specs.Searching.{Discovered, Grown}
@@ -58,24 +56,9 @@ module _ (m n : ℕ) (came : List ℕ) (bench : (y : ℕ) → 1 ≤ at came y �
   beyond : (y : ℕ) → n < y → mark came y ≡ 0
   beyond y l = elim (decLe 1 (at came y)) [ yes h ↦ absurd (omega (arith, bench y h)) | no h ↦ mark-none came y (omega arith) ]
 
-  -- no more benches are found than there are ..
+  -- no more benches are found than there are
   pub found-few : total m (mark came) ≤ n
   found-few = total-beyond m n (mark came) (λ y. bit-le (ltb 0 (at came y))) beyond
-
-  -- .. and fewer where one is not
-  pub found-fewer : (y : ℕ) → 1 ≤ y → y ≤ m → y ≤ n → at came y ≡ 0 → total m (mark came) < n
-  found-fewer y l u h new =
-      omega (arith, total-beyond m n (λ x. mark came x + bit (eqb y x)) most past, total-add m (mark came) (λ x. bit (eqb y x)), total-within m y, ap bit (T→true (within 1 m y) (within-both 1 m y l u)))
-    where
-      most : (x : ℕ) → mark came x + bit (eqb y x) ≤ 1
-      most x = go (compared y x)
-        where
-          go : {z : Bool} → Compared y x z → mark came x + bit z ≤ 1
-          go (same e) = omega (arith, mark-none came y new, ap (mark came) e)
-          go (other d) = omega (arith, bit-le (ltb 0 (at came x)))
-
-      past : (x : ℕ) → n < x → mark came x + bit (eqb y x) ≡ 0
-      past x k = omega (arith, beyond x k, bit-other y x (λ e. omega arith))
 
 -- one bench found
 

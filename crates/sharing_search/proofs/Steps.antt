@@ -15,14 +15,15 @@ use Rattle.spec_lists.specs.Lists.{within, In}
 use Rattle.spec_table.specs.Board.{Board}
 use Rattle.spec_table.specs.Table.{mostBenches, mostJobs, Storable}
 use Rattle.spec_sharing.specs.Paths.{Step, stepBy, steps, BenchPath, pathBy, last, Walk}
+use Rattle.spec_sharing.specs.Searches.{further, NoLater, Sooner}
 use Rattle.spec_lists.proofs.Tests.{eqb-refl, within-low, within-high}
 use Rattle.spec_sharing.proofs.Distances.{storable-one-other, storable-steps}
 use Rattle.spec_sharing.proofs.Walks.{walk-join, end-join}
-use Rattle.spec_sharing.proofs.Trails.{further, NoLater, Sooner, Trails, further-length, sooner-no-later, no-later-refl, sooner-irrefl, further-sooner, further-job, start-sooner, rank-sooner, length-sooner}
+use Rattle.spec_sharing.proofs.Trails.{Trails, further-length, sooner-no-later, no-later-refl, further-sooner, further-job, start-sooner, rank-sooner, length-sooner}
 use Rattle.graph_lists.specs.Arrays.{at}
 use Rattle.graph_lists.proofs.Listing.{array-at, array-long}
 use Rattle.sharing_search.specs.Searching.{started, Course, atPlace, atLevel, atRound, Taken, Searching, Discovered, Open}
-use Rattle.sharing_search.proofs.Queue.{found-none, found-more, found-few, found-fewer, discovered-had, discovered-new}
+use Rattle.sharing_search.proofs.Queue.{found-none, found-more, found-few, discovered-had, discovered-new}
 
 -- paths that are said in two ways
 no-later-as : (rank : ℕ → ℕ) {p p' q q' : BenchPath} → p ≡ p' → q ≡ q' → NoLater rank p q → NoLater rank p' q'
@@ -76,21 +77,9 @@ module _ {c : Course} {benches low found : ℕ} {queue came : List ℕ} (S : Sea
   pub search-few : found ≤ benches
   search-few = rw (S .counted) (found-few mostBenches benches came found-high)
 
-  -- .. and fewer where one is not
-  pub search-fewer : (y : ℕ) → T (within 1 benches y) → at came y ≡ 0 → found < benches
-  search-fewer y w e =
-      let h = within-high 1 benches y w in
-      subst (λ (n : ℕ). n < benches) (sym (S .counted)) (found-fewer mostBenches benches came found-high y (within-low 1 benches y w) (omega (arith, S .few)) h e)
-
-  -- no bench stands in the queue twice
-  pub queue-once : (i k : ℕ) → i < found → k < found → at queue i ≡ at queue k → i ≡ k
-  queue-once i k l h e = elim (ℕ-discrete i k) [
-    | yes d ↦ d
-    | no d ↦ elim (decLt i k) [
-      | yes u ↦ absurd (sooner-irrefl (c .rank) (S .trail (at queue k)) (sooner-as (c .rank) (S .trail (at queue k)) (ap (S .trail) e) (S .sorted i k u h)))
-      | no u ↦ absurd (sooner-irrefl (c .rank) (S .trail (at queue i)) (sooner-as (c .rank) (S .trail (at queue i)) (ap (S .trail) (sym e)) (S .sorted k i (omega arith) l)))
-    ]
-  ]
+  -- .. nor than there can be
+  pub search-most : found ≤ mostBenches
+  search-most = omega (arith, search-few, S .few)
 
   -- the rank of no start is above that of the starts now searched from
   found-ranked : (y : ℕ) → 1 ≤ at came y → c .rank (S .trail y .start) ≤ c .now
@@ -208,7 +197,7 @@ module _ {c : Course} {benches low found : ℕ} {queue came : List ℕ} (S : Sea
   came-new = getD-set-same came y j 0 (omega (arith, S .came-long, y-high))
 
   queue-new : at (set queue found y) found ≡ y
-  queue-new = getD-set-same queue found y 0 (omega (arith, S .queue-long, search-few S, S .few))
+  queue-new = getD-set-same queue found y 0 (omega (arith, S .queue-long, search-most S))
 
   -- what was found is another bench, and as it was
   not-new : (z : ℕ) → 1 ≤ at came z → z ≢ y

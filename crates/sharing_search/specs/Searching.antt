@@ -1,6 +1,6 @@
--- A breadth-first search along the jobs of benches. `queue` has the benches in the order of finding, `came` at each bench the job by which it
--- was found, 0 for none, and at a start a mark. From the benches before one place of the queue every step was taken, and from the bench at
--- that place the steps by jobs below a limit.
+-- A breadth-first search along the jobs of benches. `queue` has the benches in the order of finding, `came` at each
+-- bench the job by which it was found, 0 for none, and at a start a mark. From the benches before one place of the
+-- queue every step was taken, and from the bench at that place the steps by jobs below a limit.
 use Prim.Native.Nat.{ℕ, suc, _+_, _≤_, _<_}
 use mathlib.Core.Path.{_≡_}
 use mathlib.Core.Logic.{_⊎_, _≢_, _↔_}
@@ -12,7 +12,7 @@ use Rattle.spec_lists.specs.Lists.{bit, within, total, In}
 use Rattle.spec_table.specs.Board.{Board}
 use Rattle.spec_table.specs.Table.{mostBenches, mostJobs}
 use Rattle.spec_sharing.specs.Paths.{Step, stepBy, steps, BenchPath, pathBy}
-use Rattle.spec_sharing.proofs.Trails.{further, NoLater, Sooner}
+use Rattle.spec_sharing.specs.Searches.{further, NoLater, Sooner}
 use Rattle.graph_lists.specs.Arrays.{at}
 use Rattle.table_size.specs.declared.Size.{Size}
 use Rattle.table_order.specs.InOrder.{FirstFrom}
@@ -21,8 +21,9 @@ use Rattle.table_order.specs.InOrder.{FirstFrom}
 abbrev pub started : ℕ
 started = mostJobs + 1
 
--- where a search leads, and where it is, for the proofs alone: the steps from each bench; the rank of each start, that of the starts now
--- searched from; the place in the queue; the place where the next level begins, and how many jobs led to the benches before it
+-- where a search leads, and where it is, for the proofs alone: the steps from each bench; the rank of each start, that
+-- of the starts now searched from; the place in the queue; the place where the next level begins, and how many jobs led
+-- to the benches before it
 pub record Course : Type 0 where
   pub out : ℕ → List Step
   pub rank : ℕ → ℕ
@@ -71,7 +72,8 @@ pub record Searching (c : Course) (benches limit found : ℕ) (queue came : List
   pub own : (v : ℕ) → at came v ≡ started → trail v ≡ pathBy v []
   pub from :
       (y : ℕ) → 1 ≤ at came y → at came y ≢ started →
-      (i : ℕ) × (i < found) × Taken c limit i (at came y) × In (stepBy (at came y) y) (c .out (at queue i)) × (trail y ≡ further (trail (at queue i)) (stepBy (at came y) y))
+      (i : ℕ) × (i < found) × Taken c limit i (at came y) × In (stepBy (at came y) y) (c .out (at queue i)) ×
+      (trail y ≡ further (trail (at queue i)) (stepBy (at came y) y))
   -- a step that was taken leads to a bench that was found, at latest by it
   pub on :
       (i : ℕ) (q : Step) → i < found → Taken c limit i (q .job) → In q (c .out (at queue i)) →

@@ -1,13 +1,12 @@
 // Breadth-first search along the chains of a table in order, by first job, next job and other bench. It writes
 // nothing to the table. What is found stands in a queue, in the order of finding; `came` has the job by which each
-// bench was found, 0 for none. Chains rise and the queue is first in, first out: so these jobs, followed back, are the
-// first list in dictionary order.
-ghost use mathlib.Core.Path.{_≡_};
-ghost use Prim.Native.Nat.{ℕ, _+_, _≤_};
+// bench was found, 0 for none, and at a start Size::MOST_JOBS + 1, which is no job. Chains rise and the queue is first
+// in, first out: so these jobs, followed back, are the first list in dictionary order.
+ghost use Prim.Native.Nat.{ℕ, _≤_};
 ghost use Rattle.spec_table.specs.Table.{mostBenches, decode};
 ghost use Rattle.table_size.specs.Sizes.{BenchIn};
 ghost use Rattle.table_order.specs.InOrder.{InOrder, FirstFrom};
-ghost use Rattle.sharing_search.specs.Searching.{started, Course, Searching, Discovered, Grown, AtBench, AtLevel, Level};
+ghost use Rattle.sharing_search.specs.Searching.{Course, Searching, Discovered, Grown, AtBench, AtLevel, Level};
 use table_size::Size;
 
 // How many benches are found, and the next job on the chain, 0 for none.
@@ -37,7 +36,8 @@ pub fn discover(
     found + 1
 }
 
-// Takes the steps from bench x by job j and those after it on its chain, below `limit`.
+// Takes the steps from bench x by `job` and the jobs after it on its chain, below `limit`; tells how many benches are
+// found then, and the next job.
 pub fn expand(
     t: &[u8],
     s: Size,
@@ -50,7 +50,8 @@ pub fn expand(
 ) -> Expansion
     requires { ⌜ InOrder (now t) s ⌝ }
     requires { ⌜ BenchIn s x ⌝ }
-    requires { ⌜ ((c : Course) × (low : ℕ) × AtBench c (decode (now t)) s x job low limit found (now queue) (now came)) ⌝ }
+    requires { ⌜ ((c : Course) × (low : ℕ) ×
+        AtBench c (decode (now t)) s x job low limit found (now queue) (now came)) ⌝ }
     ensures { λ r. ⌜ FirstFrom (decode (now (t .entry))) s x limit (r .job) ⌝ }
     ensures { λ r. ⌜ Grown found (now (queue .entry)) (now (came .entry)) (r .found) (now (queue .exit))
         (now (came .exit)) ⌝ }
@@ -69,7 +70,7 @@ pub fn expand(
 }
 
 // Takes every step from the benches at places `begin` to `end` of the queue, in this order, until `goal` is found;
-// tells how many benches are found then.
+// bench 0 is none. Tells how many benches are found then.
 pub fn expand_level(
     t: &[u8],
     s: Size,

@@ -8,12 +8,13 @@ use mathlib.Core.Path.{_≡_, refl, sym, ap, subst, _∙_}
 use mathlib.Core.Logic.{_⊎_, inl, inr, ⊎-elim, _≢_}
 use mathlib.Core.List.{List}
 use lib.Dec.{T}
-use lib.ListN.{replicate, set}
+use lib.ListN.{length, replicate, set}
 use lib.Seq.{getD-set-same, getD-set-other}
-use Rattle.spec_lists.specs.Lists.{within, greatest, In}
+use Rattle.spec_lists.specs.Lists.{within, greatest}
 use Rattle.spec_table.specs.Board.{Board, load}
 use Rattle.spec_table.specs.Table.{mostBenches, mostJobs, decode}
-use Rattle.spec_sharing.specs.Paths.{Step, BenchPath, steps}
+use Rattle.spec_sharing.specs.Paths.{BenchPath, steps}
+use Rattle.spec_sharing.specs.Searches.{Reach, StartsOne}
 use Rattle.table_size.specs.Sizes.{BenchIn}
 use Rattle.table_size.specs.declared.Size.{Size}
 use Rattle.table_board.specs.BoardView.{HoldsBoard, Loaded}
@@ -25,17 +26,14 @@ use Rattle.sharing_start.specs.PathStart.{FirstStart, StartOf, rankAt, s
 use Rattle.sharing_start.specs.declared.Search.{Search}
 use Rattle.spec_lists.proofs.Tests.{within-high, within-both}
 use Rattle.spec_lists.proofs.Counting.{greatest-above, greatest-most}
-use Rattle.spec_sharing.proofs.Distances.{storable-one-other}
-use Rattle.spec_sharing.proofs.Found.{StartsOne, level-starts}
-use Rattle.spec_sharing.proofs.Paths.{step-bench}
+use Rattle.spec_sharing.proofs.Found.{level-starts}
 use Rattle.spec_sharing.proofs.Trails.{trail-reach, trails-shut}
-use Rattle.spec_sharing.proofs.Walks.{Reach, reach-bench}
+use Rattle.spec_sharing.proofs.Walks.{reach-bench}
 use Rattle.table_size.proofs.Sizes.{board-bench, bench-in}
-use Rattle.table_board.proofs.RecordsAsBoard.{stands-job}
-use Rattle.sharing_steps.proofs.AsSteps.{loads-in, load-at, step-job}
-use Rattle.graph_lists.proofs.Listing.{array-at, array-long}
+use Rattle.sharing_steps.proofs.AsSteps.{loads-in, load-at}
+use Rattle.graph_lists.proofs.Listing.{array-at}
 use Rattle.sharing_search.proofs.Queue.{discovered-had, discovered-new}
-use Rattle.sharing_search.proofs.Steps.{search-none, search-few, search-level, search-rounded, search-seed, search-trails}
+use Rattle.sharing_search.proofs.Steps.{found-bench, search-none, search-most, search-level, search-rounded, search-seed, search-trails}
 
 -- a rank is that of one bench only
 rank-same : (k l x y : ℕ) → x ≤ mostBenches → y ≤ mostBenches → k * (mostBenches + 1) + x ≡ l * (mostBenches + 1) + y → x ≡ y
@@ -43,10 +41,6 @@ rank-same k l x y u v e = elim (decLt k l) [
   | yes h ↦ absurd (omega arith)
   | no h ↦ elim (decLt l k) [ yes g ↦ absurd (omega arith) | no g ↦ omega arith ]
 ]
-
--- what was found is a bench
-found-bench : (s : Size) {c : Course} {low found : ℕ} {queue came : List ℕ} → Searching c (s .benches) low found queue came → (y : ℕ) → 1 ≤ at came y → BenchIn s y
-found-bench s {queue = queue} S y h = let (i, l, e) = S .listed y h in subst (BenchIn s) e (bench-in s (at queue i) (S .bench i l .0))
 
 -- one search
 
@@ -107,10 +101,6 @@ module _ {b : Board} {s : Size} {loads : List ℕ} {x : ℕ} (loaded : Loaded b 
     seeking-level =
         record { searching = h .searching; at-done = refl; at-end = refl; agree = λ i l m q u v. (λ k. k, λ k. k) }
 
-    -- what was found has places in the arrays
-    pub seeking-few : end ≤ mostBenches
-    seeking-few = omega (arith, search-few (h .searching), few)
-
     -- at the end x starts no improving path: what it reaches is found, and not light enough
     pub seeking-end : end ≤ begin → Searched b s (at loads x) (suc x) end queue came
     seeking-end done =
@@ -141,21 +131,25 @@ module _ {b : Board} {s : Size} {loads : List ℕ} {x : ℕ} (loaded : Loaded b 
       level-next : Searching (courseOf b (rankAt (at loads x) x) end more (suc (h .level))) (s .benches) 0 more queue' came'
       level-next =
           let v = level (courseOf b (rankAt (at loads x) x) begin end (h .level)) seeking-level in
-          let whole : v .place ≡ end = ⊎-elim (λ e. e) (λ z. absurd (omega (arith, found-bench s (v .searching) 0 z .least))) (v .whole) in
+          let whole : v .place ≡ end = ⊎-elim (λ e. e) (λ z. absurd (found-bench (v .searching) 0 z)) (v .whole) in
           search-level (subst (λ (m : ℕ). Searching (courseOf b (rankAt (at loads x) x) m end (h .level)) (s .benches) 0 more queue' came') whole (v .searching)) refl
 
       -- what is new has places in the arrays
       pub level-queued : QueuedIn queue' end more
       level-queued =
           record {
-            most = omega (arith, search-few level-next, few);
+            most = search-most level-next;
             bench = λ i l u. omega (arith, within-high 1 (s .benches) (at queue' i) (level-next .bench i u .0), few);
           }
+
+      -- the queue is as long as before
+      pub level-long : length queue' ≡ mostBenches + 1
+      level-long = level-next .queue-long
 
       -- a load that is lower by two or more was found: x is the first that starts an improving path
       pub level-first : 2 ≤ at loads x → WantedIn queue' end more loads (at loads x - 2) → FirstStart b s x
       level-first least (i, l, u, w) =
-          record { bench = bench; starts = (y, subst (λ (v : ℕ). Reach (steps b) v y) same (reach .1), omega (arith, weighs x bench few, weighs y (found-bench s level-next y mark) few)); first = rw (weighs x bench few) at (h .first) }
+          record { bench = bench; starts = (y, subst (λ (v : ℕ). Reach (steps b) v y) same (reach .1), omega (arith, weighs x bench few, weighs y (bench-in s y (found-bench level-next y mark)) few)); first = rw (weighs x bench few) at (h .first) }
         where
           y : ℕ
           y = at queue' i
@@ -172,7 +166,7 @@ module _ {b : Board} {s : Size} {loads : List ℕ} {x : ℕ} (loaded : Loaded b 
           -- it was found from x, which has the rank of the present start
           same : v ≡ x
           same =
-              rank-same (mostJobs - load (b .holders) v) (mostJobs - at loads x) v x (omega (arith, found-bench s level-next v (omega (arith, reach .0)) .most, few)) (omega (arith, bench .most, few)) (level-next .round i l u)
+              rank-same (mostJobs - load (b .holders) v) (mostJobs - at loads x) v x (omega (arith, bench-in s v (found-bench level-next v (omega (arith, reach .0))) .most, few)) (omega (arith, bench .most, few)) (level-next .round i l u)
 
       -- none was found: the next level is searched
       pub level-turn : (WantedIn queue' end more loads (at loads x - 2) → ⊥) → Seeking b s (at loads x) x end more queue' came'
@@ -195,7 +189,7 @@ module _ {b : Board} {s : Size} {loads : List ℕ} {x : ℕ} (loaded : Loaded b 
                     h .high y (subst (λ (z : ℕ). 1 ≤ at came z) d (h .searching .bench i l .1))
                 | no l ↦ elim (decLe (at loads y) (at loads x - 2)) [
                   | yes w ↦ absurd (none (i, omega arith, u, rw e w))
-                  | no w ↦ omega (arith, weighs y (found-bench s level-next y m) few)
+                  | no w ↦ omega (arith, weighs y (bench-in s y (found-bench level-next y m)) few)
                 ]
               ]
 
@@ -203,16 +197,12 @@ module _ {b : Board} {s : Size} {loads : List ℕ} {x : ℕ} (loaded : Loaded b 
 
 module _ {b : Board} {s : Size} {n x : ℕ} {queue came : List ℕ} where
   -- the first bench that starts an improving path is known ..
-  pub searched-some : {r found : ℕ} → FirstStart b s r → SearchedTo b s n x (record { start = r; found = found }) queue came
-  searched-some f = record { none = λ e. absurd (omega (arith, f .bench .least)); some = λ _. f }
+  pub searched-some : {r found : ℕ} → FirstStart b s r → length queue ≡ mostBenches + 1 → SearchedTo b s n x (record { start = r; found = found }) queue came
+  searched-some f m = record { none = λ e. absurd (omega (arith, f .bench .least)); some = λ _. f; long = m }
 
   -- .. or no bench up to there does
   pub searched-none : {found : ℕ} → Searched b s n x found queue came → SearchedTo b s n x (record { start = 0; found = found }) queue came
-  searched-none h = record { none = λ _. h; some = λ d. absurd (d refl) }
-
-  -- what was found has places in the arrays
-  pub searched-few : {found : ℕ} → Searched b s n x found queue came → found ≤ mostBenches
-  searched-few h = omega (arith, search-few (h .searching), h .searching .few)
+  searched-none h = record { none = λ _. h; some = λ d. absurd (d refl); long = h .searching .queue-long }
 
 module _ {b : Board} {s : Size} {n x found : ℕ} {queue came : List ℕ} (h : Searched b s n x found queue came) where
   -- a bench of another load is passed over
@@ -247,7 +237,7 @@ module _ {b : Board} {s : Size} {n x : ℕ} {r : Search} {queue came : List ℕ}
 
   -- .. or x starts an improving path, and is the first that does
   pub searched-stop : {m y : ℕ} → r .start ≢ 0 → SearchedTo b s m y r queue came
-  searched-stop d = record { none = λ e. absurd (d e); some = h .some }
+  searched-stop d = record { none = λ e. absurd (d e); some = h .some; long = h .long }
 
 -- every load in turn
 
@@ -285,12 +275,12 @@ falling-turn {b} {s} {n} {r} {loads} {x} {queue} {came} loaded h z least next =
 
 module _ {t : List ℕ} {s : Size} {loads : List ℕ} (k : HoldsBoard t s) (loaded : Loaded (decode t) loads) where
   -- at the greatest load no bench was searched from
-  pub falling-start : {n : ℕ} {queue came : List ℕ} → n ≡ greatest (s .benches) (at loads) → queue ≡ replicate (mostBenches + 1) 0 → came ≡ replicate (mostBenches + 1) 0 → Searched (decode t) s n 1 0 queue came
-  falling-start {n} {queue} {came} e q m =
+  pub falling-start : {n : ℕ} {queue came : List ℕ} → n ≡ greatest (s .benches) (at loads) → length queue ≡ mostBenches + 1 → came ≡ replicate (mostBenches + 1) 0 → Searched (decode t) s n 1 0 queue came
+  falling-start {n} {queue} {came} e long m =
       record {
         now = 0;
         level = 0;
-        searching = search-none (decode t) (k .storable) (k .size .board-benches) refl refl refl (k .size .limits .benches-most) (array-long 0 q) m;
+        searching = search-none (decode t) (k .storable) (k .size .board-benches) refl refl refl (k .size .limits .benches-most) long m;
         before = omega arith;
         least = omega arith;
         most = omega arith;

@@ -1,14 +1,15 @@
--- The bench that starts the path which levelling turns.
+-- The bench that starts the path which levelling flips.
 use Prim.Native.Nat.{ℕ, suc, _+_, _-_, _*_, _≤_, _<_}
 use mathlib.Core.Path.{_≡_}
 use mathlib.Core.Logic.{_⊎_, _≢_}
 use mathlib.Core.List.{List}
 use lib.Dec.{T}
+use lib.ListN.{length}
 use Rattle.spec_table.specs.Board.{Board, load}
 use Rattle.spec_table.specs.Table.{mostBenches, mostJobs}
 use Rattle.spec_sharing.specs.Paths.{steps}
 use Rattle.spec_sharing.specs.Sharing.{level}
-use Rattle.spec_sharing.proofs.Found.{StartsOne}
+use Rattle.spec_sharing.specs.Searches.{StartsOne}
 use Rattle.table_size.specs.Sizes.{BenchIn}
 use Rattle.table_size.specs.declared.Size.{Size}
 use Rattle.graph_lists.specs.Arrays.{at}
@@ -47,8 +48,8 @@ StartsFrom b s n x =
     (w : ℕ) → BenchIn s w → StartsOne b w →
     (load (b .holders) w < n) ⊎ ((n ≡ load (b .holders) w) × (x ≤ w))
 
--- searches from the benches that come before bench x of load n are done, x of 1 to B + 1: every step was taken from what they found, none of it
--- is lighter than n - 1, and no such bench starts an improving path
+-- searches from the benches that come before bench x of load n are done, x of 1 to B + 1: every step was taken from
+-- what they found, none of it is lighter than n - 1, and no such bench starts an improving path
 pub record Searched (b : Board) (s : Size) (n x found : ℕ) (queue came : List ℕ) : Type 0 where
   pub now : ℕ
   pub level : ℕ
@@ -60,7 +61,8 @@ pub record Searched (b : Board) (s : Size) (n x found : ℕ) (queue came : List 
   pub high : (y : ℕ) → 1 ≤ at came y → n ≤ load (b .holders) y + 1
   pub first : StartsFrom b s n x
 
--- so it is, or the first bench that starts an improving path is known
+-- so it is, or the first bench that starts an improving path is known; the queue is as long as before
 pub record SearchedTo (b : Board) (s : Size) (n x : ℕ) (r : Search) (queue came : List ℕ) : Type 0 where
   pub none : r .start ≡ 0 → Searched b s n x (r .found) queue came
   pub some : r .start ≢ 0 → FirstStart b s (r .start)
+  pub long : length queue ≡ mostBenches + 1

@@ -1,8 +1,10 @@
 // The first bench of the path that levelling flips: of the benches that start an improving path the one with the
 // greatest load, then the lowest. Loads go down and numbers up; what a bench reached need not be searched again from
 // a lighter one.
-ghost use Prim.Native.Nat.{suc, _≤_};
-ghost use Rattle.spec_table.specs.Table.{decode};
+ghost use Prim.Native.Nat.{suc, _+_, _≤_};
+ghost use mathlib.Core.Path.{_≡_};
+ghost use lib.ListN.{length};
+ghost use Rattle.spec_table.specs.Table.{mostBenches, decode};
 ghost use Rattle.table_size.specs.Sizes.{BenchIn};
 ghost use Rattle.table_board.specs.BoardView.{Loaded};
 ghost use Rattle.table_order.specs.InOrder.{InOrder};
@@ -92,12 +94,20 @@ fn start_among(
 }
 
 // Finds the bench of greatest load, then lowest number, among those that start an improving path; 0 where none does.
-// No bench with the least load or one more does.
-pub fn first_start(t: &[u8], s: Size, loads: &[u16; Size::MOST_BENCHES + 1]) -> usize
+// No bench with the least load or one more does. The queue is lent, so that it is not cleared for each search: what it
+// holds does not matter.
+pub fn first_start(
+    t: &[u8],
+    s: Size,
+    loads: &[u16; Size::MOST_BENCHES + 1],
+    queue: &mut [u16; Size::MOST_BENCHES + 1],
+) -> usize
     requires { ⌜ InOrder (now t) s ⌝ }
     requires { ⌜ LoadsIn s (now loads) ⌝ }
     requires { ⌜ Loaded (decode (now t)) (now loads) ⌝ }
+    requires { ⌜ length (now queue) ≡ mostBenches + 1 ⌝ }
     ensures { λ r. ⌜ StartOf (decode (now (t .entry))) s r ⌝ }
+    ensures { λ _. ⌜ length (now (queue .exit)) ≡ mostBenches + 1 ⌝ }
 {
     let goal = sharing_loads::lightest(s, loads);
     let low = loads[goal] as usize;
@@ -105,11 +115,10 @@ pub fn first_start(t: &[u8], s: Size, loads: &[u16; Size::MOST_BENCHES + 1]) -> 
     if load < low + 2 {
         return 0;
     }
-    let mut queue = scratch::benches();
     let mut came = scratch::benches();
     let mut found = 0;
     while low + 2 <= load {
-        let first = start_among(t, s, loads, load, found, &mut queue, &mut came);
+        let first = start_among(t, s, loads, load, found, queue, &mut came);
         if first.start != 0 {
             return first.start;
         }

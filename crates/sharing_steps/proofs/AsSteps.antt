@@ -6,63 +6,70 @@ use mathlib.Core.Path.{_≡_, refl, sym, ap, subst, _∙_}
 use mathlib.Core.Logic.{inl, inr, _≢_}
 use mathlib.Core.List.{List, [], _∷_}
 use lib.Dec.{T}
-use lib.ListN.{length, set, length-set, List·getD-eq-default}
-use lib.Seq.{getD-set-same, getD-set-other}
+use lib.ListN.{length, List·getD-eq-default}
 use borrow.Author.Tests.{eq-eqb, ne-eqb}
 use Rattle.spec_lists.specs.Lists.{within, In, nth}
 use Rattle.spec_table.specs.Board.{Board, holderOf, namesOf, stands, load, namesFit}
-use Rattle.spec_table.specs.Table.{mostBenches, mostJobs, decode}
-use Rattle.spec_sharing.specs.Paths.{Step, stepBy, steps, endOf, Walk}
-use Rattle.spec_lists.proofs.Tests.{T→true, within-low, within-high, within-both}
+use Rattle.spec_table.specs.Table.{mostBenches, decode}
+use Rattle.spec_sharing.specs.Paths.{Step, stepBy, steps}
+use Rattle.spec_sharing.specs.Searches.{Reach}
+use Rattle.spec_lists.proofs.Tests.{T→true, within-low, within-both}
 use Rattle.spec_lists.proofs.Elements.{is-empty, some-in, each-nth, two-elements}
 use Rattle.spec_table.proofs.Named.{length-shares, pair-fits, named-stands, named-bench, shares-nth, held-named, holder-bench}
 use Rattle.spec_lists.proofs.Counting.{count-most}
 use Rattle.spec_sharing.proofs.Distances.{storable-one-other}
 use Rattle.spec_sharing.proofs.Paths.{step-is, is-step}
-use Rattle.spec_sharing.proofs.Walks.{Reach, reach-here, reach-first}
+use Rattle.spec_sharing.proofs.Walks.{reach-here, reach-first}
 use Rattle.table_size.specs.Sizes.{BenchIn}
 use Rattle.table_size.specs.declared.Size.{Size}
 use Rattle.table_size.proofs.Sizes.{board-bench}
-use Rattle.table_board.specs.BoardView.{HoldsBoard, Loaded, Position, NameOf}
-use Rattle.table_board.proofs.RecordsAsBoard.{holders-long, stands-job, holder-most, stands-held, names-length, load-beyond}
+use Rattle.table_board.specs.BoardView.{HoldsBoard, Loaded, Position, NameOf, HolderOf}
+use Rattle.table_board.proofs.RecordsAsBoard.{holders-long, holder-most, stands-held, held-stands, names-length, load-beyond}
 use Rattle.graph_lists.specs.Arrays.{at, Reached, here, step, LoadsIn}
 use Rattle.sharing_steps.specs.Others.{otherThan, otherOf, OtherOf}
 
 -- one job
 
--- y is a name other than the holder h, and the names' sum tells it from h
-record Other (names : List ℕ) (h y : ℕ) : Type 0 where
-  named : In y names
-  apart : y ≢ h
-  sum : nth names 1 0 + nth names 2 0 ≡ h + y
+-- y is the only name other than h, and the names' sum tells it from h
+pub record OtherName (names : List ℕ) (h y : ℕ) : Type 0 where
+  pub named : In y names
+  pub apart : y ≢ h
+  pub only : (z : ℕ) → In z names → z ≢ h → z ≡ y
+  pub sum : nth names 1 0 + nth names 2 0 ≡ h + y
 
--- of two names one holds the job, and the other is the first that does not
-pair-other : (a c h : ℕ) → a ≢ c → In h (a ∷ c ∷ []) → Other (a ∷ c ∷ []) h (otherThan h (a ∷ c ∷ []))
+-- of two names one is h, and the other is the first that is not
+pub pair-other : (a c h : ℕ) → a ≢ c → In h (a ∷ c ∷ []) → OtherName (a ∷ c ∷ []) h (otherThan h (a ∷ c ∷ []))
 pair-other a c h d (inl e) =
     let f : c ≢ h = λ g. d (sym (g ∙ e)) in
-    rw (eq-eqb a h (sym e), ne-eqb c h f) (record { named = inr (inl refl); apart = f; sum = omega arith })
+    rw (eq-eqb a h (sym e), ne-eqb c h f) (record { named = inr (inl refl); apart = f; only = only; sum = omega arith })
+  where
+    only : (z : ℕ) → In z (a ∷ c ∷ []) → z ≢ h → z ≡ c
+    only z (inl g) n = absurd (n (g ∙ sym e))
+    only z (inr (inl g)) n = g
+    only z (inr (inr i)) n = absurd i
 pair-other a c h d (inr (inl e)) =
     let f : a ≢ h = λ g. d (g ∙ e) in
-    rw (ne-eqb a h f) (record { named = inl refl; apart = f; sum = omega arith })
+    rw (ne-eqb a h f) (record { named = inl refl; apart = f; only = only; sum = omega arith })
+  where
+    only : (z : ℕ) → In z (a ∷ c ∷ []) → z ≢ h → z ≡ a
+    only z (inl g) n = g
+    only z (inr (inl g)) n = absurd (n (g ∙ sym e))
+    only z (inr (inr i)) n = absurd i
 pair-other a c h d (inr (inr i)) = absurd i
 
 module _ (t : List ℕ) (s : Size) (j : ℕ) (holdsBoard : HoldsBoard t s) where
-  -- a job that is held stands ..
-  pub held-stands : holderOf (decode t) j ≢ 0 → T (stands (decode t) j)
-  held-stands d = rw (stands-held t s j holdsBoard, ne-eqb (holderOf (decode t) j) 0 d) tt
-
-  -- .. names two benches ..
+  -- a job that is held names two benches ..
   held-two : holderOf (decode t) j ≢ 0 → length (namesOf (decode t) j) ≡ 2
-  held-two d = let n = names-length t s j holdsBoard in rw (T→true (stands (decode t) j) (held-stands d)) at n
+  held-two d = let n = names-length t s j holdsBoard in rw (T→true (stands (decode t) j) (held-stands t s j holdsBoard d)) at n
 
   -- .. and leads to the other of them ..
-  held-other : holderOf (decode t) j ≢ 0 → Other (namesOf (decode t) j) (holderOf (decode t) j) (otherOf (decode t) j)
+  held-other : holderOf (decode t) j ≢ 0 → OtherName (namesOf (decode t) j) (holderOf (decode t) j) (otherOf (decode t) j)
   held-other d =
       let b = decode t in
       let names = namesOf b j in
       let n = two-elements names (held-two d) in
       let f = each-nth (λ names. T (namesFit (b .benches) names)) (b .named) j [] tt (holdsBoard .storable .valid .names) in
-      let i = some-in names (held-stands d) in
+      let i = some-in names (held-stands t s j holdsBoard d) in
       let h = held-named names (holderOf b j) (i .0) (i .1) (shares-nth b (holdsBoard .storable .valid) j) in
       rw (n .2) (pair-other (n .0) (n .1) (holderOf b j) ((pair-fits (b .benches) (n .0) (n .1)) .0 (rw (n .2) at f) .2) (rw (n .2) at h))
 
@@ -92,6 +99,21 @@ module _ (t : List ℕ) (s : Size) (j : ℕ) (holdsBoard : HoldsBoard t s) where
         let sum = held-other (λ f. d (e ∙ f)) .sum in
         (omega (arith, sum, m .value, n .value), record { value = omega (arith, sum, m .value, n .value); most = omega (arith, sum, m .value, n .value, other-most) })
 
+  module _ (y : ℕ) (e : y ≡ otherOf (decode t) j) (d : y ≢ 0) where
+    -- one that leads to a bench is held, ..
+    led-held : holderOf (decode t) j ≢ 0
+    led-held f = d (e ∙ free-other f)
+
+    -- .. names two benches ..
+    pub led-place : (k : ℕ) → 1 ≤ k → k ≤ 2 → Position (namesOf (decode t) j) k
+    led-place = held-place (holderOf (decode t) j) refl led-held
+
+    -- .. and is held by what is left of their sum
+    pub led-of : (x z : ℕ) → NameOf t s j 1 x → NameOf t s j 2 z → (y ≤ x + z) × HolderOf t s j (x + z - y)
+    led-of x z m n =
+        let sum = held-other led-held .sum in
+        (omega (arith, sum, m .value, n .value), record { value = omega (arith, sum, m .value, n .value); most = omega (arith, sum, m .value, n .value, holder-most t s j holdsBoard) })
+
 -- loads
 
 -- the loads of a board are loads of its size ..
@@ -111,6 +133,10 @@ loads-in {t} {s} {loads} k l = record { most = most; beyond = beyond; long = l .
     beyond : (x : ℕ) → s .benches < x → at loads x ≡ 0
     beyond x h = at-load (λ n. n ≡ 0) x (omega arith) (load-beyond t s x k h) refl
 
+-- at a bench's number stands its load
+pub bench-load : {b : Board} {s : Size} {loads : List ℕ} {x : ℕ} → s .benches ≤ mostBenches → Loaded b loads → BenchIn s x → at loads x ≡ load (b .holders) x
+bench-load {x = x} few l i = l .bench x (i .least) (omega (arith, i .most))
+
 module _ {t : List ℕ} {s : Size} (holdsBoard : HoldsBoard t s) where
   -- a bench of the size is one of the board ..
   pub on-board : {x : ℕ} → BenchIn s x → T (within 1 ((decode t) .benches) x)
@@ -118,7 +144,7 @@ module _ {t : List ℕ} {s : Size} (holdsBoard : HoldsBoard t s) where
 
   -- .. and its load stands at its number
   pub load-at : {loads : List ℕ} {x : ℕ} → Loaded (decode t) loads → BenchIn s x → at loads x ≡ load ((decode t) .holders) x
-  load-at {x = x} l i = l .bench x (i .least) (omega (arith, i .most, holdsBoard .size .limits .benches-most))
+  load-at = bench-load (holdsBoard .size .limits .benches-most)
 
 -- jobs and steps
 

@@ -1,20 +1,19 @@
--- A board with one job written anew: what a table can hold, the steps by other jobs, and the loads.
+-- A board with one job written anew: the steps by other jobs, and the loads.
 use Prim.Native.Nat.{ℕ, _+_}
 use native.Mathlib.Omega.{arith}
-use mathlib.Core.Path.{_≡_, refl, sym, subst}
+use mathlib.Core.Path.{_≡_, sym, subst}
 use mathlib.Core.Logic.{_≢_, _↔_}
 use mathlib.Core.List.{List, []}
 use lib.Dec.{T, eqb}
 use lib.ListN.{length}
 use Rattle.spec_lists.specs.Lists.{bit, within, In, update}
-use Rattle.spec_table.specs.Board.{Board, Valid, namesOf, holderOf, put, load, mayHold, namesFit}
-use Rattle.spec_table.specs.Table.{Storable, paired}
+use Rattle.spec_table.specs.Board.{Board, Valid, namesOf, holderOf, put, load}
+use Rattle.spec_table.specs.Table.{Storable}
 use Rattle.spec_sharing.specs.Paths.{Step, steps}
 use Rattle.spec_lists.proofs.Tests.{within-low, within-high}
 use Rattle.spec_lists.proofs.Elements.{update-back}
 use Rattle.spec_lists.proofs.Counting.{count-update}
-use Rattle.spec_table.proofs.Named.{length-shares, changed-storable}
-use Rattle.spec_sharing.proofs.Flip.{put-valid}
+use Rattle.spec_table.proofs.Named.{length-shares}
 use Rattle.spec_sharing.proofs.OneJob.{same-step}
 
 -- the job as it was, written back
@@ -23,11 +22,6 @@ put-back b j names a =
     λ i. record { benches = b .benches; named = update-back (b .named) j names [] i; holders = update-back (b .holders) j a 0 i }
 
 module _ (b : Board) (w : Storable b) (j : ℕ) where
-  -- a table that can hold a board can hold it with a job written anew
-  pub put-storable : (names : List ℕ) (a : ℕ) → T (paired names) → T (namesFit (b .benches) names) → T (mayHold names a) → Storable (put b j names a)
-  put-storable names a p f h =
-      changed-storable b (put b j names a) j names w p (put-valid b (w .valid) j names a f h) refl refl
-
   -- the steps by other jobs are the same
   pub step-same : (names : List ℕ) (a : ℕ) → Valid (put b j names a) → (z : ℕ) (q : Step) → q .job ≢ j → In q (steps (put b j names a) z) ↔ In q (steps b z)
   step-same names a v z q d =

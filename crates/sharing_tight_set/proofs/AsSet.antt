@@ -13,6 +13,7 @@ use Rattle.spec_lists.specs.Lists.{bit, within, count, member, range, total, fi
 use Rattle.spec_table.specs.Board.{Board, load}
 use Rattle.spec_sharing.specs.Paths.{Step, steps}
 use Rattle.spec_sharing.specs.Sharing.{tightSet, inside}
+use Rattle.spec_sharing.specs.Searches.{Reach}
 use Rattle.spec_table.specs.Table.{mostBenches, mostJobs, decode, bytesOf}
 use Rattle.spec_lists.proofs.Tests.{true→T, false→not, Compared, same, other, compared, within-both}
 use Rattle.spec_lists.proofs.Elements.{length-filter}
@@ -21,7 +22,7 @@ use Rattle.spec_lists.proofs.Counting.{total-same, filter-counts}
 use Rattle.spec_table.proofs.Places.{two-more, two-more-high}
 use Rattle.spec_sharing.proofs.Certificate.{loadIn}
 use Rattle.spec_sharing.proofs.TightSet.{tight-marked, tight-inside}
-use Rattle.spec_sharing.proofs.Walks.{Reach, reach-here, reach-all}
+use Rattle.spec_sharing.proofs.Walks.{reach-here, reach-all}
 use Rattle.table_words.specs.Bytes.{setWord}
 use Rattle.table_size.specs.Sizes.{Limits, BenchIn, SoundTable}
 use Rattle.table_size.specs.declared.Size.{Size}

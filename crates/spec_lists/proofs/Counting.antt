@@ -113,7 +113,7 @@ pub total-le : (n : ℕ) (f g : ℕ → ℕ) → ((x : ℕ) → 1 ≤ x → x �
 total-le zero f g h = omega arith
 total-le (suc n) f g h = omega (arith, total-le n f g (λ x l u. h x l (omega arith)), h (suc n) (omega arith) (omega arith))
 
--- .. and is the same on 1 to n if it has the same total ..
+-- .. and is the same on 1 to n if it has the same total
 pub total-tight : (n : ℕ) (f g : ℕ → ℕ) → ((x : ℕ) → 1 ≤ x → x ≤ n → f x ≤ g x) → total n f ≡ total n g → (x : ℕ) → 1 ≤ x → x ≤ n → f x ≡ g x
 total-tight zero f g h e x l u = absurd (omega arith)
 total-tight (suc n) f g h e x l u = go (total-tight n f g before) (compared x (suc n))
@@ -134,19 +134,7 @@ unfolding flatMap
 total-flatMap sizeOf none join f zero = none
 total-flatMap sizeOf none join f (suc n) = omega (arith, ap sizeOf (flatMap-next f n), join (flatMap f (range 1 n)) (f (suc n)), total-flatMap sizeOf none join f n)
 
--- how often x stands in a list, place by place
-pub count-total : (x : ℕ) (l : List ℕ) → count x l ≡ total (length l) (λ i. bit (eqb (nth l i 0) x))
-count-total x [] = refl
-count-total x (y ∷ l) =
-    let f : ℕ → ℕ = λ i. bit (eqb (nth (y ∷ l) i 0) x) in
-    let g : ℕ → ℕ = λ i. bit (eqb (nth l i 0) x) in
-    omega (arith, total-first (length l) f, total-same (length l) (λ i. f (suc i)) g (same), count-total x l)
-  where
-    same : (i : ℕ) → 1 ≤ i → i ≤ length l → bit (eqb (nth (y ∷ l) (suc i) 0) x) ≡ bit (eqb (nth l i 0) x)
-    same zero u v = absurd (omega arith)
-    same (suc i) u v = refl
-
--- .. and if they differ at one place, the totals differ by what the functions do there
+-- if functions differ at one place only, their totals differ by what they do there
 pub total-but-one : (n : ℕ) (f g : ℕ → ℕ) (x : ℕ) → 1 ≤ x → x ≤ n → ((y : ℕ) → 1 ≤ y → y ≤ n → y ≢ x → f y ≡ g y) → total n f + g x ≡ total n g + f x
 total-but-one zero f g x l u h = omega arith
 total-but-one (suc n) f g x l u h = go (λ w. total-but-one n f g x l w (λ y k m. h y k (omega arith))) (compared x (suc n))

@@ -1,6 +1,6 @@
 -- What a search finds is what the rules name: an arrival's end bench by the rule's order and the first list give the chosen path,
 -- and levelling's is that of the bench that comes first among those that start one.
-use Prim.Native.Nat.{ℕ, suc, _+_, _≤_, _<_}
+use Prim.Native.Nat.{ℕ, suc, _≤_, _<_}
 use native.Mathlib.Omega.{arith}
 use native.Mathlib.Decide.{decLt}
 use mathlib.Core.Path.{_≡_, sym, ap, subst, _∙_}
@@ -13,19 +13,13 @@ use Rattle.spec_lists.specs.Lists.{within, distinct, lexLe, In}
 use Rattle.spec_table.specs.Board.{Board, Valid, load}
 use Rattle.spec_sharing.specs.Paths.{Step, steps, BenchPath, pathBy, endOf, last, jobs, Walk, IsPath, improves, improvingFrom, improving}
 use Rattle.spec_sharing.specs.Sharing.{arrivalKey, arrivalChoice, levellingChoice, level}
+use Rattle.spec_sharing.specs.Searches.{StartsOne, Lower, ArrivalEnd, FirstList}
 use Rattle.spec_lists.proofs.Tests.{T→true}
 use Rattle.spec_lists.proofs.Elements.{in-empty}
 use Rattle.spec_sharing.proofs.Paths.{benchesOf, jobsOf, improvingFrom-only, improvingFrom-every, improves-loads, loads-improve, improves-start, improving-only, improving-every, level-exact}
 use Rattle.spec_sharing.proofs.Choice.{argmin-empty, ArrivalFirst, LevellingFirst, First, arrival-choice, levelling-choice}
-use Rattle.spec_sharing.proofs.Walks.{Reach, fewest-once, path-reach, reach-bench, level-reach}
+use Rattle.spec_sharing.proofs.Walks.{fewest-once, path-reach, reach-bench, level-reach}
 use Rattle.spec_sharing.proofs.Distances.{Away}
-
--- r is a walk from x to y with d - 1 steps, and its list of jobs is the first among the walks with so many
-pub record FirstList (b : Board) (x y d : ℕ) (r : List Step) : Type 0 where
-  pub walk : Walk (steps b) x r
-  pub ends : endOf x r ≡ y
-  pub long : d ≡ suc (length r)
-  pub first : (q : List Step) → Walk (steps b) x q → endOf x q ≡ y → length q ≡ length r → T (lexLe (jobsOf r) (jobsOf q))
 
 -- an order of ends by distance is one of paths by length: m and n are the distances, r and k the lengths
 by-length : {A E D : Type 0} (m n r k y z : ℕ) → m ≡ suc r → n ≤ suc k → (r ≡ k → y ≡ z → D) → A ⊎ (E × ((m < n) ⊎ ((m ≡ n) × (y ≤ z)))) → A ⊎ (E × ((r < k) ⊎ ((r ≡ k) × ((y < z) ⊎ ((y ≡ z) × D)))))
@@ -39,21 +33,6 @@ by-length {A} {E} {D} m n r k y z s t d (inr (e, inr (h, l))) = inr (e, go (decL
     go (no i) (no j) = inr (omega arith, inr (omega arith, d (omega arith) (omega arith)))
 
 module _ (b : Board) where
-  -- y is a bench where an improving path from x may end: f are the distances from x
-  pub record Lower (x : ℕ) (f : ℕ → ℕ) (y : ℕ) : Type 0 where
-    pub bench : T (within 1 (b .benches) y)
-    pub reached : 1 ≤ f y
-    pub lower : load (b .holders) y + 2 ≤ load (b .holders) x
-
-  -- "lowest last load, then fewest jobs, then lowest last bench"
-  pub record ArrivalEnd (x : ℕ) (f : ℕ → ℕ) (y : ℕ) : Type 0 where
-    pub is : Lower x f y
-    pub first : (z : ℕ) → Lower x f z → (load (b .holders) y < load (b .holders) z) ⊎ ((load (b .holders) y ≡ load (b .holders) z) × ((f y < f z) ⊎ ((f y ≡ f z) × (y ≤ z))))
-
-  -- bench x starts an improving path
-  abbrev pub StartsOne : ℕ → Type 0
-  StartsOne x = (y : ℕ) × Reach (steps b) x y × (load (b .holders) y + 2 ≤ load (b .holders) x)
-
   -- the steps of a path from x are a walk from x with the same end
   walk-from : (x : ℕ) (q : BenchPath) → IsPath b q → q .start ≡ x → Walk (steps b) x (q .route) × (endOf x (q .route) ≡ last q)
   walk-from x q h s = (subst (λ (z : ℕ). Walk (steps b) z (q .route)) s (h .walk), ap (λ (z : ℕ). endOf z (q .route)) (sym s))

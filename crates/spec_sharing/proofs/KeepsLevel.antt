@@ -13,13 +13,14 @@ use Rattle.spec_table.specs.Board.{Board, Valid, namesOf, holderOf, stands, put
 use Rattle.spec_sharing.specs.Paths.{Step, steps}
 use Rattle.spec_sharing.specs.Sharing.{arrivalChoice, closingChoice, lightestNamed, arrive, close, level}
 use Rattle.spec_sharing.specs.Demand2.{OneMore}
+use Rattle.spec_sharing.specs.Searches.{Reach}
 use Rattle.spec_lists.proofs.Tests.{either, or-left, or-right, Compared, same, other, compared, T-eqb, eqb-T, within-low, within-high, within-both}
 use Rattle.spec_lists.proofs.Elements.{is-empty, nth-update-same, length-update}
 use Rattle.spec_table.proofs.Named.{length-shares, fit-bench, stands-within, named-may, shares-nth, holder-bench}
 use Rattle.spec_lists.proofs.Counting.{bit-other}
 use Rattle.spec_sharing.proofs.Paths.{step-is}
 use Rattle.spec_sharing.proofs.Sets.{lightestNamed-in}
-use Rattle.spec_sharing.proofs.Walks.{Reach, reach-here, reach-more, reach-all, reach-bench, level-reach}
+use Rattle.spec_sharing.proofs.Walks.{reach-here, reach-more, reach-all, reach-bench, level-reach}
 use Rattle.spec_sharing.proofs.Flip.{put-valid}
 use Rattle.spec_sharing.proofs.OneLoad.{more-load, excess-rises, excess-stays, excess-grows}
 use Rattle.spec_sharing.proofs.Levels.{level-least}

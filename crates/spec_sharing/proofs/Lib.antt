@@ -15,5 +15,4 @@ pub mod Levelling
 pub mod Distances
 pub mod Found
 pub mod Far
-pub mod Search
 pub mod Trails

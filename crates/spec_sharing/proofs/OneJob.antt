@@ -12,13 +12,14 @@ use Rattle.spec_lists.specs.Lists.{bit, within, In, update}
 use Rattle.spec_table.specs.Board.{Board, Valid, namesOf, put, load, excess, mayHold, Shares, heldBy}
 use Rattle.spec_sharing.specs.Paths.{Step, steps, BenchPath, last, IsPath, improvingFrom, improvingTo}
 use Rattle.spec_sharing.specs.Sharing.{Change, level, arrivalChoice, closingChoice, afterArrival, afterClosing}
+use Rattle.spec_sharing.specs.Searches.{Reach}
 use Rattle.spec_lists.proofs.Tests.{Compared, same, other, compared}
 use Rattle.spec_lists.proofs.Elements.{nth-update-other, update-back}
 use Rattle.spec_table.proofs.Named.{length-shares}
 use Rattle.spec_lists.proofs.Counting.{bit-same, bit-other, bit-le}
 use Rattle.spec_sharing.proofs.Paths.{step-is, is-step, improvingFrom-only, improvingFrom-every, improves-loads, loads-improve, improvingTo-only, improvingTo-every}
 use Rattle.spec_sharing.proofs.Choice.{ArrivalFirst, ClosingFirst, First, arrival-choice, arrival-none, closing-choice, closing-none}
-use Rattle.spec_sharing.proofs.Walks.{Reach, reach-path}
+use Rattle.spec_sharing.proofs.Walks.{reach-path}
 use Rattle.spec_sharing.proofs.Certificate.{proved-least}
 use Rattle.spec_sharing.proofs.TightSet.{closureOf, closure-proves}
 use Rattle.spec_sharing.proofs.Flip.{shares-written}

@@ -10,13 +10,14 @@ use lib.ListN.{length}
 use borrow.Author.Tests.{eqb-true, eqb-false}
 use Rattle.spec_lists.specs.Lists.{within, member, distinct, range, filter, In}
 use Rattle.spec_table.specs.Board.{Board, Valid, load}
-use Rattle.spec_sharing.specs.Paths.{Step, BenchPath, steps, last, IsPath, improves}
-use Rattle.spec_sharing.specs.Sharing.{level, closureRound, closure, tightSet, inside}
+use Rattle.spec_sharing.specs.Paths.{Step, BenchPath, steps, last, IsPath}
+use Rattle.spec_sharing.specs.Sharing.{closureRound, closure, tightSet, inside}
+use Rattle.spec_sharing.specs.Searches.{Reach}
 use Rattle.spec_lists.proofs.Tests.{either, or-left, or-right, tests-same, T-leb, leb-T}
 use Rattle.spec_lists.proofs.Elements.{in-filter, filter-in, filter-same, length-filter, in-map, map-in, in-flatMap, flatMap-in}
 use Rattle.spec_lists.proofs.NumberLists.{member-in, in-member, bench-listed, listed-bench, length-range, filter-distinct, filter-own, range-distinct}
-use Rattle.spec_sharing.proofs.Paths.{step-bench, benchesOf, improves-loads, improves-start, level-exact}
-use Rattle.spec_sharing.proofs.Walks.{Reach, reach-here, reach-more, reach-all, reach-path, path-reach, level-reach}
+use Rattle.spec_sharing.proofs.Paths.{step-bench, benchesOf}
+use Rattle.spec_sharing.proofs.Walks.{reach-here, reach-more, reach-all, reach-path}
 use Rattle.spec_sharing.proofs.Certificate.{Proves, heldIn, closed-inside}
 
 -- the benches that those which pass the test bring in, themselves among them
@@ -244,14 +245,3 @@ tight-marked b v h mark f = tight-rising b h ∙ filter-same (λ y. member y set
         let g = f y (listed-bench (b .benches) y i) in
         let r = tight-reached b v h y in
         tests-same (member y set) (mark y) (λ t. g .1 (r .0 (member-in y set t)), λ t. in-member y set (r .1 (g .0 t)))
-
--- a board is level exactly if no tight set has a bench whose load is below its height by two or more
-pub level-closure : (b : Board) → Valid b → T (level b) ↔ ((h y : ℕ) → In y (tightSet b (suc h)) → h ≤ load (b .holders) y)
-level-closure b v =
-    (λ l h y i. let (x, t, m, w) = (tight-reached b v (suc h) y) .0 i in omega (arith, (level-reach b v) .0 l x y w), λ f. (level-exact b v) .1 (λ p w t. low f p w t))
-  where
-    low : ((h y : ℕ) → In y (tightSet b (suc h)) → h ≤ load (b .holders) y) → (p : BenchPath) → IsPath b p → T (improves b p) → ⊥
-    low f p w t =
-        let h = suc (load (b .holders) (last p)) in
-        let l : suc h ≤ load (b .holders) (p .start) = omega (arith, improves-loads b p t) in
-        omega (arith, f h (last p) ((tight-reached b v (suc h) (last p)) .1 (p .start, improves-start b v p w t, l, path-reach b p w)))

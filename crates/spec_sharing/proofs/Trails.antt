@@ -13,32 +13,15 @@ use Rattle.spec_lists.specs.Lists.{within, distinct, lexLe, In}
 use Rattle.spec_table.specs.Board.{Board, Valid, load}
 use Rattle.spec_sharing.specs.Paths.{Step, steps, BenchPath, pathBy, endOf, last, jobs, Walk, IsPath, improvingTo}
 use Rattle.spec_sharing.specs.Sharing.{below, closingKey, closingChoice}
+use Rattle.spec_sharing.specs.Searches.{Reach, distance, FirstList, further, searchKey, NoLater, Sooner}
 use Rattle.spec_lists.proofs.Tests.{T→true}
 use Rattle.spec_lists.proofs.Elements.{in-empty}
 use Rattle.spec_table.proofs.Loads.{load-heaviest}
 use Rattle.spec_sharing.proofs.Paths.{benchesOf, improves-loads, loads-improve, improvingTo-only, improvingTo-every}
 use Rattle.spec_sharing.proofs.Choice.{lexLe-lower, lexLe-same, lexLe-either, lexLe-refl, lexLe-trans, lexLe-total, argmin-empty, decided, ClosingFirst, closing-first, closing-choice}
-use Rattle.spec_sharing.proofs.Walks.{Reach, reach-all, walk-join, end-join, fewest-once}
+use Rattle.spec_sharing.proofs.Walks.{reach-all, walk-join, end-join, fewest-once}
 use Rattle.spec_sharing.proofs.Distances.{To}
-use Rattle.spec_sharing.proofs.Found.{FirstList}
-use Rattle.spec_sharing.proofs.Far.{distance, distance-to}
-
--- a path with one step more
-abbrev pub further : BenchPath → Step → BenchPath
-further p q = pathBy (p .start) (p .route ++ (q ∷ []))
-
--- the order in which a search finds: by the rank of the start, then fewest jobs, lowest start, first list. With `below` as the rank that is
--- the closing's order, word for word; with one start only length and list count
-abbrev pub searchKey : (ℕ → ℕ) → BenchPath → List ℕ
-searchKey rank p = rank (p .start) ∷ length (p .route) ∷ p .start ∷ jobs p
-
--- p's key is not above q's
-abbrev pub NoLater : (ℕ → ℕ) → BenchPath → BenchPath → Type 0
-NoLater rank p q = T (lexLe (searchKey rank p) (searchKey rank q))
-
--- p's key is below q's
-abbrev pub Sooner : (ℕ → ℕ) → BenchPath → BenchPath → Type 0
-Sooner rank p q = NoLater rank q p → ⊥
+use Rattle.spec_sharing.proofs.Far.{distance-to}
 
 -- what a search over a set of starts leaves. Its benches may have one key: those that one job led to from benches with one key do, and form
 -- a group
@@ -123,25 +106,13 @@ module _ (rank : ℕ → ℕ) where
   pub sooner-no-later : (p q : BenchPath) → Sooner rank p q → NoLater rank p q
   sooner-no-later p q s = elim (lexLe-total (searchKey rank p) (searchKey rank q)) [ inl t ↦ t | inr t ↦ absurd (s t) ]
 
-  -- no path comes later than itself ..
+  -- no path comes later than itself
   pub no-later-refl : (p : BenchPath) → NoLater rank p p
   no-later-refl p = lexLe-refl (searchKey rank p)
 
-  -- .. nor sooner
-  pub sooner-irrefl : (p : BenchPath) → Sooner rank p p → ⊥
-  sooner-irrefl p s = s (no-later-refl p)
-
-  -- one after the other no later is no later ..
+  -- one after the other no later is no later
   pub no-later-trans : (p q r : BenchPath) → NoLater rank p q → NoLater rank q r → NoLater rank p r
   no-later-trans p q r s t = lexLe-trans (searchKey rank p) (searchKey rank q) (searchKey rank r) s t
-
-  -- .. and sooner, if the first is ..
-  pub sooner-trans-left : (p q r : BenchPath) → Sooner rank p q → NoLater rank q r → Sooner rank p r
-  sooner-trans-left p q r s t u = s (no-later-trans q r p t u)
-
-  -- .. or the second
-  pub sooner-trans-right : (p q r : BenchPath) → NoLater rank p q → Sooner rank q r → Sooner rank p r
-  sooner-trans-right p q r s t u = t (no-later-trans r p q u s)
 
   -- no later means no higher rank of the start ..
   pub no-later-rank : (p q : BenchPath) → NoLater rank p q → rank (p .start) ≤ rank (q .start)

@@ -12,21 +12,18 @@ use Rattle.spec_lists.specs.Lists.{within, member, distinct, In}
 use Rattle.spec_table.specs.Board.{Board, Valid, load}
 use Rattle.spec_sharing.specs.Paths.{Step, steps, BenchPath, pathBy, endOf, last, Walk, IsPath}
 use Rattle.spec_sharing.specs.Sharing.{level}
+use Rattle.spec_sharing.specs.Searches.{Reach}
 use Rattle.spec_lists.proofs.Tests.{T→true, both}
 use Rattle.spec_lists.proofs.NumberLists.{not-member, Member, is-in, not-in, membered, distinct-tail}
 use Rattle.spec_sharing.proofs.Paths.{step-bench, benchesOf, improves-loads, loads-improve, level-exact}
 
 module _ (out : ℕ → List Step) where
-  -- a walk leads from x to y; a walk may come to a bench twice
-  abbrev pub Reach : ℕ → ℕ → Type 0
-  Reach x y = (r : List Step) × Walk out x r × (endOf x r ≡ y)
-
   -- a bench reaches itself
-  pub reach-here : (x : ℕ) → Reach x x
+  pub reach-here : (x : ℕ) → Reach out x x
   reach-here x = ([], tt, refl)
 
   -- what a step's bench reaches, the bench that it leaves reaches
-  pub reach-first : (x y : ℕ) (s : Step) → In s (out x) → Reach (s .to) y → Reach x y
+  pub reach-first : (x y : ℕ) (s : Step) → In s (out x) → Reach out (s .to) y → Reach out x y
   reach-first x y s i w = (s ∷ w .0, (i, w .1), w .2)
 
   -- a route behind another is a walk from where that ends ..
@@ -40,17 +37,17 @@ module _ (out : ℕ → List Step) where
   end-join x (s ∷ r) q = end-join (s .to) r q
 
   -- a walk goes on where another ends
-  pub reach-join : (x y z : ℕ) → Reach x y → Reach y z → Reach x z
+  pub reach-join : (x y z : ℕ) → Reach out x y → Reach out y z → Reach out x z
   reach-join x y z v w =
       let f : Walk out (endOf x (v .0)) (w .0) = rw (v .2) (w .1) in
       (v .0 ++ w .0, walk-join x (v .0) (w .0) (v .1) f, end-join x (v .0) (w .0) ∙ ap (λ (u : ℕ). endOf u (w .0)) (v .2) ∙ w .2)
 
   -- a walk goes on by one step
-  pub reach-more : (x y : ℕ) (s : Step) → Reach x y → In s (out y) → Reach x (s .to)
+  pub reach-more : (x y : ℕ) (s : Step) → Reach out x y → In s (out y) → Reach out x (s .to)
   reach-more x y s w i = reach-join x y (s .to) w (s ∷ [], (i, tt), refl)
 
   -- what holds of x and is handed on by every step holds of every bench that is reached from x
-  pub reach-all : (P : ℕ → Type 0) → ((z : ℕ) (s : Step) → P z → In s (out z) → P (s .to)) → (x y : ℕ) → P x → Reach x y → P y
+  pub reach-all : (P : ℕ → Type 0) → ((z : ℕ) (s : Step) → P z → In s (out z) → P (s .to)) → (x y : ℕ) → P x → Reach out x y → P y
   reach-all P next x y p w = subst P (w .2) (go x (w .0) p (w .1))
     where
       go : (z : ℕ) (r : List Step) → P z → Walk out z r → P (endOf z r)

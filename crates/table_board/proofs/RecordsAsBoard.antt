@@ -10,22 +10,21 @@ use lib.ListN.{length, getD, length-map}
 use borrow.Author.Tests.{ne-eqb}
 use Rattle.spec_lists.specs.Lists.{In, empty, nth}
 use Rattle.spec_table.specs.Board.{Board, namesOf, holderOf, stands, put, load, mayHold, namesFit}
-use Rattle.spec_table.specs.Table.{Entry, vacant, filled, holderIn, entryFor, boardOf, decode, paired, Storable}
+use Rattle.spec_table.specs.Table.{Entry, vacant, filled, holderIn, boardOf, decode, paired, Storable}
 use Rattle.spec_lists.proofs.Tests.{cond-le, T-eqb, within-high}
-use Rattle.spec_lists.proofs.Elements.{each-nth, in-getD, in-nth, map-update, in-enumerate, enumerate-nth}
+use Rattle.spec_lists.proofs.Elements.{each-nth, in-getD, in-nth, in-enumerate, enumerate-nth}
 use Rattle.spec_lists.proofs.NumberLists.{member-in}
 use Rattle.spec_lists.proofs.Counting.{count-none}
 use Rattle.spec_table.proofs.Named.{fit-bench, changed-storable, named-may, stands-within, named-stands, named-bench}
 use Rattle.spec_sharing.proofs.Flip.{put-valid}
-use Rattle.spec_table.proofs.Layouts.{holds-entry, holder-entry}
 use Rattle.spec_table.proofs.Sound.{namesIn, two-paired, holder-within, holder-record, names-record, Standing, stored-record}
 use Rattle.table_words.specs.Bytes.{layoutIn}
 use Rattle.table_size.specs.Sizes.{Limits, JobIn, SoundTable, SizeOf}
-use Rattle.table_size.specs.Written.{recordIn, withEntry, HasLayout}
+use Rattle.table_size.specs.Written.{recordIn}
 use Rattle.table_records.specs.Records.{entryOf, RecordOf}
 use Rattle.table_size.proofs.Sizes.{board-job, board-bench, entries-long}
 use Rattle.table_records.specs.declared.Record.{Record}
-use Rattle.table_board.specs.BoardView.{Position, NameOf, HoldsBoard, Holds, Fillable, HolderOf}
+use Rattle.table_board.specs.BoardView.{Position, NameOf, HoldsBoard, Fillable, HolderOf}
 use Rattle.table_size.specs.declared.Size.{Size}
 
 -- a sound table's records hold its board
@@ -102,6 +101,10 @@ stands-held t s j k = rw (holder-record t j, names-record t j) (go (holds-record
         let b = holder-within (s .benches) e (r .benches-two) in
         rw (ne-eqb (holderIn e) 0 (λ d. omega arith), r .is-filled, r .benches-two .names) refl
 
+-- one that is held does
+pub held-stands : (t : List ℕ) (s : Size) (j : ℕ) → HoldsBoard t s → holderOf (decode t) j ≢ 0 → T (stands (decode t) j)
+held-stands t s j k d = rw (stands-held t s j k, ne-eqb (holderOf (decode t) j) 0 d) tt
+
 -- a standing job names two benches, any other number none
 pub names-length : (t : List ℕ) (s : Size) (j : ℕ) → HoldsBoard t s → length (namesOf (decode t) j) ≡ cond (stands (decode t) j) 2 0
 names-length t s j k = two (namesOf (decode t) j) (each-nth (λ names. T (paired names)) ((decode t) .named) j [] tt (k .storable .pairs))
@@ -114,39 +117,17 @@ names-length t s j k = two (namesOf (decode t) j) (each-nth (λ names. T (paired
 pub names-most : (t : List ℕ) (s : Size) (j : ℕ) → HoldsBoard t s → length (namesOf (decode t) j) ≤ 2
 names-most t s j k = rw (names-length t s j k) (cond-le (stands (decode t) j) 2 0 2 (omega arith) (omega arith))
 
--- a record written anew
+-- a job written anew
 
--- another record of job j is what it says of the job, put on the board ..
-written-board : (t u : List ℕ) (s : Size) (j : ℕ) (e : Entry) → HasLayout u s (withEntry (layoutIn t) j e) → decode u ≡ put (decode t) j (cond (filled e) (e .names) []) (holderIn e)
-unfolding decode boardOf
-written-board t u s j e l =
-    let es = (layoutIn t) .entries in
-    ap boardOf (l .layout)
-    ∙ (λ i. record { benches = (layoutIn t) .benches; named = map-update namesIn es j e i; holders = map-update holderIn es j e i })
+-- a table that can hold a board can hold it with a job written anew ..
+pub put-storable : (b : Board) → Storable b → (j : ℕ) (names : List ℕ) (h : ℕ) → T (paired names) → T (namesFit (b .benches) names) → T (mayHold names h) → Storable (put b j names h)
+put-storable b w j names h p f m =
+    changed-storable b (put b j names h) j names w p (put-valid b (w .valid) j names h f m) refl refl
 
--- .. and the board is kept if a record can hold that
-written-holds : (t u : List ℕ) (s : Size) (j : ℕ) (e : Entry) (names : List ℕ) (h : ℕ) → HoldsBoard t s → HasLayout u s (withEntry (layoutIn t) j e) → cond (filled e) (e .names) [] ≡ names → holderIn e ≡ h → T (namesFit (s .benches) names) → T (mayHold names h) → T (paired names) → Holds u s (put (decode t) j names h)
-written-holds t u s j e names h k l n d fit may pair = record { holdsBoard = record { size = l .size; storable = rw board stored }; board = board }
-  where
-    b : Board
-    b = decode t
-
-    board : decode u ≡ put b j names h
-    board = written-board t u s j e l ∙ (λ i. put b j (n i) (d i))
-
-    stored : Storable (put b j names h)
-    stored =
-        changed-storable b (put b j names h) j names (k .storable) pair (put-valid b (k .storable .valid) j names h (rw (k .size .board-benches) fit) may) refl refl
-
--- a record written anew is a job put on the board ..
-pub put-holds : (t u : List ℕ) (s : Size) (j : ℕ) (names : List ℕ) (h n : ℕ) → HoldsBoard t s → Fillable s j names h → HasLayout u s (withEntry (layoutIn t) j (entryFor names h n)) → Holds u s (put (decode t) j names h)
-put-holds t u s j names h n k f l =
-    let may = named-may names h (member-in h names (f .held)) in
-    written-holds t u s j (entryFor names h n) names h k l (holds-entry (s .benches) names h n (f .fit)) (holder-entry names h n may) (f .fit) may (two-paired names (f .pair))
-
--- .. and an emptied one a job taken away
-pub remove-holds : (t u : List ℕ) (s : Size) (j : ℕ) → HoldsBoard t s → JobIn s j → HasLayout u s (withEntry (layoutIn t) j vacant) → Holds u s (put (decode t) j [] 0)
-remove-holds t u s j k i l = written-holds t u s j vacant [] 0 k l refl refl tt tt tt
+-- .. with one that a record can hold too
+pub fillable-storable : {t : List ℕ} {s : Size} {j h : ℕ} {names : List ℕ} → HoldsBoard t s → Fillable s j names h → Storable (put (decode t) j names h)
+fillable-storable {t} {s} {j} {h} {names} k f =
+    put-storable (decode t) (k .storable) j names h (two-paired names (f .pair)) (rw (k .size .board-benches) (f .fit)) (named-may names h (member-in h names (f .held)))
 
 -- as the code chooses the holder word of a job that h holds: p is 1 if the first bench a is h, else 2
 abbrev pub PlaceFor : ℕ → ℕ → ℕ → Type 0

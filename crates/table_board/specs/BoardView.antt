@@ -15,11 +15,6 @@ pub record HoldsBoard (t : List ℕ) (s : Size) : Type 0 where
   pub size : SizeOf t s
   pub storable : Storable (decode t)
 
--- the records hold the board b
-pub record Holds (t : List ℕ) (s : Size) (b : Board) : Type 0 where
-  pub holdsBoard : HoldsBoard t s
-  pub board : decode t ≡ b
-
 -- k is a place in the list, counted from 1
 pub record Position (names : List ℕ) (k : ℕ) : Type 0 where
   pub least : 1 ≤ k

@@ -2,27 +2,26 @@
 use Prim.Native.Nat.{ℕ, zero, suc, _≤_}
 use native.Mathlib.Omega.{arith}
 use native.Mathlib.Decide.{ℕ-discrete}
-use mathlib.Core.Path.{_≡_, refl, sym, ap, _∙_, subst}
+use mathlib.Core.Path.{_≡_, refl, sym, ap, subst}
 use mathlib.Core.Logic.{inl, _↔_}
 use mathlib.Core.List.{List, [], _∷_}
 use lib.Dec.{T}
 use Rattle.spec_lists.specs.Lists.{within, distinct, In, nth}
-use Rattle.spec_table.specs.Board.{holderOf, stands, standing}
+use Rattle.spec_table.specs.Board.{holderOf, stands}
 use Rattle.spec_table.specs.Table.{Entry, chains, decode}
-use Rattle.spec_lists.proofs.Tests.{differ, within-both}
+use Rattle.spec_lists.proofs.Tests.{within-both}
 use Rattle.spec_lists.proofs.Elements.{in-each, in-nth}
 use Rattle.spec_lists.proofs.Counting.{distinct-count, few}
-use Rattle.spec_table.proofs.Sound.{Ends, standing-word, chain-ends, chain-from, on-chain}
+use Rattle.spec_table.proofs.Sound.{Ends, chain-ends, chain-from, on-chain}
 use Rattle.spec_table.proofs.ChainEnds.{ends-on, ends-next, ends-distinct}
 use Rattle.spec_table.proofs.Named.{holder-bench}
-use Rattle.table_board.proofs.RecordsAsBoard.{stands-job, stands-held}
+use Rattle.table_board.proofs.RecordsAsBoard.{stands-job}
 use Rattle.table_size.proofs.Sizes.{heads-long, board-bench}
 use Rattle.table_words.specs.Bytes.{layoutIn}
 use Rattle.table_size.specs.Sizes.{JobIn, BenchIn, SoundTable}
 use Rattle.table_records.specs.Records.{RecordOf}
 use Rattle.table_size.specs.Written.{HeadOf}
 use Rattle.table_records.specs.declared.Record.{Record}
-use Rattle.table_board.specs.BoardView.{HoldsBoard}
 use Rattle.table_chains.specs.Chains.{chainFrom, storedHead, storedNext, ChainOf, NextOf}
 use Rattle.table_size.specs.declared.Size.{Size}
 
@@ -109,10 +108,6 @@ next-chain t s (suc j) z p = ends-next es jobs j (ends-on es (suc jobs) jobs h (
 
 -- what was read
 
--- the number of standing jobs of a sound table
-pub standing-read : (t : List ℕ) (s : Size) (r : ℕ) → SoundTable t s → r ≡ (layoutIn t) .standing → r ≡ standing (decode t)
-standing-read t s r z e = e ∙ standing-word t (z .sound)
-
 -- bench x's head begins its chain
 pub first-read : (t : List ℕ) (s : Size) (x r : ℕ) → SoundTable t s → BenchIn s x → HeadOf t x r → ChainOf t s x r
 first-read t s x r z b h = subst (ChainOf t s x) (sym (h .head)) (first-chain t s x z b)
@@ -122,7 +117,3 @@ pub next-read : (t : List ℕ) (s : Size) (j : ℕ) (r : Record) → SoundTable 
 next-read t s j r z p f =
     let e : r .next ≡ storedNext t j = ap (λ (e : Entry). e .next) (f .entry) in
     record { stored = e; small = f .small .next; chain = rw e (next-chain t s j z p) }
-
--- a job that a bench holds stands
-pub held-stands : (t : List ℕ) (s : Size) (j x : ℕ) → HoldsBoard t s → 1 ≤ x → holderOf (decode t) j ≡ x → T (stands (decode t) j)
-held-stands t s j x k l e = rw (stands-held t s j k) ((differ (holderOf (decode t) j) 0) .0 (λ z. omega arith))

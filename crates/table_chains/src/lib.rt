@@ -3,7 +3,7 @@ ghost use mathlib.Core.Path.{_≡_};
 ghost use Prim.Native.Nat.{_+_};
 ghost use lib.Dec.{T};
 ghost use lib.ListN.{replicate};
-ghost use Rattle.spec_table.specs.Board.{stands, standing};
+ghost use Rattle.spec_table.specs.Board.{stands};
 ghost use Rattle.spec_table.specs.Table.{mostBenches, decode};
 ghost use Rattle.table_size.specs.Sizes.{JobIn, BenchIn, SoundTable};
 ghost use Rattle.table_board.specs.BoardView.{HoldsBoard};
@@ -11,14 +11,6 @@ ghost use Rattle.table_chains.specs.Chains.{ChainOf, StoredHeads, NextOf
 use table_board::jobs;
 use table_header::heads;
 use table_size::Size;
-
-// Reads the number of standing jobs.
-pub fn standing(t: &[u8], s: Size) -> usize
-    requires { ⌜ SoundTable (now t) s ⌝ }
-    ensures { λ r. ⌜ r ≡ standing (decode (now (t .entry))) ⌝ }
-{
-    table_header::standing_word(t, s)
-}
 
 // Reads the first job on bench x's chain, 0 for none.
 pub fn head(t: &[u8], s: Size, x: usize) -> usize

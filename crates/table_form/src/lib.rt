@@ -3,7 +3,7 @@
 // table, but the pair question, and each gets the loads from it.
 ghost use mathlib.Core.Path.{_≡_};
 ghost use Prim.Native.Nat.{_+_};
-ghost use lib.ListN.{replicate};
+ghost use lib.ListN.{length, replicate};
 ghost use Rattle.spec_table.specs.Table.{mostBenches};
 ghost use Rattle.table_form.specs.FormCheck.{FormOf};
 use table_refusals::Refusal;
@@ -19,14 +19,21 @@ pub enum Form {
     Sound(Size, bool),
 }
 
-// Checks any bytes. Where they are sound, `loads` gets the load of each bench.
-pub fn check(t: &[u8], loads: &mut [u16; Size::MOST_BENCHES + 1]) -> Form
+// Checks any bytes. Where they are sound, `loads` gets the load of each bench. `due` is lent, zeros at first, and free
+// afterwards: a call that searches need not clear another array.
+pub fn check_with(
+    t: &[u8],
+    due: &mut [u16; Size::MOST_BENCHES + 1],
+    loads: &mut [u16; Size::MOST_BENCHES + 1],
+) -> Form
+    requires { ⌜ now due ≡ replicate (mostBenches + 1) 0 ⌝ }
     requires { ⌜ now loads ≡ replicate (mostBenches + 1) 0 ⌝ }
+    ensures { λ _. ⌜ length (now (due .exit)) ≡ mostBenches + 1 ⌝ }
     ensures { λ r. ⌜ FormOf (now (t .entry)) (now (loads .exit)) r ⌝ }
 {
     match Size::of(t) {
         Sizing::Misfit => Form::Refused(Refusal::Sizes),
-        Sizing::Fit(s) => match table_rising::pass_over(t, s, loads) {
+        Sizing::Fit(s) => match table_rising::pass_over(t, s, due, loads) {
             Pass::Rising => Form::Sound(s, true),
             Pass::Ended(done, count) => {
                 if table_chain_form::is_formed(t, s, done, count, loads) {
@@ -37,4 +44,13 @@ pub fn check(t: &[u8], loads: &mut [u16; Size::MOST_BENCHES + 1]) -> Form
             }
         },
     }
+}
+
+// Checks any bytes, as `check_with` does.
+pub fn check(t: &[u8], loads: &mut [u16; Size::MOST_BENCHES + 1]) -> Form
+    requires { ⌜ now loads ≡ replicate (mostBenches + 1) 0 ⌝ }
+    ensures { λ r. ⌜ FormOf (now (t .entry)) (now (loads .exit)) r ⌝ }
+{
+    let mut due = [0; Size::MOST_BENCHES + 1];
+    check_with(t, &mut due, loads)
 }

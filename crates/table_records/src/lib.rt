@@ -4,7 +4,7 @@ ghost use Prim.Native.Nat.{_+_, _*_, _≤_, _<_};
 ghost use Rattle.spec_table.specs.Table.{holderIn};
 ghost use Rattle.table_words.specs.Bytes.{layoutIn};
 ghost use Rattle.table_size.specs.Sizes.{Limits, SizeOf, JobIn};
-ghost use Rattle.table_size.specs.Written.{recordIn, HasLayout, withEntry, withWord, withHolder, withNext};
+ghost use Rattle.table_size.specs.Written.{recordIn, HasLayout, withEntry, withNext};
 ghost use Rattle.table_records.specs.Records.{entryOf, RecordFits, RecordOf, NameAt};
 use table_size::Size;
 
@@ -83,29 +83,6 @@ pub fn write_record(t: &mut [u8], s: Size, j: usize, r: Record)
     table_words::write(t, at + 3, r.next);
 }
 
-// Writes word k of job j's record: 0 and 1 are the names, 2 the holder, 3 the next job.
-fn write_field(t: &mut [u8], s: Size, j: usize, k: usize, word: usize)
-    requires { ⌜ SizeOf (now t) s ⌝ }
-    requires { ⌜ JobIn s j ⌝ }
-    requires { ⌜ k < 4 ⌝ }
-    requires { ⌜ word < 65536 ⌝ }
-    ensures { λ _. ⌜ HasLayout (now (t .exit)) s
-        (withEntry (layoutIn (now (t .entry))) j (withWord k word (recordIn (now (t .entry)) j))) ⌝ }
-{
-    table_words::write(t, record_at(s, j) + k, word);
-}
-
-// Writes another holder word into job j's record.
-pub fn write_holder(t: &mut [u8], s: Size, j: usize, holder: usize)
-    requires { ⌜ SizeOf (now t) s ⌝ }
-    requires { ⌜ JobIn s j ⌝ }
-    requires { ⌜ holder < 65536 ⌝ }
-    ensures { λ _. ⌜ HasLayout (now (t .exit)) s
-        (withEntry (layoutIn (now (t .entry))) j (withHolder (recordIn (now (t .entry)) j) holder)) ⌝ }
-{
-    write_field(t, s, j, 2, holder);
-}
-
 // Writes another next word into job j's record.
 pub fn write_next(t: &mut [u8], s: Size, j: usize, next: usize)
     requires { ⌜ SizeOf (now t) s ⌝ }
@@ -114,5 +91,5 @@ pub fn write_next(t: &mut [u8], s: Size, j: usize, next: usize)
     ensures { λ _. ⌜ HasLayout (now (t .exit)) s
         (withEntry (layoutIn (now (t .entry))) j (withNext (recordIn (now (t .entry)) j) next)) ⌝ }
 {
-    write_field(t, s, j, 3, next);
+    table_words::write(t, record_at(s, j) + 3, next);
 }

@@ -1,27 +1,29 @@
 -- The pass, job by job, and what it shows at its end.
-use Prim.Native.Nat.{ℕ, suc, _+_, _≤_, _<_}
+use Prim.Native.Nat.{ℕ, suc, _+_, _*_, _≤_, _<_, max}
 use native.Mathlib.Omega.{arith}
 use native.Mathlib.Numerals.{add-one}
-use native.Mathlib.Decide.{ℕ-discrete}
 use mathlib.Core.Path.{_≡_, refl, sym, ap, subst, _∙_}
-use mathlib.Core.Logic.{inr, _≢_}
+use mathlib.Core.Logic.{inr, _≢_, _↔_}
 use mathlib.Core.Bool.{Bool}
 use mathlib.Core.List.{List}
-use lib.Dec.{T}
+use lib.Dec.{T, eqb}
 use lib.ListN.{length, getD, set, replicate, length-set, length-replicate}
 use lib.Seq.{getD-set-same, getD-set-other}
-use Rattle.spec_lists.specs.Lists.{In, nth, update}
-use Rattle.spec_lists.proofs.Tests.{Compared, same, other, compared}
+use Rattle.spec_lists.specs.Lists.{greatest, In, nth, update}
+use Rattle.spec_lists.proofs.Tests.{Compared, same, other, compared, T-eqb, eqb-T}
 use Rattle.spec_lists.proofs.Elements.{each-nth, each-replicate, length-update, nth-update-same, nth-update-other}
 use Rattle.spec_lists.proofs.NumberLists.{length-values, nth-range, values-same}
+use Rattle.spec_lists.proofs.Counting.{greatest-above, greatest-most}
 use Rattle.spec_table.specs.Board.{standing}
 use Rattle.spec_table.specs.Table.{mostBenches, words, Entry, vacant, filled, holderIn, entryFits, Layout, layoutOf, decode}
 use Rattle.spec_table.proofs.Sound.{fit-storable, standingFrom, standing-count, layout-pairs, two-benches, holder-within, holder-record}
+use Rattle.spec_table.proofs.Places.{word-at}
 use Rattle.table_words.specs.Bytes.{layoutIn}
 use Rattle.table_size.specs.Sizes.{SizeOf, BenchIn, ByBench}
 use Rattle.table_size.specs.Written.{recordIn, HeadsOf, withHeads, withStanding, cleared}
 use Rattle.table_size.specs.declared.Size.{Size}
 use Rattle.table_size.proofs.Sizes.{heads-long, zeros-by-bench}
+use Rattle.table_size.proofs.Written.{head-read}
 use Rattle.table_board.specs.BoardView.{HoldsBoard}
 use Rattle.table_board.proofs.RecordsAsBoard.{holders-long}
 use Rattle.table_records.specs.Records.{entryOf, RecordOf, NameAt}
@@ -32,7 +34,7 @@ use Rattle.table_record_form.proofs.KindOfRecord.{vacant-unheld, fitting-tests}
 use Rattle.table_record_form.proofs.Counted.{AllFit, counted-none, counted-pass, counted-turn, counted-end, counted-seen}
 use Rattle.table_chains.specs.Chains.{pushed, pushedFrom}
 use Rattle.table_chains.proofs.Rebuilding.{rebuild-layout, rebuild-bytes}
-use Rattle.table_rising.specs.Passing.{dueHeads, Before, Met, Unmet, Passed, NoneDue, Rising}
+use Rattle.table_rising.specs.Passing.{dueHeads, DueWords, Before, Met, Unmet, Passed, NoneDue, Rising}
 use Rattle.table_rising.proofs.Undoing.{undo-vacant, undo-standing}
 use Rattle.table_rising.proofs.LoadCounts.{LoadsTo, loads-start, loads-turn, loads-pass, loads-few, loads-end}
 
@@ -63,6 +65,13 @@ due-set s due x n b l = due-heads s (set due x n) (update old x n) (length-updat
 -- no job due at any
 due-none : (s : Size) (due : List ℕ) → NoneDue s due → replicate (s .benches) 0 ≡ dueHeads s due
 due-none s due z = due-heads s due (replicate (s .benches) 0) (length-replicate {A = ℕ} (s .benches) 0) (λ x b. each-nth (λ n. n ≡ 0) (replicate (s .benches) 0) x 0 refl (each-replicate (λ n. n ≡ 0) (s .benches) 0 refl) ∙ sym (z x b))
+
+-- the first jobs on the chains fit a word
+first-words : {t : List ℕ} {s : Size} {due : List ℕ} → SizeOf t s → HeadsOf t s due → ((i : ℕ) → getD t i 0 < 256) → DueWords s due
+first-words {t} {s} z h small x b =
+    let i : ℕ = 3 + x in
+    let w : getD (words t) i 0 < 65536 = omega (arith, word-at t i (omega (arith, z .long, b .most)), small (2 * i), small (2 * i + 1)) in
+    omega (arith, h .head x b, head-read t s x (getD (words t) i 0) z b (record { value = refl; small = w }) .head)
 
 -- records
 
@@ -102,6 +111,7 @@ module _ (s : Size) {t : List ℕ} {j : ℕ} {r : Record} (f : RecordOf t j r) (
           fits = read-fits;
           inTurn = ap (λ (y : ℕ). getD due y 0) (sym holder-there) ∙ u;
           next = λ i. set due (holder-there i) (n i);
+          word = omega (arith, n, f .small .next);
           load = λ i. set loads (holder-there i) (getD loads (holder-there i) 0 + 1);
         }
 
@@ -110,16 +120,18 @@ module _ (s : Size) {t : List ℕ} {j : ℕ} {r : Record} (f : RecordOf t j r) (
 -- the first `done` jobs were met, `count` of which stand: pushed again, from the jobs that are due now, they give the table's own chains
 pub record Meeting (t : List ℕ) (s : Size) (due loads : List ℕ) (count done : ℕ) : Type 0 where
   pub long : length due ≡ mostBenches + 1
+  pub words : DueWords s due
   pub chains : pushedFrom done (withHeads (layoutIn t) (dueHeads s due)) ≡ layoutIn t
   pub records : CountedTo t s done count
   pub loaded : LoadsTo ((decode t) .holders) done loads
   pub beyond : (x : ℕ) → s .benches < x → getD loads x 0 ≡ 0
 
 -- none was met: each chain's first job is due ..
-pub meeting-start : {t : List ℕ} {s : Size} {due loads : List ℕ} → SizeOf t s → HeadsOf t s due → loads ≡ replicate (mostBenches + 1) 0 → Meeting t s due loads 0 0
-meeting-start {t} {s} {due} {loads} z h e =
+pub meeting-start : {t : List ℕ} {s : Size} {due loads : List ℕ} → SizeOf t s → HeadsOf t s due → loads ≡ replicate (mostBenches + 1) 0 → ((i : ℕ) → getD t i 0 < 256) → Meeting t s due loads 0 0
+meeting-start {t} {s} {due} {loads} z h e small =
     record {
       long = h .byBench .long;
+      words = first-words z h small;
       chains = ap (withHeads (layoutIn t)) (sym (due-heads s due ((layoutIn t) .heads) (heads-long t s z) (λ x b. sym (h .head x b))));
       records = counted-none t s;
       loaded = rw e (loads-start ((decode t) .holders));
@@ -148,6 +160,7 @@ module _ {t : List ℕ} {s : Size} {due loads : List ℕ} {count done : ℕ} (z 
       rw (p, q)
       (record {
         long = m .long;
+        words = m .words;
         chains = rw add-one (ap (pushedFrom done) (undo-vacant (layoutIn t) (suc done) (dueHeads s due) (rw add-one at (vacant-unheld (s .benches) e k))) ∙ m .chains);
         records = counted-pass z (m .records) d k;
         loaded = loads-pass (m .loaded) fewer (sym (holder-record t (done + 1) ∙ vacant-unheld (s .benches) e k));
@@ -160,6 +173,7 @@ module _ {t : List ℕ} {s : Size} {due loads : List ℕ} {count done : ℕ} (z 
       rw (w .next, w .load)
       (record {
         long = length-set due h (e .next) ∙ m .long;
+        words = λ x b. now-word x b (compared h x);
         chains = ap (λ (k : ℕ). pushedFrom k met) (add-one done) ∙ ap (pushedFrom done) undone ∙ m .chains;
         records = counted-turn z (m .records) d (w .fits);
         loaded = loads-turn (m .loaded) h fewer (sym (holder-record t (done + 1))) (bench .least) (omega (arith, bench .most, z .limits .benches-most));
@@ -171,6 +185,13 @@ module _ {t : List ℕ} {s : Size} {due loads : List ℕ} {count done : ℕ} (z 
 
       bench : BenchIn s h
       bench = kind-bench t s (done + 1) (w .fits)
+
+      small : h < length due
+      small = omega (arith, m .long, bench .most, z .limits .benches-most)
+
+      now-word : (x : ℕ) → BenchIn s x → {y : Bool} → Compared h x y → getD (set due h (e .next)) x 0 < 65536
+      now-word x b (same q) = rw (← q) (omega (arith, getD-set-same due h (e .next) 0 small, w .word))
+      now-word x b (other n) = omega (arith, getD-set-other due h x (e .next) 0 (λ i. n (sym i)), m .words x b)
 
       heads : List ℕ
       heads = dueHeads s due
@@ -190,7 +211,7 @@ module _ {t : List ℕ} {s : Size} {due loads : List ℕ} {count done : ℕ} (z 
 
       undone : pushed (suc done) met ≡ withHeads (layoutIn t) heads
       undone =
-          ap (λ (l : List ℕ). pushed (suc done) (withHeads (layoutIn t) l)) (sym (due-set s due h (e .next) bench (omega (arith, m .long, bench .most, z .limits .benches-most))))
+          ap (λ (l : List ℕ). pushed (suc done) (withHeads (layoutIn t) l)) (sym (due-set s due h (e .next) bench small))
           ∙ ap (λ (j : ℕ). pushed j after) (sym (add-one done))
           ∙ undo-standing (layoutIn t) (done + 1) h heads refl (bench .least) (omega (arith, many, bench .most)) due-here
 
@@ -208,18 +229,22 @@ meeting-end {t} {s} {due} {loads} {count} {done} z m l =
 
 -- the end
 
--- at the benches before x no job is due
-pub record EndedTo (due : List ℕ) (x : ℕ) : Type 0 where
-  pub least : 1 ≤ x
-  pub none : (y : ℕ) → 1 ≤ y → y < x → getD due y 0 ≡ 0
+-- `most` is the greatest number that is due at benches 1 to `done`, of n benches
+pub record MostDue (due : List ℕ) (n most done : ℕ) : Type 0 where
+  pub few : done ≤ n
+  pub value : most ≡ greatest done (λ x. getD due x 0)
 
--- at one bench more
-pub ended-turn : {due : List ℕ} {x : ℕ} → EndedTo due x → getD due x 0 ≡ 0 → EndedTo due (x + 1)
-ended-turn {due} {x} m e =
-    record {
-      least = omega (arith, m .least);
-      none = λ y l u. elim (ℕ-discrete y x) [ yes q ↦ rw q e | no d ↦ m .none y l (omega arith) ];
-    }
+module _ {due : List ℕ} {n most done : ℕ} (m : MostDue due n most done) where
+  -- one bench more: the greater one of two ..
+  pub most-turn : {p : ℕ} → done < n → p ≡ max most (getD due (done + 1) 0) → MostDue due n p (done + 1)
+  most-turn l e = record { few = omega arith; value = rw add-one (cc (rw add-one at e, m .value)) }
+
+  -- .. and of all benches it is 0 exactly if no job is due
+  pub most-end : (s : Size) → n ≡ s .benches → n ≤ done → T (eqb most 0) ↔ NoneDue s due
+  most-end s e l = (
+    λ q x b. omega (arith, T-eqb most 0 q, m .value, greatest-above done (λ y. getD due y 0) x (b .least) (omega (arith, b .most))),
+    λ none. eqb-T most 0 (omega (arith, m .value, greatest-most done (λ y. getD due y 0) 0 (λ x i u. omega (arith, none x (record { least = i; most = omega (arith, m .few) }))))),
+  )
 
 -- all jobs were met ..
 module _ {t : List ℕ} {s : Size} {due loads : List ℕ} {n : ℕ} (z : SizeOf t s) (p : Passed t s due loads n) where

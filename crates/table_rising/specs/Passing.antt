@@ -22,17 +22,22 @@ use Rattle.table_rising.specs.declared.Pass.{Pass}
 abbrev pub dueHeads : Size → List ℕ → List ℕ
 dueHeads s due = map (λ x. getD due x 0) (range 1 (s .benches))
 
+-- every due job fits a word
+abbrev pub DueWords : Size → List ℕ → Type 0
+DueWords s due = (x : ℕ) → BenchIn s x → getD due x 0 < 65536
+
 -- loads before job j is met: no bench has more than the jobs before it
 pub record Before (s : Size) (j : ℕ) (loads : List ℕ) : Type 0 where
   pub long : length loads ≡ mostBenches + 1
   pub below : (x : ℕ) → BenchIn s x → getD loads x 0 < j
 
--- job j with the record e fits and was due at its holder: the next job on that chain is due now, and the holder has one
--- job more
+-- job j with the record e fits and was due at its holder: the next job on that chain, which fits a word, is due now,
+-- and the holder has one job more
 pub record Met (s : Size) (e : Entry) (j : ℕ) (due loads due₂ loads₂ : List ℕ) : Type 0 where
   pub fits : kindOf (s .benches) e ≡ Fitting
   pub inTurn : getD due (holderIn e) 0 ≡ j
   pub next : due₂ ≡ set due (holderIn e) (e .next)
+  pub word : e .next < 65536
   pub load : loads₂ ≡ set loads (holderIn e) (getD loads (holderIn e) 0 + 1)
 
 -- job j with the record e can't be met: the record does not fit, or another job is due at its holder
@@ -40,12 +45,12 @@ abbrev pub Unmet : Size → Entry → ℕ → List ℕ → Type 0
 Unmet s e j due =
     (kindOf (s .benches) e ≡ Unfit) ⊎ ((kindOf (s .benches) e ≡ Fitting) × (getD due (holderIn e) 0 ≢ j))
 
--- what is left of the due jobs and the loads after job j, by what is told of it: they stay where there is no such job;
--- where it does not fit or is not due, the pass ends, and the loads stay
+-- what is left of the due jobs and the loads after job j, by what is told of it: they stay where there is no such job,
+-- and where it does not fit or is not due, and the pass ends
 abbrev pub MetAs : Size → Entry → ℕ → List ℕ → List ℕ → List ℕ → List ℕ → Turn → Type 0
 MetAs s e j due loads due₂ loads₂ Turn.Vacant = (kindOf (s .benches) e ≡ Vacant) × (due₂ ≡ due) × (loads₂ ≡ loads)
 MetAs s e j due loads due₂ loads₂ Turn.Met = Met s e j due loads due₂ loads₂
-MetAs s e j due loads due₂ loads₂ Turn.NotMet = (loads₂ ≡ loads) × Unmet s e j due
+MetAs s e j due loads due₂ loads₂ Turn.NotMet = (due₂ ≡ due) × (loads₂ ≡ loads) × Unmet s e j due
 
 -- all jobs were met, n of which stand: pushed from the last down, from the jobs that are due now, they give the table's
 -- own chains; all records fit; and at each bench its load was counted

@@ -9,7 +9,16 @@ ghost use lib.ListN.{length, replicate};
 ghost use Rattle.spec_table.specs.Table.{mostBenches};
 ghost use Rattle.table_size.specs.Sizes.{SizeOf, JobIn, ByBench, Limits};
 ghost use Rattle.table_size.specs.Written.{recordIn, HeadsOf};
-ghost use Rattle.table_rising.specs.Passing.{Before, MetAs, ReachedAs, NoneDue, Encoded, AllInTurn, PassOf};
+ghost use Rattle.table_rising.specs.Passing.{
+  DueWords,
+  Before,
+  MetAs,
+  ReachedAs,
+  NoneDue,
+  Encoded,
+  AllInTurn,
+  PassOf,
+};
 use table_header::heads;
 use table_record_form::Kind;
 use table_size::Size;
@@ -51,6 +60,7 @@ fn meet(
     requires { ⌜ SizeOf (now t) s ⌝ }
     requires { ⌜ JobIn s j ⌝ }
     requires { ⌜ length (now due) ≡ mostBenches + 1 ⌝ }
+    requires { ⌜ DueWords s (now due) ⌝ }
     requires { ⌜ Before s j (now loads) ⌝ }
     ensures { λ r. ⌜ MetAs s (recordIn (now (t .entry)) j) j (now (due .entry)) (now (loads .entry))
         (now (due .exit)) (now (loads .exit)) r ⌝ }
@@ -63,7 +73,8 @@ fn meet(
         Kind::Unfit => Turn::NotMet,
         Kind::Fitting => {
             let x = table_records::name_at(t, s, j, place);
-            if due[x] != j as u16 {
+            // Compares in the width of the loop's counter: compiled, j needs no second one of 16 bits.
+            if due[x] as usize != j {
                 return Turn::NotMet;
             }
             due[x] = next as u16;
@@ -86,52 +97,62 @@ fn meet_all(
     ensures { λ r. ⌜ ReachedAs (now (t .entry)) s (now (due .exit)) (now (loads .exit)) r ⌝ }
     ensures { λ r. ⌜ (Encoded (now (t .entry)) s → AllInTurn s (now (due .exit)) r) ⌝ }
     ensures { λ _. ⌜ ByBench s (now (loads .exit)) ⌝ }
+    ensures { λ _. ⌜ length (now (due .exit)) ≡ mostBenches + 1 ⌝ }
 {
     let jobs = s.jobs();
     let mut count = 0;
     let mut done = 0;
     while done < jobs {
-        match meet(t, s, done + 1, due, loads) {
-            Turn::NotMet => return Reach::Part(done, count),
+        done += 1;
+        match meet(t, s, done, due, loads) {
+            Turn::NotMet => return Reach::Part(done - 1, count),
             Turn::Met => count += 1,
             Turn::Vacant => {}
         }
-        done += 1;
     }
     Reach::All(count)
 }
 
-// Tells whether no job is due.
+// Tells whether no job is due: whether the greatest number is 0. A loop without an exit of its own reads eight at once.
 fn none_due(s: Size, due: &[u16; Size::MOST_BENCHES + 1]) -> bool
     requires { ⌜ Limits s ⌝ }
     ensures { λ r. ⌜ (T r ↔ NoneDue s (now (due .entry))) ⌝ }
 {
     let benches = s.benches();
-    let mut x = 1;
-    while x <= benches {
-        if due[x] != 0 {
-            return false;
+    let mut most = 0;
+    let mut done = 0;
+    while done < benches {
+        done += 1;
+        let n = due[done];
+        if most < n {
+            most = n;
         }
-        x += 1;
     }
-    true
+    most == 0
 }
 
-// Makes the pass; where it gets through, the loads are the benches'.
-pub fn pass_over(t: &[u8], s: Size, loads: &mut [u16; Size::MOST_BENCHES + 1]) -> Pass
+// Makes the pass; where it gets through, the loads are the benches'. The jobs that are due stand in `due`, which is
+// lent: it is of no use afterwards.
+pub fn pass_over(
+    t: &[u8],
+    s: Size,
+    due: &mut [u16; Size::MOST_BENCHES + 1],
+    loads: &mut [u16; Size::MOST_BENCHES + 1],
+) -> Pass
     requires { ⌜ SizeOf (now t) s ⌝ }
+    requires { ⌜ now due ≡ replicate (mostBenches + 1) 0 ⌝ }
     requires { ⌜ now loads ≡ replicate (mostBenches + 1) 0 ⌝ }
+    ensures { λ _. ⌜ length (now (due .exit)) ≡ mostBenches + 1 ⌝ }
     ensures { λ r. ⌜ PassOf (now (t .entry)) s (now (loads .exit)) r ⌝ }
 {
-    if table_header::spare_word(t, s) != 0 {
-        return Pass::Ended(0, 0);
-    }
-    let mut due = [0; Size::MOST_BENCHES + 1];
-    heads::copy_heads(t, s, &mut due);
-    match meet_all(t, s, &mut due, loads) {
+    heads::copy_heads(t, s, due);
+    match meet_all(t, s, due, loads) {
         Reach::Part(done, count) => Pass::Ended(done, count),
         Reach::All(count) => {
-            if table_header::standing_word(t, s) == count && none_due(s, &due) {
+            if table_header::spare_word(t, s) == 0
+                && table_header::standing_word(t, s) == count
+                && none_due(s, due)
+            {
                 Pass::Rising
             } else {
                 Pass::Ended(s.jobs(), count)

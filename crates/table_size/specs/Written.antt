@@ -30,11 +30,7 @@ withWord (suc zero) w e = record { names = set (e .names) 1 w; holder = e .holde
 withWord (suc (suc zero)) w e = record { names = e .names; holder = w; next = e .next }
 withWord (suc (suc (suc k))) w e = record { names = e .names; holder = e .holder; next = w }
 
--- a record with another holder word ..
-abbrev pub withHolder : Entry → ℕ → Entry
-withHolder e h = record { names = e .names; holder = h; next = e .next }
-
--- .. and with another next job
+-- a record with another next job
 abbrev pub withNext : Entry → ℕ → Entry
 withNext e n = record { names = e .names; holder = e .holder; next = n }
 

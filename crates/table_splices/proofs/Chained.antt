@@ -19,8 +19,7 @@ use Rattle.table_size.specs.Sizes.{SizeOf, JobIn, BenchIn}
 use Rattle.table_size.specs.Written.{withEntry}
 use Rattle.table_size.specs.declared.Size.{Size}
 use Rattle.table_size.proofs.Sizes.{heads-long, entries-long}
-use Rattle.table_board.proofs.RecordsAsBoard.{sound-holds-board, holders-long}
-use Rattle.table_chains.proofs.ChainView.{held-stands}
+use Rattle.table_board.proofs.RecordsAsBoard.{sound-holds-board, holders-long, held-stands}
 use Rattle.table_order.specs.InOrder.{InOrder, TableOf}
 use Rattle.table_order.proofs.Ordered.{laid-in-order, in-order-laid-out, held-job}
 use Rattle.table_splices.specs.Splices.{LastBelow, linkedEntries, linked}
@@ -44,8 +43,8 @@ module _ {t : List ℕ} {s : Size} (o : InOrder t s) {j : ℕ} (job : JobIn s j)
   few = omega (arith, job .most, holders-long (o .sound .size))
 
   -- the last job below j that bench x holds is the place before j
-  pub place-before : {x p : ℕ} → BenchIn s x → LastBelow (decode t) s x j p → Before were x j p
-  place-before {x} {p} w l = go (ℕ-discrete p 0)
+  pub gap-before : {x p : ℕ} → BenchIn s x → LastBelow (decode t) s x j p → Before were x j p
+  gap-before {x} {p} w l = go (ℕ-discrete p 0)
     where
       last : (i : ℕ) → i < j → nth were i 0 ≡ x → i ≤ p
       last i u e = l .last i u (held-job o (w .least) e) e .1
@@ -129,5 +128,5 @@ module _ {t : List ℕ} {s : Size} (o : InOrder t s) {j : ℕ} (job : JobIn s j)
         go : InChain were x p → (p ≡ 0) ⊎ T (stands new p)
         go (inl e) = inl e
         go (inr e) =
-            let l = held-stands t s p x (sound-holds-board t s (o .sound)) (w .least) e in
+            let l = held-stands t s p (sound-holds-board t s (o .sound)) (λ z. omega (arith, w .least, e)) in
             inr (subst (λ (a : List ℕ). T (not (empty a))) (sym (nth-update-other ((decode t) .named) j p names [] (λ q. omega (arith, b .below)))) l)

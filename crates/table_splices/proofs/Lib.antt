@@ -1,5 +1,5 @@
--- The walk to a place in a chain, the link there written anew, and the chains after a change.
-pub mod Walking
+-- The walk to a gap in a chain, the link there written anew, and the chains after a change.
+pub mod ToGap
 pub mod Linking
 pub mod Chained
 pub mod Spliced

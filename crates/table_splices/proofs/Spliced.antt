@@ -24,18 +24,18 @@ use Rattle.table_size.proofs.Sizes.{heads-long, entries-long, bench-in, board-b
 use Rattle.table_records.specs.Records.{RecordOf}
 use Rattle.table_records.specs.declared.Record.{Record}
 use Rattle.table_board.specs.BoardView.{Fillable}
-use Rattle.table_board.proofs.RecordsAsBoard.{sound-holds-board, stands-job, PlaceFor, put-holds, remove-holds}
+use Rattle.table_board.proofs.RecordsAsBoard.{sound-holds-board, stands-job, PlaceFor, put-storable, fillable-storable}
 use Rattle.table_order.specs.InOrder.{InOrder, TableOf}
 use Rattle.table_order.proofs.Ordered.{in-order-laid-out, first-from-lowest}
-use Rattle.table_splices.specs.Splices.{PlaceOf, linked, inserted, Inserted}
-use Rattle.table_splices.specs.declared.Place.{Place}
+use Rattle.table_splices.specs.Splices.{GapOf, linked, inserted, Inserted}
+use Rattle.table_splices.specs.declared.Gap.{Gap}
 use Rattle.table_splices.proofs.Linking.{link-apart, entry-there, count-apart, linked-wide, linked-long}
-use Rattle.table_splices.proofs.Chained.{place-before, kept-chain, other-chain, put-chain, taken-chain, spliced, written, relinked}
+use Rattle.table_splices.proofs.Chained.{gap-before, kept-chain, other-chain, put-chain, taken-chain, spliced, written, relinked}
 
--- what is needed of a place
+-- what is needed of a gap
 
 -- the job before it is one of the table's ..
-pub before-few : {b : Board} {s : Size} {x j : ℕ} {p : Place} → PlaceOf b s x j p → p .before ≤ s .jobs
+pub before-few : {b : Board} {s : Size} {x j : ℕ} {p : Gap} → GapOf b s x j p → p .before ≤ s .jobs
 before-few {s} {p} f = go (ℕ-discrete (p .before) 0)
   where
     go : Dec (p .before ≡ 0) → p .before ≤ s .jobs
@@ -43,7 +43,7 @@ before-few {s} {p} f = go (ℕ-discrete (p .before) 0)
     go (no d) = f .before .found d .1 .most
 
 -- .. and the job behind it is a word
-pub behind-small : {b : Board} {s : Size} {x j : ℕ} {p : Place} → Limits s → PlaceOf b s x j p → p .behind < 65536
+pub behind-small : {b : Board} {s : Size} {x j : ℕ} {p : Gap} → Limits s → GapOf b s x j p → p .behind < 65536
 behind-small {p} z f = go (ℕ-discrete (p .behind) 0)
   where
     go : Dec (p .behind ≡ 0) → p .behind < 65536
@@ -57,17 +57,13 @@ pub fillable-bench : {s : Size} {j h : ℕ} {names : List ℕ} → Fillable s j 
 fillable-bench {s} {h} {names} f = bench-in s h (fit-bench (s .benches) names h (f .fit) (member-in h names (f .held)))
 
 -- its record is written and then the link to it
-pub put-in : {t u v : List ℕ} {s : Size} {j first second h w : ℕ} (place : Place) → InOrder t s → Fillable s j (first ∷ second ∷ []) h → PlaceFor first h w → HasLayout u s (withEntry (layoutIn t) j (record { names = first ∷ second ∷ []; holder = w; next = place .behind })) → HasLayout v s (linked (layoutIn u) h (place .before) j) → Inserted t v s j (first ∷ second ∷ []) h place
-put-in {t} {u} {v} {s} {j} {first} {second} {h} {w} place o f word one two =
+pub put-in : {t u v : List ℕ} {s : Size} {j first second h w : ℕ} (gap : Gap) → Fillable s j (first ∷ second ∷ []) h → PlaceFor first h w → HasLayout u s (withEntry (layoutIn t) j (record { names = first ∷ second ∷ []; holder = w; next = gap .behind })) → HasLayout v s (linked (layoutIn u) h (gap .before) j) → Inserted t v s j (first ∷ second ∷ []) h gap
+put-in {t} {u} {v} {s} {j} {first} {second} {h} {w} gap f word one two =
     let names : List ℕ = first ∷ second ∷ [] in
     let at : w ≡ positionOf h names = holder-two names h w refl (member-in h names (f .held)) word in
-    let written : layoutIn u ≡ withEntry (layoutIn t) j (entryFor names h (place .behind)) =
-    one .layout ∙ ap (λ (p : ℕ). withEntry (layoutIn t) j (record { names = names; holder = p; next = place .behind })) at in
-    let holds = put-holds t u s j names h (place .behind) (sound-holds-board t s (o .sound)) f (record { size = one .size; layout = written }) in
-    record {
-      layout = record { size = two .size; layout = two .layout ∙ ap (λ (l : Layout). linked l h (place .before) j) written };
-      storable = subst Storable (holds .board) (holds .holdsBoard .storable);
-    }
+    let written : layoutIn u ≡ withEntry (layoutIn t) j (entryFor names h (gap .behind)) =
+    one .layout ∙ ap (λ (p : ℕ). withEntry (layoutIn t) j (record { names = names; holder = p; next = gap .behind })) at in
+    record { layout = record { size = two .size; layout = two .layout ∙ ap (λ (l : Layout). linked l h (gap .before) j) written } }
 
 -- two names, one by one
 two-names : {names : List ℕ} → length names ≡ 2 → getD names 0 0 ∷ getD names 1 0 ∷ [] ≡ names
@@ -84,7 +80,7 @@ standing-few : {t : List ℕ} {s : Size} → InOrder t s → standing (decode t)
 standing-few {t} o = omega (arith, length-filter (λ (names : List ℕ). not (empty names)) ((decode t) .named), o .sound .size .board-jobs)
 
 -- .. so is what is read of it where a job was put in ..
-pub inserted-few : {t u : List ℕ} {s : Size} {j h n : ℕ} {names : List ℕ} {place : Place} → InOrder t s → Inserted t u s j names h place → n ≡ (layoutIn u) .standing → n ≤ s .jobs
+pub inserted-few : {t u : List ℕ} {s : Size} {j h n : ℕ} {names : List ℕ} {gap : Gap} → InOrder t s → Inserted t u s j names h gap → n ≡ (layoutIn u) .standing → n ≤ s .jobs
 inserted-few o p q = omega (arith, ap (λ (l : Layout). l .standing) (p .layout .layout), in-order-laid-out o .standing, standing-few o)
 
 -- .. and where one was taken out, which was counted
@@ -97,35 +93,35 @@ removed-few {t} {u} {v} {s} {n} j e x i m o p one two q =
     (omega (arith, same, less, ap bit (T→true (stands (decode t) j) p)), omega (arith, same, standing-few o))
 
 -- a job that comes: put in, and counted
-pub add-spliced : {t u v : List ℕ} {s : Size} {j h count : ℕ} {names : List ℕ} {place : Place} → InOrder t s → Fillable s j names h → stands (decode t) j ≡ false → PlaceOf (decode t) s h j place → Inserted t u s j (getD names 0 0 ∷ getD names 1 0 ∷ []) h place → count ≡ (layoutIn u) .standing → HasLayout v s (withStanding (layoutIn u) (count + 1)) → ((i : ℕ) → getD v i 0 < 256) → TableOf v s (put (decode t) j names h)
-add-spliced {t} {u} {v} {s} {j} {h} {count} {names} {place} o f free found two q counted bytes =
+pub add-spliced : {t u v : List ℕ} {s : Size} {j h count : ℕ} {names : List ℕ} {gap : Gap} → InOrder t s → Fillable s j names h → stands (decode t) j ≡ false → GapOf (decode t) s h j gap → Inserted t u s j (getD names 0 0 ∷ getD names 1 0 ∷ []) h gap → count ≡ (layoutIn u) .standing → HasLayout v s (withStanding (layoutIn u) (count + 1)) → ((i : ℕ) → getD v i 0 < 256) → TableOf v s (put (decode t) j names h)
+add-spliced {t} {u} {v} {s} {j} {h} {count} {names} {gap} o f free found two q counted bytes =
     spliced o job h names k (counted .size) bytes (withStanding m (count + 1)) (counted .layout ∙ ap (λ (l : Layout). withStanding l (count + 1)) (put-in .layout .layout)) number refl
-    (relinked o job h names k (length-update ((layoutIn t) .entries) j new ∙ entries-long t s (o .sound .size)) (written o job h names k (place .behind)) bench before j)
+    (relinked o job h names k (length-update ((layoutIn t) .entries) j new ∙ entries-long t s (o .sound .size)) (written o job h names k (gap .behind)) bench before j)
     links
   where
     job : JobIn s j
     job = f .job
 
-    put-in : Inserted t u s j names h place
-    put-in = subst (λ (l : List ℕ). Inserted t u s j l h place) (two-names (f .pair)) two
+    put-in : Inserted t u s j names h gap
+    put-in = subst (λ (l : List ℕ). Inserted t u s j l h gap) (two-names (f .pair)) two
 
     k : Storable (put (decode t) j names h)
-    k = put-in .storable
+    k = fillable-storable (sound-holds-board t s (o .sound)) f
 
     bench : BenchIn s h
     bench = fillable-bench f
 
-    before : Before ((decode t) .holders) h j (place .before)
-    before = place-before o job h bench (found .before)
+    before : Before ((decode t) .holders) h j (gap .before)
+    before = gap-before o job h bench (found .before)
 
     some : T (not (empty names))
     some = not-T (empty names) (λ e. empty-in h names e (member-in h names (f .held)))
 
     new : Entry
-    new = entryFor names h (place .behind)
+    new = entryFor names h (gap .behind)
 
     m : Layout
-    m = inserted (layoutIn t) j names h place
+    m = inserted (layoutIn t) j names h gap
 
     free-job : holderOf (decode t) j ≡ 0
     free-job = holder-none (decode t) (o .sound .storable .valid) j (is-empty (namesOf (decode t) j) (false→not (stands (decode t) j) free))
@@ -135,7 +131,7 @@ add-spliced {t} {u} {v} {s} {j} {h} {count} {names} {place} o f free found two q
         omega (arith, q, ap (λ (l : Layout). l .standing) (put-in .layout .layout), in-order-laid-out o .standing, standing-put (decode t) j names h (job .least) (omega (arith, job .most, o .sound .size .board-jobs)), ap bit free, ap bit (T→true (not (empty names)) some))
 
     behind : Lowest ((decode t) .holders) h j (new .next)
-    behind = rw (entry-next names h (place .behind) some) (first-from-lowest o (bench .least) (found .behind))
+    behind = rw (entry-next names h (gap .behind) some) (first-from-lowest o (bench .least) (found .behind))
 
     links : (x : ℕ) → BenchIn s x → Linked (update ((decode t) .holders) j h) x (linkIn (withStanding m (count + 1)) x)
     links x w i c = rw (count-apart m (count + 1) x i) (go (ℕ-discrete x h) i c)
@@ -157,8 +153,8 @@ record-link {j = zero} x l f = absurd (omega arith)
 record-link {j = suc k} x l f = ap (λ (e : Entry). e .next) (f .entry)
 
 -- a job that goes: its record emptied, the link before it leads on, and it is not counted
-pub remove-spliced : {t u v w : List ℕ} {s : Size} {j x count : ℕ} {place : Place} {gone : Record} → InOrder t s → T (stands (decode t) j) → x ≡ holderOf (decode t) j → PlaceOf (decode t) s x j place → RecordOf t j gone → HasLayout u s (withEntry (layoutIn t) j vacant) → HasLayout v s (linked (layoutIn u) x (place .before) (gone .next)) → count ≡ (layoutIn v) .standing → HasLayout w s (withStanding (layoutIn v) (count - 1)) → ((i : ℕ) → getD w i 0 < 256) → TableOf w s (put (decode t) j [] 0)
-remove-spliced {t} {u} {v} {w} {s} {j} {x} {count} {place} {gone} o p held found next one two q three bytes =
+pub remove-spliced : {t u v w : List ℕ} {s : Size} {j x count : ℕ} {gap : Gap} {gone : Record} → InOrder t s → T (stands (decode t) j) → x ≡ holderOf (decode t) j → GapOf (decode t) s x j gap → RecordOf t j gone → HasLayout u s (withEntry (layoutIn t) j vacant) → HasLayout v s (linked (layoutIn u) x (gap .before) (gone .next)) → count ≡ (layoutIn v) .standing → HasLayout w s (withStanding (layoutIn v) (count - 1)) → ((i : ℕ) → getD w i 0 < 256) → TableOf w s (put (decode t) j [] 0)
+remove-spliced {t} {u} {v} {w} {s} {j} {x} {count} {gap} {gone} o p held found next one two q three bytes =
     spliced o job 0 [] k (three .size) bytes (withStanding m (count - 1)) (three .layout ∙ ap (λ (l : Layout). withStanding l (count - 1)) linked-on) number refl
     (relinked o job 0 [] k entries (written o job 0 [] k 0) bench before (gone .next))
     links
@@ -169,8 +165,8 @@ remove-spliced {t} {u} {v} {w} {s} {j} {x} {count} {place} {gone} o p held found
     bench : BenchIn s x
     bench = holder-in j o p held
 
-    before : Before ((decode t) .holders) x j (place .before)
-    before = place-before o job 0 bench (found .before)
+    before : Before ((decode t) .holders) x j (gap .before)
+    before = gap-before o job 0 bench (found .before)
 
     empty-record : Layout
     empty-record = withEntry (layoutIn t) j vacant
@@ -179,13 +175,13 @@ remove-spliced {t} {u} {v} {w} {s} {j} {x} {count} {place} {gone} o p held found
     entries = length-update ((layoutIn t) .entries) j vacant ∙ entries-long t s (o .sound .size)
 
     m : Layout
-    m = linked empty-record x (place .before) (gone .next)
+    m = linked empty-record x (gap .before) (gone .next)
 
     linked-on : layoutIn v ≡ m
-    linked-on = two .layout ∙ ap (λ (l : Layout). linked l x (place .before) (gone .next)) (one .layout)
+    linked-on = two .layout ∙ ap (λ (l : Layout). linked l x (gap .before) (gone .next)) (one .layout)
 
     k : Storable (put (decode t) j [] 0)
-    k = let r = remove-holds t u s j (sound-holds-board t s (o .sound)) job one in subst Storable (r .board) (r .holdsBoard .storable)
+    k = put-storable (decode t) (o .sound .storable) j [] 0 tt tt tt
 
     number : count - 1 ≡ standing (put (decode t) j [] 0)
     number =
@@ -234,7 +230,7 @@ hand-same {t} {s} j {y} o e =
     record { inOrder = o; board = ap (heldBy (decode t)) back }
 
 -- handed to another it is put in there, and the link before it in the chain that it was in leads on
-pub hand-spliced : {t u v : List ℕ} {s : Size} {j x y : ℕ} {from to : Place} {was : Record} → InOrder t s → T (member y (namesOf (decode t) j)) → x ≡ holderOf (decode t) j → x ≢ y → RecordOf t j was → PlaceOf (decode t) s x j from → PlaceOf (decode t) s y j to → Inserted t u s j (was .first ∷ was .second ∷ []) y to → HasLayout v s (linked (layoutIn u) x (from .before) (was .next)) → ((i : ℕ) → getD v i 0 < 256) → TableOf v s (heldBy (decode t) (update ((decode t) .holders) j y))
+pub hand-spliced : {t u v : List ℕ} {s : Size} {j x y : ℕ} {from to : Gap} {was : Record} → InOrder t s → T (member y (namesOf (decode t) j)) → x ≡ holderOf (decode t) j → x ≢ y → RecordOf t j was → GapOf (decode t) s x j from → GapOf (decode t) s y j to → Inserted t u s j (was .first ∷ was .second ∷ []) y to → HasLayout v s (linked (layoutIn u) x (from .before) (was .next)) → ((i : ℕ) → getD v i 0 < 256) → TableOf v s (heldBy (decode t) (update ((decode t) .holders) j y))
 hand-spliced {t} {u} {v} {s} {j} {x} {y} {from} {to} {was} o member held apart read found-from found-to put-in last bytes =
     subst (TableOf v s) same-names
     (spliced o job y names k (last .size) bytes m ahead number spare
@@ -257,13 +253,13 @@ hand-spliced {t} {u} {v} {s} {j} {x} {y} {from} {to} {was} o member held apart r
     next-bench = name-bench j y o member
 
     before : Before ((decode t) .holders) x j (from .before)
-    before = place-before o job y bench (found-from .before)
+    before = gap-before o job y bench (found-from .before)
 
     next-before : Before ((decode t) .holders) y j (to .before)
-    next-before = place-before o job y next-bench (found-to .before)
+    next-before = gap-before o job y next-bench (found-to .before)
 
     k : Storable (put (decode t) j names y)
-    k = put-in .storable
+    k = fillable-storable (sound-holds-board t s (o .sound)) (record-fillable o member read)
 
     new : Entry
     new = entryFor names y (to .behind)

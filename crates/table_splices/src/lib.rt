@@ -13,23 +13,23 @@ ghost use Rattle.table_size.specs.Sizes.{SizeOf, BenchIn};
 ghost use Rattle.table_size.specs.Written.{HasLayout};
 ghost use Rattle.table_board.specs.BoardView.{Fillable};
 ghost use Rattle.table_order.specs.InOrder.{InOrder, TableOf};
-ghost use Rattle.table_splices.specs.Splices.{PlaceOf, linked, Inserted};
+ghost use Rattle.table_splices.specs.Splices.{GapOf, linked, Inserted};
 use table_board::jobs;
 use table_header::heads;
 use table_records::Record;
 use table_size::Size;
 
 // Where a job belongs in a bench's chain: the job before it and the job behind it, 0 for none.
-struct Place {
+struct Gap {
     before: usize,
     behind: usize,
 }
 
 // Finds where job j belongs in bench x's chain: after the last job below j, before the first one from j on.
-fn find_place(t: &[u8], s: Size, x: usize, j: usize) -> Place
+fn find_gap(t: &[u8], s: Size, x: usize, j: usize) -> Gap
     requires { ⌜ InOrder (now t) s ⌝ }
     requires { ⌜ BenchIn s x ⌝ }
-    ensures { λ r. ⌜ PlaceOf (decode (now (t .entry))) s x j r ⌝ }
+    ensures { λ r. ⌜ GapOf (decode (now (t .entry))) s x j r ⌝ }
 {
     let mut before = 0;
     let mut behind = table_order::first_job(t, s, x);
@@ -37,7 +37,7 @@ fn find_place(t: &[u8], s: Size, x: usize, j: usize) -> Place
         before = behind;
         behind = table_order::next_job(t, s, before);
     }
-    Place { before, behind }
+    Gap { before, behind }
 }
 
 // Writes job n after job i in bench x's chain, or at its front where i is 0.
@@ -56,11 +56,11 @@ fn link(t: &mut [u8], s: Size, x: usize, i: usize, n: usize)
 }
 
 // Writes job j with these two benches and this holder, in front of the job behind it, and the link to it.
-fn insert(t: &mut [u8], s: Size, j: usize, first: usize, second: usize, holder: usize, place: Place)
+fn insert(t: &mut [u8], s: Size, j: usize, first: usize, second: usize, holder: usize, gap: Gap)
     requires { ⌜ InOrder (now t) s ⌝ }
     requires { ⌜ Fillable s j (first ∷ second ∷ []) holder ⌝ }
-    requires { ⌜ PlaceOf (decode (now t)) s holder j place ⌝ }
-    ensures { λ _. ⌜ Inserted (now (t .entry)) (now (t .exit)) s j (first ∷ second ∷ []) holder place ⌝ }
+    requires { ⌜ GapOf (decode (now t)) s holder j gap ⌝ }
+    ensures { λ _. ⌜ Inserted (now (t .entry)) (now (t .exit)) s j (first ∷ second ∷ []) holder gap ⌝ }
 {
     let word = if first == holder { 1 } else { 2 };
     table_records::write_record(
@@ -71,10 +71,10 @@ fn insert(t: &mut [u8], s: Size, j: usize, first: usize, second: usize, holder: 
             first,
             second,
             holder: word,
-            next: place.behind,
+            next: gap.behind,
         },
     );
-    link(t, s, holder, place.before, j);
+    link(t, s, holder, gap.before, j);
 }
 
 // Writes job j, which does not stand, with these benches and this holder.
@@ -84,8 +84,8 @@ pub fn add_job(t: &mut [u8], s: Size, j: usize, names: &[usize], holder: usize)
     requires { ⌜ stands (decode (now t)) j ≡ false ⌝ }
     ensures { λ _. ⌜ TableOf (now (t .exit)) s (put (decode (now (t .entry))) j (now (names .entry)) holder) ⌝ }
 {
-    let place = find_place(t, s, holder, j);
-    insert(t, s, j, names[0], names[1], holder, place);
+    let gap = find_gap(t, s, holder, j);
+    insert(t, s, j, names[0], names[1], holder, gap);
     let count = table_header::standing_word(t, s);
     table_header::write_standing(t, s, count + 1);
 }
@@ -97,7 +97,7 @@ pub fn remove_job(t: &mut [u8], s: Size, j: usize)
     ensures { λ _. ⌜ TableOf (now (t .exit)) s (put (decode (now (t .entry))) j [] 0) ⌝ }
 {
     let x = jobs::holder(t, s, j);
-    let place = find_place(t, s, x, j);
+    let gap = find_gap(t, s, x, j);
     let old = table_records::read_record(t, s, j);
     table_records::write_record(
         t,
@@ -110,7 +110,7 @@ pub fn remove_job(t: &mut [u8], s: Size, j: usize)
             next: 0,
         },
     );
-    link(t, s, x, place.before, old.next);
+    link(t, s, x, gap.before, old.next);
     let count = table_header::standing_word(t, s);
     table_header::write_standing(t, s, count - 1);
 }
@@ -127,8 +127,8 @@ pub fn hand_job(t: &mut [u8], s: Size, j: usize, y: usize)
         return;
     }
     let old = table_records::read_record(t, s, j);
-    let from = find_place(t, s, x, j);
-    let to = find_place(t, s, y, j);
+    let from = find_gap(t, s, x, j);
+    let to = find_gap(t, s, y, j);
     insert(t, s, j, old.first, old.second, y, to);
     link(t, s, x, from.before, old.next);
 }

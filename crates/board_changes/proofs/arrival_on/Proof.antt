@@ -15,7 +15,7 @@ returns : tie.Need-returns
 returns c =
     let start = c .before .before .before in
     let a = start .args in
-    arrival-number (start .pre .sound) (a .job) (a .first) (a .second) (c .before .has-job .ensures) (c .if1 .taken)
+    arrival-number (start .pre .0 .sound) (a .job) (a .first) (a .second) (c .before .has-job .ensures) (c .if1 .taken)
 
 has-bench-requires : tie.Need-has-bench-requires
 has-bench-requires c κs = search needs
@@ -28,14 +28,14 @@ returns-2 c =
     let numbered = c .before .before in
     let start = numbered .before .before .before in
     let a = start .args in
-    arrival-bench (start .pre .sound) (a .job) (a .first) (a .second) (numbered .before .has-job .ensures) (numbered .if1 .left)
-    (⊎-elim (λ w. inl (bench-wrong (start .pre .sound) (a .first) (c .before .has-bench .ensures) (w .taken))) (⊎-elim (λ w. inr (inl (bench-wrong (start .pre .sound) (a .second) (w .1 .ensures) (w .2 .taken)))) (λ w. inr (inr (eqb-true (a .first) (a .second) (w .3 .taken))))) (c .if2 .came))
+    arrival-bench (start .pre .0 .sound) (a .job) (a .first) (a .second) (numbered .before .has-job .ensures) (numbered .if1 .left)
+    (⊎-elim (λ w. inl (bench-wrong (start .pre .0 .sound) (a .first) (c .before .has-bench .ensures) (w .taken))) (⊎-elim (λ w. inr (inl (bench-wrong (start .pre .0 .sound) (a .second) (w .1 .ensures) (w .2 .taken)))) (λ w. inr (inr (eqb-true (a .first) (a .second) (w .3 .taken))))) (c .if2 .came))
 
 stands-requires : tie.Need-stands-requires
 stands-requires c κs =
     let numbered = c .before .before .before .before .before .before in
     let start = numbered .before .before .before in
-    readable (start .pre .sound) (start .args .job) (numbered .before .has-job .ensures) (numbered .if1 .left)
+    readable (start .pre .0 .sound) (start .args .job) (numbered .before .has-job .ensures) (numbered .if1 .left)
 
 -- the numbers passed
 passes : (c : tie.Else4) → let a = c .before .before .before .before .before .before .before .before .args in Numbered (decode (a .t .now)) (a .job) (a .first) (a .second)
@@ -45,7 +45,7 @@ passes c =
     let numbered = first .before in
     let start = numbered .before .before .before in
     let a = start .args in
-    arrival-numbered (start .pre .sound) (a .job) (a .first) (a .second) (numbered .before .has-job .ensures) (numbered .if1 .left) (first .has-bench .ensures) (second .before .if2 .left) (second .has-bench2 .ensures) (c .before .if3 .left) (c .if4 .left)
+    arrival-numbered (start .pre .0 .sound) (a .job) (a .first) (a .second) (numbered .before .has-job .ensures) (numbered .if1 .left) (first .has-bench .ensures) (second .before .if2 .left) (second .has-bench2 .ensures) (c .before .if3 .left) (c .if4 .left)
 
 same-length : tie.Need-same-length
 same-length c = search needs
@@ -55,7 +55,7 @@ returns-3 c =
     let tested = c .before .before .before in
     let start = tested .before .before .before .before .before .before .before .before in
     let a = start .args in
-    arrival-standing (start .pre .sound) (a .job) (a .first) (a .second) (passes tested) (c .before .stands .ensures) (c .if5 .taken)
+    arrival-standing (start .pre .0 .sound) (a .job) (a .first) (a .second) (passes tested) (c .before .stands .ensures) (c .if5 .taken)
 
 -- and no such job stands
 may : (c : tie.Else5) → let a = c .before .before .before .before .before .before .before .before .before .before .before .args in MayArrive (decode (a .t .now)) (arriving (a .job) (a .first) (a .second))
@@ -63,19 +63,19 @@ may c = may-arrive (passes (c .before .before .before)) (c .before .stands .ensu
 
 arrive-requires : tie.Need-arrive-requires
 arrive-requires c κs =
-    let free = c .before .before in
+    let free = c .before .before .before in
     let start = free .before .before .before .before .before .before .before .before .before .before .before in
-    (start .pre .sound, (start .pre .bytes, (may free, start .pre .loaded)))
+    (start .pre .0 .sound, (start .pre .0 .bytes, (may free, (start .pre .0 .loaded, start .pre .1))))
 
 same-length-2 : tie.Need-same-length-2
 same-length-2 c = search needs
 
 returns-4 : tie.Need-returns-4
 returns-4 c =
-    let free = c .before .before .before .before .before in
+    let free = c .before .before .before .before .before .before in
     let start = free .before .before .before .before .before .before .before .before .before .before .before in
     let a = start .args in
-    arrival-left (start .pre .sound) (a .job) (a .first) (a .second) (may free) (c .before .before .arrive .ensures)
+    arrival-left (start .pre .0 .sound) (a .job) (a .first) (a .second) (may free) (c .before .before .arrive .ensures)
 
 pub arrival-on-spec : {M : Type 1} → statement M
 arrival-on-spec =

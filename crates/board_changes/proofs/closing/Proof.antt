@@ -8,8 +8,11 @@ use Rattle.board_changes.proofs.closing.Tie as tie
 benches-requires : tie.Need-benches-requires
 benches-requires c κs = search needs
 
-check-requires : tie.Need-check-requires
-check-requires c κs = search needs
+benches-requires-2 : tie.Need-benches-requires-2
+benches-requires-2 c κs = search needs
+
+check-with-requires : tie.Need-check-with-requires
+check-with-requires c κs = search needs
 
 enum-known-r : tie.Need-enum-known-r
 enum-known-r c = search needs
@@ -19,14 +22,14 @@ enum-known-s c = search needs
 
 closing-on-requires : tie.Need-closing-on-requires
 closing-on-requires c κs =
-    let found = rw (c .before .before .before .s .given .1) at (c .before .before .before .before .before .check .ensures .says) in
-    found
+    let checked = c .before .before .before .before .before .before .check-with .ensures in
+    (rw (c .before .before .before .before .s .given .1) at (checked .1 .says), checked .0)
 
 same-length : tie.Need-same-length
 same-length c = search needs
 
 returns : tie.Need-returns
-returns c = form-refused _ (closing _) tt _ (rw (c .before .r .given .1) at (c .before .before .before .check .ensures .says))
+returns c = form-refused _ (closing _) tt _ (rw (c .before .r .given .1) at (c .before .before .before .check-with .ensures .1 .says))
 
 same-length-2 : tie.Need-same-length-2
 same-length-2 c = search needs
@@ -39,7 +42,8 @@ closing-spec =
     tie.close
     (tie.spec
     benches-requires
-    check-requires
+    benches-requires-2
+    check-with-requires
     enum-known-r
     enum-known-s
     closing-on-requires

@@ -7,9 +7,9 @@ use Rattle.sharing_arrival.proofs.arrive.Tie as tie
 
 arrive-in-order-requires : tie.Need-arrive-in-order-requires
 arrive-in-order-requires c κs =
-    let start = c .before .before .before .before in
-    let (z, (rises, (p, l))) = start .pre in
-    (rising-table z (rises .0 (true→T (start .args .rising) (c .before .before .if1 .taken))) .inOrder, (p, l))
+    let start = c .before .before .before .before .before in
+    let (z, (rises, rest)) = start .pre in
+    (rising-table z (rises .0 (true→T (start .args .rising) (c .before .before .before .if1 .taken))) .inOrder, rest)
 
 bytes-requires : tie.Need-bytes-requires
 bytes-requires c κs = c .before .before .pre .0 .size .limits
@@ -25,8 +25,8 @@ part-copy-end c = search needs
 
 arrive-in-copy-requires : tie.Need-arrive-in-copy-requires
 arrive-in-copy-requires c κs =
-    let (z, (rises, (p, l))) = c .before .before .before .before .before .before .pre in
-    (z, (p, (l, room-long (z .size) (c .before .before .before .bytes .ensures))))
+    let (z, (rises, (p, (l, long)))) = c .before .before .before .before .before .before .before .pre in
+    (z, (p, (l, (long, room-long (z .size) (c .before .before .before .before .bytes .ensures)))))
 
 same-length : tie.Need-same-length
 same-length c = search needs

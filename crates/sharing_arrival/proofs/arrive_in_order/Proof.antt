@@ -3,7 +3,6 @@ use mathlib.Core.Path.{refl}
 use mathlib.Core.Logic.{inl, inr}
 use borrow.Author.Needs.{needs}
 use Rattle.spec_table.specs.Table.{decode}
-use Rattle.graph_lists.proofs.Listing.{array-long}
 use Rattle.sharing_arrival.proofs.Arriving.{named-within}
 use Rattle.sharing_arrival.proofs.arrive_in_order.Statement.{statement}
 use Rattle.sharing_arrival.proofs.arrive_in_order.Tie as tie
@@ -13,20 +12,17 @@ lighter-requires c κs =
     let pre = c .before .before .pre in
     (named-within (pre .0 .sound) (pre .1 .0) (inl refl), named-within (pre .0 .sound) (pre .1 .0) (inr (inl refl)))
 
-benches-requires : tie.Need-benches-requires
-benches-requires c κs = search needs
-
 find-arrival-requires : tie.Need-find-arrival-requires
 find-arrival-requires c κs =
-    let got = c .before .before .before .before in
+    let got = c .before .before .before in
     let start = got .before .before .before in
-    let pre = start .pre in
-    (pre .0, (pre .1 .0, (pre .1 .1, (got .lighter .ensures (decode (start .args .t .now)) (pre .1 .1), array-long 0 (c .before .before .before .benches .ensures)))))
+    let (o, (m, (l, long))) = start .pre in
+    (o, (m, (l, (got .lighter .ensures (decode (start .args .t .now)) l, long))))
 
 apply-arrival-requires : tie.Need-apply-arrival-requires
 apply-arrival-requires c κs =
     let found = c .before .before in
-    let pre = found .before .before .before .before .before .before .before .before .pre in
+    let pre = found .before .before .before .before .before .before .before .pre in
     (pre .0, (pre .1 .0, found .find-arrival .ensures))
 
 same-length : tie.Need-same-length
@@ -40,7 +36,6 @@ arrive-in-order-spec =
     tie.close
     (tie.spec
     lighter-requires
-    benches-requires
     find-arrival-requires
     apply-arrival-requires
     same-length

@@ -8,9 +8,10 @@ use Rattle.sharing_levelling.proofs.is_level.Tie as tie
 
 first-start-requires : tie.Need-first-start-requires
 first-start-requires c κs =
-    let pre = c .before .before .pre in
-    let o = rising-table (pre .0) (pre .1 .0 .0 (true→T (c .before .before .args .rising) (c .if1 .taken))) .inOrder in
-    (o, (order-loads o (pre .1 .1), pre .1 .1))
+    let start = c .before .before .before in
+    let pre = start .pre in
+    let o = rising-table (pre .0) (pre .1 .0 .0 (true→T (start .args .rising) (c .before .if1 .taken))) .inOrder in
+    (o, (order-loads o (pre .1 .1 .0), (pre .1 .1 .0, pre .1 .1 .1)))
 
 bytes-requires : tie.Need-bytes-requires
 bytes-requires c κs = c .before .before .pre .0 .size .limits
@@ -26,13 +27,14 @@ part-copy-end c = search needs
 
 is-level-copy-requires : tie.Need-is-level-copy-requires
 is-level-copy-requires c κs =
-    let pre = c .before .before .before .before .pre in
-    (pre .0, (pre .1 .1, room-long (pre .0 .size) (c .before .bytes .ensures)))
+    let pre = c .before .before .before .before .before .pre in
+    (pre .0, (pre .1 .1 .0, (pre .1 .1 .1, room-long (pre .0 .size) (c .before .before .bytes .ensures))))
 
 returns : tie.Need-returns
 returns c =
-    let pre = c .before .before .before .pre in
-    copy-level (rising-table (pre .0) (pre .1 .0 .0 (true→T (c .before .before .before .args .rising) (c .before .if1 .taken)))) (c .first-start .ensures)
+    let start = c .before .before .before .before in
+    let pre = start .pre in
+    copy-level (rising-table (pre .0) (pre .1 .0 .0 (true→T (start .args .rising) (c .before .before .if1 .taken)))) (c .first-start .ensures .0)
 
 returns-2 : tie.Need-returns-2
 returns-2 c = c .before .is-level-copy .ensures

@@ -6,34 +6,31 @@ use mathlib.Core.Logic.{⊎-elim}
 use borrow.Author.Needs.{needs}
 use borrow.Author.Tests.{ltb-true, ltb-false}
 use Rattle.spec_table.specs.Table.{decode}
-use Rattle.graph_lists.proofs.Listing.{array-long}
 use Rattle.table_copies.proofs.Ordering.{table-loaded}
 use Rattle.sharing_levelling.proofs.Flipping.{order-loads, same-board, Shifts, Flipping, flipping-start, flipping-few, flipping-route, flipping-order, flipping-shifts, flipping-turn, flipping-end}
 use Rattle.sharing_levelling.proofs.relevel.Statement.{statement}
 use Rattle.sharing_levelling.proofs.relevel.Tie as tie
 
 abbrev Inv-loop : tie.InvT-loop
-Inv-loop t₀ s rising loads₀ allowance path₀ paths₀ x₀ t loads path paths x = Flipping (decode t₀) t s allowance loads path paths x
+Inv-loop t₀ s rising loads₀ path₀ allowance paths₀ x₀ t loads path paths x = Flipping (decode t₀) t s allowance loads path paths x
 
 abbrev μ-loop : tie.MeasureT-loop
-μ-loop t₀ s rising loads₀ allowance path₀ paths₀ x₀ t loads path paths x = allowance - paths
+μ-loop t₀ s rising loads₀ path₀ allowance paths₀ x₀ t loads path paths x = allowance - paths
 
 put-in-order-requires : tie.Need-put-in-order-requires Inv-loop μ-loop
 put-in-order-requires c κs = search needs
 
-benches-requires : tie.Need-benches-requires Inv-loop μ-loop
-benches-requires c κs = search needs
-
 first-start-requires : tie.Need-first-start-requires Inv-loop μ-loop
 first-start-requires c κs =
+    let pre = c .before .before .before .before .before .before .before .before .pre in
     let table = c .before .before .before .before .before .put-in-order .ensures in
-    let l = table-loaded table (c .before .before .before .before .before .before .before .before .pre .1 .1) in
-    (table .inOrder, (order-loads (table .inOrder) l, l))
+    let l = table-loaded table (pre .1 .1 .0) in
+    (table .inOrder, (order-loads (table .inOrder) l, (l, pre .1 .1 .1)))
 
 loop-holds : tie.Need-loop-holds Inv-loop μ-loop
 loop-holds c =
     let table = c .before .before .before .before .before .before .put-in-order .ensures in
-    flipping-start (table .inOrder) (table-loaded table (c .before .before .before .before .before .before .before .before .before .pre .1 .1)) (array-long 0 (c .before .before .before .benches .ensures)) (c .first-start .ensures)
+    flipping-start (table .inOrder) (table-loaded table (c .before .before .before .before .before .before .before .before .before .pre .1 .1 .0)) (c .first-start .ensures .1) (c .first-start .ensures .0)
 
 find-from-requires : tie.Need-find-from-requires Inv-loop μ-loop
 find-from-requires c κs =
@@ -88,23 +85,24 @@ add-paths c = omega (arith, less (c .before .before .before .before .before .bef
 
 first-start-requires-2 : tie.Need-first-start-requires-2 Inv-loop μ-loop
 first-start-requires-2 c κs =
-    let handed = c .before .before .before .before .before .before in
+    let handed = c .before .before .before .before .before .before .before in
     let found = handed .before .before .before in
     let test = found .before .before .before .before .before in
     let o = flipping-order (test .before .loop .inv) (test .loop-test .taken) (found .find-from .ensures) (handed .hand-along .ensures) in
     let l = shifts handed .loaded in
-    (o, (order-loads o l, l))
+    let n = flipping-few (test .before .loop .inv) (test .loop-test .taken) (found .find-from .ensures) in
+    (o, (order-loads o l, (l, n .1)))
 
 loop-less : tie.Need-loop-less Inv-loop μ-loop
-loop-less c = omega (arith, less (c .before .before .before .before .before .before .before .before .before .before .before .before .before .before))
+loop-less c = omega (arith, less (c .before .before .before .before .before .before .before .before .before .before .before .before .before .before .before))
 
 loop-again : tie.Need-loop-again Inv-loop μ-loop
 loop-again c =
-    let handed = c .before .before .before .before .before .before .before in
+    let handed = c .before .before .before .before .before .before .before .before in
     let found = handed .before .before .before in
     let less-test = found .before .before .before .before in
     let test = less-test .before in
-    flipping-turn (test .before .loop .inv) (test .loop-test .taken) (found .find-from .ensures) (handed .hand-along .ensures) (less less-test) (shifts handed .loaded) (c .first-start2 .ensures)
+    flipping-turn (test .before .loop .inv) (test .loop-test .taken) (found .find-from .ensures) (handed .hand-along .ensures) (less less-test) (shifts handed .loaded) (c .first-start2 .ensures .1) (c .first-start2 .ensures .0)
 
 same-length : tie.Need-same-length Inv-loop μ-loop
 same-length c = omega (arith, c .before .loop .inv .inOrder .sound .size .long, c .before .before .before .before .before .before .before .before .before .before .before .pre .0 .size .long)
@@ -122,7 +120,6 @@ relevel-spec =
     Inv-loop
     μ-loop
     put-in-order-requires
-    benches-requires
     first-start-requires
     loop-holds
     find-from-requires

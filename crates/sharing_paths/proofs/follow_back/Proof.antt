@@ -8,18 +8,16 @@ use borrow.Author.Needs.{needs}
 use Rattle.spec_table.specs.Table.{mostBenches, decode}
 use Rattle.table_board.specs.BoardView.{HoldsBoard}
 use Rattle.table_board.proofs.RecordsAsBoard.{sound-holds-board}
-use Rattle.table_size.specs.Sizes.{JobIn}
-use Rattle.graph_lists.specs.Arrays.{at}
 use Rattle.sharing_search.specs.Searching.{Course}
 use Rattle.sharing_paths.specs.FoundPaths.{Behind}
-use Rattle.sharing_paths.proofs.Following.{Followed, followed-start, followed-place, followed-room, followed-held, followed-turn, left-less, followed-end}
+use Rattle.sharing_paths.proofs.Following.{Followed, followed-start, followed-place, followed-room, followed-led, followed-turn, left-less, followed-end}
 use Rattle.sharing_paths.proofs.follow_back.Statement.{statement}
 use Rattle.sharing_paths.proofs.follow_back.Tie as tie
 
 abbrev Inv-loop : tie.InvT-loop
 Inv-loop t s came y n path₀ x₀ left₀ path x left =
     (length path ≡ mostBenches + 1) ×
-    ((c : Course) (limit found : ℕ) (queue : List ℕ) (k : Behind (decode t) c (s .benches) limit found queue came y n) → Followed (k .searching) y n path x left)
+    ((c : Course) (found : ℕ) (queue : List ℕ) (k : Behind (decode t) c (s .benches) found queue came y n) → Followed (k .searching) y n path x left)
 
 abbrev μ-loop : tie.MeasureT-loop
 μ-loop t s came y n path₀ x₀ left₀ path x left = left
@@ -32,27 +30,20 @@ holds c = sound-holds-board (c .args .t .now) (c .args .s) (c .pre .0 .sound)
 place : (c : tie.In-loop Inv-loop μ-loop) → c .before .loop .x < mostBenches + 1
 place c =
     let start = c .before .before .before in
-    let (course, limit, found, queue, k) = start .pre .1 .1 in
-    followed-place (holds start) k (c .before .loop .inv .1 course limit found queue k) (c .loop-test .taken)
+    let (course, found, queue, k) = start .pre .1 .1 in
+    followed-place (holds start) k (c .before .loop .inv .1 course found queue k) (c .loop-test .taken)
 
 -- so is the place of its job
 room : (c : tie.In-loop Inv-loop μ-loop) → c .before .loop .left < mostBenches + 1
 room c =
     let start = c .before .before .before in
-    let (course, limit, found, queue, k) = start .pre .1 .1 in
-    followed-room (holds start) k (c .before .loop .inv .1 course limit found queue k)
-
--- its job, if it is not the first, is one of the table
-job : (c : tie.Then1 Inv-loop μ-loop) → let start = c .before .before .before .before .before in let l = c .before .before .before .loop in JobIn (start .args .s) (at (start .args .came .now) (l .x))
-job c =
-    let start = c .before .before .before .before .before in
-    let (course, limit, found, queue, k) = start .pre .1 .1 in
-    followed-held (holds start) k (c .before .before .before .loop .inv .1 course limit found queue k) (c .before .before .loop-test .taken) (c .if1 .taken)
+    let (course, found, queue, k) = start .pre .1 .1 in
+    followed-room (holds start) k (c .before .loop .inv .1 course found queue k)
 
 loop-holds : tie.Need-loop-holds Inv-loop μ-loop
 loop-holds c =
     let start = c .before in
-    (start .pre .1 .0, λ course limit found queue k. followed-start (holds start) k (start .args .path .now))
+    (start .pre .1 .0, λ course found queue k. followed-start (holds start) k (start .args .path .now))
 
 sub-left : tie.Need-sub-left Inv-loop μ-loop
 sub-left c = search needs
@@ -69,13 +60,16 @@ mul-path c = omega (arith, room (c .before))
 element-write-path : tie.Need-element-write-path Inv-loop μ-loop
 element-write-path c = omega (arith, room (c .before))
 
-cast-holder : tie.Need-cast-holder Inv-loop μ-loop
-cast-holder c =
-    let start = c .before .before .before .before .before in
-    omega (arith, job c, start .pre .0 .sound .size .limits .jobs-most)
+cast-origin : tie.Need-cast-origin Inv-loop μ-loop
+cast-origin c =
+    let (course, found, queue, k) = c .before .before .before .before .before .pre .1 .1 in
+    omega (arith, k .searching .marks (c .before .before .before .loop .x))
 
-holder-requires : tie.Need-holder-requires Inv-loop μ-loop
-holder-requires c κs = (holds (c .before .before .before .before .before), job c)
+origin-requires : tie.Need-origin-requires Inv-loop μ-loop
+origin-requires c κs =
+    let start = c .before .before .before .before .before in
+    let (course, found, queue, k) = start .pre .1 .1 in
+    (holds start, followed-led (holds start) k (c .before .before .before .loop .inv .1 course found queue k) (c .before .before .loop-test .taken) (c .if1 .taken))
 
 loop-less : tie.Need-loop-less Inv-loop μ-loop
 loop-less c = left-less (c .before .before .before .before .loop .left) (c .before .before .before .loop-test .taken)
@@ -84,8 +78,8 @@ loop-again : tie.Need-loop-again Inv-loop μ-loop
 loop-again c =
     let l = c .before .before .before .before in (
       rw length-set (l .loop .inv .0),
-      λ course limit found queue k.
-          followed-turn (holds (l .before .before)) k (l .loop .inv .1 course limit found queue k) (c .before .before .before .loop-test .taken) (l .loop .inv .0) (λ m. c .holder .ensures),
+      λ course found queue k.
+          followed-turn (holds (l .before .before)) k (l .loop .inv .1 course found queue k) (c .before .before .before .loop-test .taken) (l .loop .inv .0) (λ m. c .origin .ensures),
     )
 
 loop-less-2 : tie.Need-loop-less-2 Inv-loop μ-loop
@@ -95,15 +89,15 @@ loop-again-2 : tie.Need-loop-again-2 Inv-loop μ-loop
 loop-again-2 c =
     let l = c .before .before .before in (
       rw length-set (l .loop .inv .0),
-      λ course limit found queue k.
-          followed-turn (holds (l .before .before)) k (l .loop .inv .1 course limit found queue k) (c .before .before .loop-test .taken) (l .loop .inv .0) (λ m. absurd (omega (arith, c .if1 .left))),
+      λ course found queue k.
+          followed-turn (holds (l .before .before)) k (l .loop .inv .1 course found queue k) (c .before .before .loop-test .taken) (l .loop .inv .0) (λ m. absurd (omega (arith, c .if1 .left))),
     )
 
 returns : tie.Need-returns Inv-loop μ-loop
 returns c =
     let l = c .before in (
       l .loop .inv .0,
-      λ course limit found queue k. followed-end (holds (l .before .before)) k (l .loop .inv .1 course limit found queue k) (c .loop-test .left),
+      λ course found queue k. followed-end (holds (l .before .before)) k (l .loop .inv .1 course found queue k) (c .loop-test .left),
     )
 
 pub follow-back-spec : {M : Type 1} → statement M
@@ -118,8 +112,8 @@ follow-back-spec =
     element-copy-out-j
     mul-path
     element-write-path
-    cast-holder
-    holder-requires
+    cast-origin
+    origin-requires
     loop-less
     loop-again
     loop-less-2

@@ -71,13 +71,13 @@ follow-back-requires c κs =
     let start = c .before .before .before .before .before .before .before .before .before .before .before .before .before .before in
     let (b, j, l) = start .pre .1 .1 .1 .1 in
     let e = ended (c .before .before) b j l in
-    (start .pre .0, (e .behind .searching .queue-long, (e .course, 0, e .found, _, e .behind)))
+    (start .pre .0, (e .behind .searching .queue-long, (e .course, e .found, _, e .behind)))
 
 returns-2 : tie.Need-returns-2
 returns-2 c = λ b j l.
     let start = c .before .before .before .before .before .before .before .before .before .before .before .before .before .before .before in
     let e = ended (c .before .before .before) b j l in
-    path-found j (start .pre .1 .0) e (c .follow-back .ensures .0) (c .follow-back .ensures .1 (e .course) 0 (e .found) _ (e .behind))
+    path-found j (start .pre .1 .0) e (c .follow-back .ensures .0) (c .follow-back .ensures .1 (e .course) (e .found) _ (e .behind))
 
 pub find-from-spec : {M : Type 1} → statement M
 find-from-spec =

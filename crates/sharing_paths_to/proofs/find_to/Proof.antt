@@ -12,16 +12,16 @@ use Rattle.table_board.specs.BoardView.{Loaded}
 use Rattle.graph_lists.specs.Arrays.{at}
 use Rattle.sharing_loads.proofs.Greatest.{board-heaviest}
 use Rattle.sharing_paths_to.specs.ClosingSearch.{WithoutJob, Rounds}
-use Rattle.sharing_paths_to.proofs.Closing.{rounds-begin, rounds-lower, rounds-none, path-none}
+use Rattle.sharing_paths_to.proofs.Rounds.{rounds-begin, rounds-lower, rounds-none, path-none}
 use Rattle.sharing_paths_to.proofs.find_to.Statement.{statement}
 use Rattle.sharing_paths_to.proofs.find_to.Tie as tie
 
 abbrev Inv-loop : tie.InvT-loop
-Inv-loop t s loads x path₀ least load₀ came₀ found₀ path load came found =
+Inv-loop t s loads x top path₀ least came₀ load₀ found₀ path came load found =
     (c : Board) → WithoutJob (decode t) c s x → Loaded c loads → Rounds (decode t) c s loads x load found path came
 
 abbrev μ-loop : tie.MeasureT-loop
-μ-loop t s loads x path₀ least load₀ came₀ found₀ path load came found = load
+μ-loop t s loads x top path₀ least came₀ load₀ found₀ path came load found = load
 
 -- the sizes are within the limits
 limits : (c : tie.Start Inv-loop μ-loop) → Limits (c .args .s)
@@ -51,36 +51,34 @@ cast-least c = omega (arith, load-most (c .before .before))
 add-least : tie.Need-add-least Inv-loop μ-loop
 add-least c = omega (arith, load-most (c .before .before))
 
-heaviest-requires : tie.Need-heaviest-requires Inv-loop μ-loop
-heaviest-requires c κs = let start = c .before .before in (limits start, start .pre .1 .1 .0)
-
 -- on every board that the contract speaks of, nothing was searched yet
-begun : (c : tie.After-heaviest Inv-loop μ-loop) (board : Board) {came : List ℕ} → let start = c .before .before .before in let a = start .args in WithoutJob (decode (a .t .now)) board (a .s) (a .x) → Loaded board (a .loads .now) → came ≡ replicate (mostBenches + 1) 0 → Rounds (decode (a .t .now)) board (a .s) (a .loads .now) (a .x) (c .heaviest .result) 0 (a .path .now) came
+begun : (c : tie.Start Inv-loop μ-loop) (board : Board) {came : List ℕ} → let a = c .args in WithoutJob (decode (a .t .now)) board (a .s) (a .x) → Loaded board (a .loads .now) → came ≡ replicate (mostBenches + 1) 0 → Rounds (decode (a .t .now)) board (a .s) (a .loads .now) (a .x) (a .top) 0 (a .path .now) came
 begun c board without loaded e =
-    let start = c .before .before .before in
-    rounds-begin without loaded (start .pre .1 .0) (limits start .benches-most) (board-heaviest (without .benches) (limits start .benches-most) loaded (c .heaviest .ensures)) (start .pre .1 .1 .1 .0) e
+    let heaviest = board-heaviest (without .benches) (limits c .benches-most) loaded refl in
+    rounds-begin without loaded (c .pre .1 .0) (limits c .benches-most) (omega (arith, heaviest, c .pre .1 .1 .1 .0)) (c .pre .1 .1 .1 .1 .0) e
 
 returns : tie.Need-returns Inv-loop μ-loop
 returns c = λ board without loaded.
-    path-none board (rounds-none (begun (c .before) board without loaded refl) (c .if1 .taken)) (c .before .before .before .before .pre .1 .1 .1 .0)
+    let start = c .before .before .before in
+    path-none board (rounds-none (begun start board without loaded refl) (c .if1 .taken)) (start .pre .1 .1 .1 .1 .0)
 
 benches-requires : tie.Need-benches-requires Inv-loop μ-loop
 benches-requires c κs = search needs
 
 loop-holds : tie.Need-loop-holds Inv-loop μ-loop
-loop-holds c = λ board without loaded. begun (c .before .before) board without loaded (c .benches .ensures)
+loop-holds c = λ board without loaded. begun (c .before .before .before .before) board without loaded (c .benches .ensures)
 
 search-round-requires : tie.Need-search-round-requires Inv-loop μ-loop
 search-round-requires c κs =
     let test = c .before .before in
-    let (order, (bench, (loads, (long, (board, without, loaded))))) = test .before .before .before .before .before .before .before .pre in
+    let (order, (bench, (loads, (top, (long, (board, without, loaded)))))) = test .before .before .before .before .before .before .pre in
     (order, (loads, (test .loop-test .taken, (board, test .before .loop .inv board without loaded))))
 
 path-to-requires : tie.Need-path-to-requires Inv-loop μ-loop
 path-to-requires c κs =
     let call = c .before .before .before .before in
     let l = call .before .before .before .before in
-    let (order, (bench, (loads, (long, (board, without, loaded))))) = l .before .before .before .before .before .before .pre in
+    let (order, (bench, (loads, (top, (long, (board, without, loaded)))))) = l .before .before .before .before .before .pre in
     let r = call .search-round in
     let found = r .ensures board (l .loop .inv board without loaded) .some (c .before .before .if2 .taken) in
     (order, (found .behind .searching .queue-long, (c .before .before .if2 .taken, (board, r .result .found, _, without, found))))
@@ -94,7 +92,7 @@ returns-2 c = λ board without loaded.
 
 next-lower-requires : tie.Need-next-lower-requires Inv-loop μ-loop
 next-lower-requires c κs =
-    let start = c .before .before .before .before .before .before .before .before .before .before .before .before in
+    let start = c .before .before .before .before .before .before .before .before .before .before .before in
     (limits start, start .pre .1 .1 .0)
 
 loop-less : tie.Need-loop-less Inv-loop μ-loop
@@ -123,7 +121,6 @@ find-to-spec =
     element-copy-out-least
     cast-least
     add-least
-    heaviest-requires
     returns
     benches-requires
     loop-holds

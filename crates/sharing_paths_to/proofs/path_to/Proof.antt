@@ -5,7 +5,7 @@ use Rattle.table_size.specs.Sizes.{JobIn}
 use Rattle.table_board.specs.BoardView.{HoldsBoard}
 use Rattle.table_board.proofs.RecordsAsBoard.{sound-holds-board}
 use Rattle.graph_lists.specs.Arrays.{at}
-use Rattle.sharing_paths_to.proofs.Closing.{path-job, path-found}
+use Rattle.sharing_paths_to.proofs.Rounds.{path-job, path-found}
 use Rattle.sharing_paths_to.proofs.path_to.Statement.{statement}
 use Rattle.sharing_paths_to.proofs.path_to.Tie as tie
 
@@ -19,12 +19,12 @@ job c =
     let start = c .before .before .before in
     let (order, (long, (some, (board, found, queue, without, k)))) = start .pre in
     let f = c .follow-back in
-    path-job (f .last .1 .1 .1 .1 .1 .0) (holds start) without k some (f .ensures .1 (k .course) 0 found queue (k .behind))
+    path-job (f .last .1 .1 .1 .1 .1 .0) (holds start) without k some (f .ensures .1 (k .course) found queue (k .behind))
 
 follow-back-requires : tie.Need-follow-back-requires
 follow-back-requires c κs =
     let (order, (long, (some, (board, found, queue, without, k)))) = c .before .before .pre in
-    (order, (long, (k .course, 0, found, queue, k .behind)))
+    (order, (long, (k .course, found, queue, k .behind)))
 
 element-copy-out-holder : tie.Need-element-copy-out-holder
 element-copy-out-holder c = search needs
@@ -39,7 +39,7 @@ returns : tie.Need-returns
 returns c = λ board found queue without k.
     let start = c .before .before .before .before .before in
     let f = c .before .before .follow-back in
-    path-found (f .last .1 .1 .1 .1 .1 .0) (holds start) without k (start .pre .1 .1 .0) (f .ensures .1 (k .course) 0 found queue (k .behind)) (f .ensures .0) (c .holder .ensures)
+    path-found (f .last .1 .1 .1 .1 .1 .0) (holds start) without k (start .pre .1 .1 .0) (f .ensures .1 (k .course) found queue (k .behind)) (f .ensures .0) (c .holder .ensures)
 
 pub path-to-spec : {M : Type 1} → statement M
 path-to-spec =

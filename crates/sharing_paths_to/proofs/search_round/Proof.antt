@@ -5,7 +5,7 @@ use native.Mathlib.Omega.{arith}
 use Rattle.spec_table.specs.Board.{Board}
 use Rattle.spec_table.specs.Table.{mostBenches, decode}
 use Rattle.sharing_paths_to.specs.ClosingSearch.{courseTo, Rounds, InRound}
-use Rattle.sharing_paths_to.proofs.Levels.{level-goal, level-short, level-less, level-begins, level-found, level-over, round-over, round-found, round-missed}
+use Rattle.sharing_paths_to.proofs.RoundLevels.{level-goal, level-short, level-less, level-begins, level-found, level-over, round-over, round-found, round-missed}
 use Rattle.sharing_paths_to.proofs.search_round.Statement.{statement}
 use Rattle.sharing_paths_to.proofs.search_round.Tie as tie
 

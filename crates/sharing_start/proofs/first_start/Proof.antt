@@ -14,10 +14,10 @@ use Rattle.sharing_start.proofs.first_start.Statement.{statement}
 use Rattle.sharing_start.proofs.first_start.Tie as tie
 
 abbrev Inv-loop : tie.InvT-loop
-Inv-loop t s loads goal low load₀ queue₀ came₀ found₀ load queue came found = Searched (decode t) s load 1 found queue came
+Inv-loop t s loads queue₀ goal low load₀ came₀ found₀ queue load came found = Searched (decode t) s load 1 found queue came
 
 abbrev μ-loop : tie.MeasureT-loop
-μ-loop t s loads goal low load₀ queue₀ came₀ found₀ load queue came found = load
+μ-loop t s loads queue₀ goal low load₀ came₀ found₀ queue load came found = load
 
 lightest-requires : tie.Need-lightest-requires Inv-loop μ-loop
 lightest-requires c κs = c .before .pre .0 .sound .size .limits
@@ -48,49 +48,48 @@ add-if1 : tie.Need-add-if1 Inv-loop μ-loop
 add-if1 c = omega (arith, light (c .before .before))
 
 -- nothing was searched from yet
-begun : (c : tie.After-heaviest Inv-loop μ-loop) {queue came : List ℕ} → let a = c .before .before .before .before .args in queue ≡ replicate (mostBenches + 1) 0 → came ≡ replicate (mostBenches + 1) 0 → Searched (decode (a .t .now)) (a .s) (c .heaviest .result) 1 0 queue came
-begun c q e = let pre = c .before .before .before .before .pre in falling-start (order-holds (pre .0)) (pre .1 .1) (c .heaviest .ensures) q e
+begun : (c : tie.After-heaviest Inv-loop μ-loop) {came : List ℕ} → let a = c .before .before .before .before .args in came ≡ replicate (mostBenches + 1) 0 → Searched (decode (a .t .now)) (a .s) (c .heaviest .result) 1 0 (a .queue .now) came
+begun c e =
+    let pre = c .before .before .before .before .pre in
+    falling-start (order-holds (pre .0)) (pre .1 .1 .0) (c .heaviest .ensures) (pre .1 .1 .1) e
 
 returns : tie.Need-returns Inv-loop μ-loop
 returns c =
     let pre = c .before .before .before .before .before .pre in
-    falling-end (order-holds (pre .0)) (pre .1 .1) (c .before .before .before .lightest .ensures) (begun (c .before) refl refl) (c .if1 .taken)
+    (falling-end (order-holds (pre .0)) (pre .1 .1 .0) (c .before .before .before .lightest .ensures) (begun (c .before) refl) (c .if1 .taken), pre .1 .1 .1)
 
 benches-requires : tie.Need-benches-requires Inv-loop μ-loop
 benches-requires c κs = search needs
 
-benches-requires-2 : tie.Need-benches-requires-2 Inv-loop μ-loop
-benches-requires-2 c κs = search needs
-
 loop-holds : tie.Need-loop-holds Inv-loop μ-loop
-loop-holds c =
-    begun (c .before .before .before) (c .before .benches .ensures) (c .benches2 .ensures)
+loop-holds c = begun (c .before .before) (c .benches .ensures)
 
 add-loop : tie.Need-add-loop Inv-loop μ-loop
-add-loop c = omega (arith, light (c .before .before .before .before .before .before))
+add-loop c = omega (arith, light (c .before .before .before .before .before))
 
 start-among-requires : tie.Need-start-among-requires Inv-loop μ-loop
 start-among-requires c κs =
-    let pre = c .before .before .before .before .before .before .before .before .before .before .before .pre in
-    (pre .0, (pre .1 .0, (pre .1 .1, (omega (arith, c .before .before .loop-test .taken), c .before .before .before .loop .inv))))
+    let pre = c .before .before .before .before .before .before .before .before .before .before .pre in
+    (pre .0, (pre .1 .0, (pre .1 .1 .0, (omega (arith, c .before .before .loop-test .taken), c .before .before .before .loop .inv))))
 
 returns-2 : tie.Need-returns-2 Inv-loop μ-loop
-returns-2 c = start-some (c .before .before .start-among .ensures) (c .if2 .taken)
+returns-2 c = let e = c .before .before .start-among .ensures in (start-some e (c .if2 .taken), e .long)
 
 next-lower-requires : tie.Need-next-lower-requires Inv-loop μ-loop
-next-lower-requires c κs = let pre = c .before .before .before .before .before .before .before .before .before .before .before .before .before .before .pre in (pre .0 .sound .size .limits, pre .1 .0)
+next-lower-requires c κs = let pre = c .before .before .before .before .before .before .before .before .before .before .before .before .before .pre in (pre .0 .sound .size .limits, pre .1 .0)
 
 loop-less : tie.Need-loop-less Inv-loop μ-loop
 loop-less c = c .next-lower .ensures .lower (omega (arith, c .before .before .before .before .before .before .loop-test .taken))
 
 loop-again : tie.Need-loop-again Inv-loop μ-loop
 loop-again c =
-    falling-turn (c .before .before .before .before .before .before .before .before .before .before .before .before .before .before .before .pre .1 .1) (c .before .before .before .start-among .ensures) (c .before .if2 .left) (omega (arith, c .before .before .before .before .before .before .loop-test .taken)) (c .next-lower .ensures)
+    falling-turn (c .before .before .before .before .before .before .before .before .before .before .before .before .before .before .pre .1 .1 .0) (c .before .before .before .start-among .ensures) (c .before .if2 .left) (omega (arith, c .before .before .before .before .before .before .loop-test .taken)) (c .next-lower .ensures)
 
 returns-3 : tie.Need-returns-3 Inv-loop μ-loop
 returns-3 c =
-    let pre = c .before .before .before .before .before .before .before .before .before .pre in
-    falling-end (order-holds (pre .0)) (pre .1 .1) (c .before .before .before .before .before .before .before .lightest .ensures) (c .before .loop .inv) (c .loop-test .left)
+    let pre = c .before .before .before .before .before .before .before .before .pre in
+    let inv = c .before .loop .inv in
+    (falling-end (order-holds (pre .0)) (pre .1 .1 .0) (c .before .before .before .before .before .before .lightest .ensures) inv (c .loop-test .left), inv .searching .queue-long)
 
 pub first-start-spec : {M : Type 1} → statement M
 first-start-spec =
@@ -106,7 +105,6 @@ first-start-spec =
     add-if1
     returns
     benches-requires
-    benches-requires-2
     loop-holds
     add-loop
     start-among-requires

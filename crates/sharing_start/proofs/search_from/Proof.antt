@@ -4,7 +4,8 @@ use native.Mathlib.Omega.{arith}
 use borrow.Author.Needs.{needs}
 use Rattle.spec_table.specs.Table.{mostBenches, decode}
 use Rattle.graph_lists.specs.Arrays.{at}
-use Rattle.sharing_start.proofs.Starting.{Seeking, searched-few, seeking-start, seeking-level, seeking-few, seeking-end, level-queued, level-first, level-turn, searched-some, searched-none}
+use Rattle.sharing_search.proofs.Steps.{search-most}
+use Rattle.sharing_start.proofs.Starting.{Seeking, seeking-start, seeking-level, seeking-end, level-queued, level-long, level-first, level-turn, searched-some, searched-none}
 use Rattle.sharing_start.proofs.search_from.Statement.{statement}
 use Rattle.sharing_start.proofs.search_from.Tie as tie
 
@@ -37,7 +38,7 @@ add-discover c = search needs
 discover-requires : tie.Need-discover-requires Inv-loop μ-loop
 discover-requires c κs =
     let start = c .before .before .before .before in
-    (omega (arith, small start), searched-few (start .pre .1 .1 .1 .1))
+    (omega (arith, small start), search-most (start .pre .1 .1 .1 .1 .searching))
 
 loop-holds : tie.Need-loop-holds Inv-loop μ-loop
 loop-holds c =
@@ -59,13 +60,14 @@ returns : tie.Need-returns Inv-loop μ-loop
 returns c =
     let pre = c .before .before .before .before .before .before .before .before .before .before .before .before .before .pre in
     let told = c .before .before .before .expand-level .ensures in
-    searched-some (level-first (pre .1 .0) (pre .1 .1 .0) (c .before .before .before .before .before .before .before .loop .inv) (told .0) (told .1) (pre .1 .1 .1 .0) (rw (c .if1 .taken) at (c .before .wanted-among .ensures)))
+    let inv = c .before .before .before .before .before .before .before .loop .inv in
+    searched-some (level-first (pre .1 .0) (pre .1 .1 .0) inv (told .0) (told .1) (pre .1 .1 .1 .0) (rw (c .if1 .taken) at (c .before .wanted-among .ensures))) (level-long (pre .1 .0) (pre .1 .1 .0) inv (told .0) (told .1))
 
 loop-less : tie.Need-loop-less Inv-loop μ-loop
 loop-less c =
     let pre = c .before .before .before .before .before .before .before .before .before .before .before .before .before .pre in
     let test = c .before .before .before .before .before .before in
-    omega (arith, test .loop-test .taken, seeking-few (pre .1 .0) (pre .1 .1 .0) (test .before .loop .inv))
+    omega (arith, test .loop-test .taken, search-most (test .before .loop .inv .searching))
 
 loop-again : tie.Need-loop-again Inv-loop μ-loop
 loop-again c =

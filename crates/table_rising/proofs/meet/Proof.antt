@@ -59,13 +59,15 @@ element-copy-out-if1 : tie.Need-element-copy-out-if1
 element-copy-out-if1 c = small c
 
 cast-if1 : tie.Need-cast-if1
-cast-if1 c = search needs
+cast-if1 c =
+    let named = c .before in
+    omega (arith, named .before .before .before .before .before .before .pre .1 .1 .1 .0 (named .name-at .result) (bench named))
 
 returns : tie.Need-returns
 returns c =
     let named = c .before .before in
     let start = named .before .before .before .before .before .before in
-    (refl, read-not-met (start .args .s) (named .before .before .before .before .read-record .ensures) (fits (named .before)) (named .name-at .ensures) (start .args .due .now) (c .if1 .taken))
+    (refl, refl, read-not-met (start .args .s) (named .before .before .before .before .read-record .ensures) (fits (named .before)) (named .name-at .ensures) (start .args .due .now) (c .if1 .taken))
 
 cast-due : tie.Need-cast-due
 cast-due c = search needs
@@ -86,7 +88,7 @@ add-loads : tie.Need-add-loads
 add-loads c =
     let named = c .before .before .before in
     let start = named .before .before .before .before .before .before in
-    omega (arith, start .pre .1 .1 .1 .below (named .name-at .result) (bench named), start .pre .1 .0 .most, start .pre .0 .limits .jobs-most)
+    omega (arith, start .pre .1 .1 .1 .1 .below (named .name-at .result) (bench named), start .pre .1 .0 .most, start .pre .0 .limits .jobs-most)
 
 element-write-loads : tie.Need-element-write-loads
 element-write-loads c = small (c .before .before .before)
@@ -95,7 +97,7 @@ returns-2 : tie.Need-returns-2
 returns-2 c = (read-kind (c .before .before) ∙ c .enum-told .given .1, refl, refl)
 
 returns-3 : tie.Need-returns-3
-returns-3 c = (refl, inl (read-kind (c .before .before) ∙ c .enum-told2 .given .1))
+returns-3 c = (refl, refl, inl (read-kind (c .before .before) ∙ c .enum-told2 .given .1))
 
 returns-4 : tie.Need-returns-4
 returns-4 c =

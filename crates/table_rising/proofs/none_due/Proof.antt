@@ -1,45 +1,47 @@
--- No job is due at any bench. The loop's invariant: none is at those before x. The measure is the number of benches from x on.
-use Prim.Native.Nat.{_+_, _-_}
+-- No job is due at any bench. The loop's invariant: `most` is the greatest number due at benches 1 to `done`. The measure is the number of
+-- benches that are left.
+use Prim.Native.Nat.{_-_}
 use native.Mathlib.Omega.{arith}
 use borrow.Author.Needs.{needs}
-use Rattle.table_rising.proofs.Meeting.{EndedTo, ended-turn}
+use Rattle.table_rising.proofs.Meeting.{MostDue, most-turn, most-end}
 use Rattle.table_rising.proofs.none_due.Statement.{statement}
 use Rattle.table_rising.proofs.none_due.Tie as tie
 
 abbrev Inv-loop : tie.InvT-loop
-Inv-loop due benches x₀ x = EndedTo due x
+Inv-loop due benches most₀ done₀ most done = MostDue due benches most done
 
 abbrev μ-loop : tie.MeasureT-loop
-μ-loop due benches x₀ x = benches + 1 - x
+μ-loop due benches most₀ done₀ most done = benches - done
 
 benches-requires : tie.Need-benches-requires Inv-loop μ-loop
 benches-requires c κs = search needs
 
 loop-holds : tie.Need-loop-holds Inv-loop μ-loop
-loop-holds c = record { least = omega arith; none = λ y l u. absurd (omega arith) }
+loop-holds c = record { few = omega arith; value = omega arith }
 
-mul-if1 : tie.Need-mul-if1 Inv-loop μ-loop
-mul-if1 c = search needs
+add-done : tie.Need-add-done Inv-loop μ-loop
+add-done c = search needs
 
-element-copy-out-if1 : tie.Need-element-copy-out-if1 Inv-loop μ-loop
-element-copy-out-if1 c = omega (arith, c .before .before .before .pre .benches-most)
+mul-n : tie.Need-mul-n Inv-loop μ-loop
+mul-n c = search needs
 
-returns : tie.Need-returns Inv-loop μ-loop
-returns c =
-    let loop = c .before .before .before .loop in
-    (λ t. absurd t, λ n. c .if1 .taken (n (loop .x) (record { least = loop .inv .least; most = omega arith })))
-
-add-x : tie.Need-add-x Inv-loop μ-loop
-add-x c = search needs
+element-copy-out-n : tie.Need-element-copy-out-n Inv-loop μ-loop
+element-copy-out-n c = search needs
 
 loop-less : tie.Need-loop-less Inv-loop μ-loop
-loop-less c = omega arith
+loop-less c = search needs
 
 loop-again : tie.Need-loop-again Inv-loop μ-loop
-loop-again c = ended-turn (c .before .before .before .loop .inv) (c .if1 .left)
+loop-again c = most-turn (c .before .before .before .loop .inv) (omega (arith, c .before .before .loop-test .taken)) (omega arith)
 
-returns-2 : tie.Need-returns-2 Inv-loop μ-loop
-returns-2 c = (λ t x b. c .before .loop .inv .none x (b .least) (omega (arith, b .most)), λ n. tt)
+loop-less-2 : tie.Need-loop-less-2 Inv-loop μ-loop
+loop-less-2 c = search needs
+
+loop-again-2 : tie.Need-loop-again-2 Inv-loop μ-loop
+loop-again-2 c = most-turn (c .before .before .before .loop .inv) (omega (arith, c .before .before .loop-test .taken)) (omega arith)
+
+returns : tie.Need-returns Inv-loop μ-loop
+returns c = most-end (c .before .loop .inv) (c .before .before .before .args .s) (c .before .before .benches .ensures) (omega (arith, c .loop-test .left))
 
 pub none-due-spec : {M : Type 1} → statement M
 none-due-spec =
@@ -49,10 +51,11 @@ none-due-spec =
     μ-loop
     benches-requires
     loop-holds
-    mul-if1
-    element-copy-out-if1
-    returns
-    add-x
+    add-done
+    mul-n
+    element-copy-out-n
     loop-less
     loop-again
-    returns-2)
+    loop-less-2
+    loop-again-2
+    returns)

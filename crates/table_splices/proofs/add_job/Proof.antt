@@ -5,8 +5,8 @@ use Rattle.table_splices.proofs.Spliced.{fillable-bench, fillable-two, 
 use Rattle.table_splices.proofs.add_job.Statement.{statement}
 use Rattle.table_splices.proofs.add_job.Tie as tie
 
-find-place-requires : tie.Need-find-place-requires
-find-place-requires c κs = let start = c .before .before .before in (start .pre .0, fillable-bench (start .pre .1 .0))
+find-gap-requires : tie.Need-find-gap-requires
+find-gap-requires c κs = let start = c .before .before .before in (start .pre .0, fillable-bench (start .pre .1 .0))
 
 shared-slice-read-insert : tie.Need-shared-slice-read-insert
 shared-slice-read-insert c = search needs
@@ -17,7 +17,7 @@ shared-slice-read-insert-2 c = search needs
 insert-requires : tie.Need-insert-requires
 insert-requires c κs =
     let start = c .before .before .before .before .before .before .before in
-    (start .pre .0, (fillable-two (start .pre .1 .0), c .before .before .before .find-place .ensures))
+    (start .pre .0, (fillable-two (start .pre .1 .0), c .before .before .before .find-gap .ensures))
 
 standing-word-requires : tie.Need-standing-word-requires
 standing-word-requires c κs = c .before .before .before .insert .ensures .layout .size
@@ -39,13 +39,13 @@ same-length c = search needs
 returns : tie.Need-returns
 returns c =
     let pre = c .before .before .before .before .before .before .before .before .before .before .before .before .before .before .before .before .pre in
-    add-spliced (pre .0) (pre .1 .0) (pre .1 .1) (c .before .before .before .before .before .before .before .before .before .before .before .before .find-place .ensures) (c .before .before .before .before .before .before .before .before .insert .ensures) (c .before .before .before .before .standing-word .ensures) (c .before .before .write-standing .ensures) (λ i. omega (arith, c .slice-known3 .given i))
+    add-spliced (pre .0) (pre .1 .0) (pre .1 .1) (c .before .before .before .before .before .before .before .before .before .before .before .before .find-gap .ensures) (c .before .before .before .before .before .before .before .before .insert .ensures) (c .before .before .before .before .standing-word .ensures) (c .before .before .write-standing .ensures) (λ i. omega (arith, c .slice-known3 .given i))
 
 pub add-job-spec : {M : Type 1} → statement M
 add-job-spec =
     tie.close
     (tie.spec
-    find-place-requires
+    find-gap-requires
     shared-slice-read-insert
     shared-slice-read-insert-2
     insert-requires

@@ -42,22 +42,22 @@ returns c =
 read-record-requires : tie.Need-read-record-requires
 read-record-requires c κs = let start = c .before .before .before .before .before in (start .pre .0 .sound .size, job start)
 
-find-place-requires : tie.Need-find-place-requires
-find-place-requires c κs = (c .before .before .before .before .before .before .before .pre .0, bench (c .before .before .before .before))
+find-gap-requires : tie.Need-find-gap-requires
+find-gap-requires c κs = (c .before .before .before .before .before .before .before .pre .0, bench (c .before .before .before .before))
 
-find-place-requires-2 : tie.Need-find-place-requires-2
-find-place-requires-2 c κs =
+find-gap-requires-2 : tie.Need-find-gap-requires-2
+find-gap-requires-2 c κs =
     let start = c .before .before .before .before .before .before .before .before .before in
     (start .pre .0, name-bench (start .args .j) (start .args .y) (start .pre .0) (start .pre .1))
 
 insert-requires : tie.Need-insert-requires
 insert-requires c κs =
     let start = c .before .before .before .before .before .before .before .before .before .before .before in
-    (start .pre .0, (record-fillable (start .pre .0) (start .pre .1) (c .before .before .before .before .before .read-record .ensures), c .before .find-place2 .ensures))
+    (start .pre .0, (record-fillable (start .pre .0) (start .pre .1) (c .before .before .before .before .before .read-record .ensures), c .before .find-gap2 .ensures))
 
 link-requires : tie.Need-link-requires
 link-requires c κs =
-    (c .before .before .before .insert .ensures .layout .size, (bench (c .before .before .before .before .before .before .before .before .before .before .before .before), (before-few (c .before .before .before .before .before .before .before .find-place .ensures), c .before .before .before .before .before .before .before .before .before .read-record .ensures .small .next)))
+    (c .before .before .before .insert .ensures .layout .size, (bench (c .before .before .before .before .before .before .before .before .before .before .before .before), (before-few (c .before .before .before .before .before .before .before .find-gap .ensures), c .before .before .before .before .before .before .before .before .before .read-record .ensures .small .next)))
 
 same-length-2 : tie.Need-same-length-2
 same-length-2 c = search needs
@@ -65,7 +65,7 @@ same-length-2 c = search needs
 returns-2 : tie.Need-returns-2
 returns-2 c =
     let pre = c .before .before .before .before .before .before .before .before .before .before .before .before .before .before .before .before .before .before .pre in
-    hand-spliced (pre .0) (pre .1) (c .before .before .before .before .before .before .before .before .before .before .before .before .before .before .before .holder .ensures .value) (c .before .before .before .before .before .before .before .before .before .before .before .before .before .before .if1 .left) (c .before .before .before .before .before .before .before .before .before .before .before .before .read-record .ensures) (c .before .before .before .before .before .before .before .before .before .before .find-place .ensures) (c .before .before .before .before .before .before .before .before .find-place2 .ensures) (c .before .before .before .before .before .before .insert .ensures) (c .before .before .link .ensures) (λ i. omega (arith, c .slice-known3 .given i))
+    hand-spliced (pre .0) (pre .1) (c .before .before .before .before .before .before .before .before .before .before .before .before .before .before .before .holder .ensures .value) (c .before .before .before .before .before .before .before .before .before .before .before .before .before .before .if1 .left) (c .before .before .before .before .before .before .before .before .before .before .before .before .read-record .ensures) (c .before .before .before .before .before .before .before .before .before .before .find-gap .ensures) (c .before .before .before .before .before .before .before .before .find-gap2 .ensures) (c .before .before .before .before .before .before .insert .ensures) (c .before .before .link .ensures) (λ i. omega (arith, c .slice-known3 .given i))
 
 pub hand-job-spec : {M : Type 1} → statement M
 hand-job-spec =
@@ -75,8 +75,8 @@ hand-job-spec =
     same-length
     returns
     read-record-requires
-    find-place-requires
-    find-place-requires-2
+    find-gap-requires
+    find-gap-requires-2
     insert-requires
     link-requires
     same-length-2

@@ -44,7 +44,7 @@ same-length c = search needs
 returns : tie.Need-returns
 returns c =
     let start = c .before .before .before .before .before .before .before .before .before .before in
-    put-in (start .args .place) (start .pre .0) (start .pre .1 .0) (word (c .before .before .before .before .before .before .before .before)) (c .before .before .before .before .before .before .write-record .ensures) (c .before .before .link .ensures)
+    put-in (start .args .gap) (start .pre .1 .0) (word (c .before .before .before .before .before .before .before .before)) (c .before .before .before .before .before .before .write-record .ensures) (c .before .before .link .ensures)
 
 pub insert-spec : {M : Type 1} → statement M
 insert-spec = tie.close (tie.spec write-record-requires link-requires same-length returns)

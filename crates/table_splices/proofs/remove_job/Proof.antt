@@ -22,8 +22,8 @@ holder-requires c κs =
     let start = c .before .before in
     (sound-holds-board (start .args .t .now) (start .args .s) (start .pre .0 .sound), job start)
 
-find-place-requires : tie.Need-find-place-requires
-find-place-requires c κs = (c .before .before .before .before .pre .0, bench (c .before))
+find-gap-requires : tie.Need-find-gap-requires
+find-gap-requires c κs = (c .before .before .before .before .pre .0, bench (c .before))
 
 read-record-requires : tie.Need-read-record-requires
 read-record-requires c κs = let start = c .before .before .before .before .before .before in (start .pre .0 .sound .size, job start)
@@ -33,7 +33,7 @@ write-record-requires c κs = let start = c .before .before .before .before .bef
 
 link-requires : tie.Need-link-requires
 link-requires c κs =
-    (c .before .before .before .write-record .ensures .size, (bench (c .before .before .before .before .before .before .before .before .before), (before-few (c .before .before .before .before .before .before .before .find-place .ensures), c .before .before .before .before .before .read-record .ensures .small .next)))
+    (c .before .before .before .write-record .ensures .size, (bench (c .before .before .before .before .before .before .before .before .before), (before-few (c .before .before .before .before .before .before .before .find-gap .ensures), c .before .before .before .before .before .read-record .ensures .small .next)))
 
 standing-word-requires : tie.Need-standing-word-requires
 standing-word-requires c κs = c .before .before .before .link .ensures .size
@@ -42,7 +42,7 @@ standing-word-requires c κs = c .before .before .before .link .ensures .size
 count : (c : tie.After-standing-word) → (1 ≤ c .standing-word .result) × (c .standing-word .result ≤ c .before .before .before .before .before .before .before .before .before .before .before .before .before .before .before .before .before .args .s .jobs)
 count c =
     let start = c .before .before .before .before .before .before .before .before .before .before .before .before .before .before .before .before .before in
-    removed-few (start .args .j) vacant (c .before .before .before .before .before .before .before .before .before .before .before .before .before .before .holder .result) (c .before .before .before .before .before .before .before .before .before .before .before .before .find-place .result .before) (c .before .before .before .before .before .before .before .before .before .before .read-record .result .next) (start .pre .0) (start .pre .1) (c .before .before .before .before .before .before .before .before .write-record .ensures) (c .before .before .before .before .link .ensures) (c .standing-word .ensures)
+    removed-few (start .args .j) vacant (c .before .before .before .before .before .before .before .before .before .before .before .before .before .before .holder .result) (c .before .before .before .before .before .before .before .before .before .before .before .before .find-gap .result .before) (c .before .before .before .before .before .before .before .before .before .before .read-record .result .next) (start .pre .0) (start .pre .1) (c .before .before .before .before .before .before .before .before .write-record .ensures) (c .before .before .before .before .link .ensures) (c .standing-word .ensures)
 
 sub-write-standing : tie.Need-sub-write-standing
 sub-write-standing c = omega (arith, count (c .before))
@@ -57,14 +57,14 @@ same-length c = search needs
 returns : tie.Need-returns
 returns c =
     let pre = c .before .before .before .before .before .before .before .before .before .before .before .before .before .before .before .before .before .before .before .before .before .pre in
-    remove-spliced (pre .0) (pre .1) (c .before .before .before .before .before .before .before .before .before .before .before .before .before .before .before .before .before .before .holder .ensures .value) (c .before .before .before .before .before .before .before .before .before .before .before .before .before .before .before .before .find-place .ensures) (c .before .before .before .before .before .before .before .before .before .before .before .before .before .before .read-record .ensures) (c .before .before .before .before .before .before .before .before .before .before .before .before .write-record .ensures) (c .before .before .before .before .before .before .before .before .link .ensures) (c .before .before .before .before .standing-word .ensures) (c .before .before .write-standing .ensures) (λ i. omega (arith, c .slice-known4 .given i))
+    remove-spliced (pre .0) (pre .1) (c .before .before .before .before .before .before .before .before .before .before .before .before .before .before .before .before .before .before .holder .ensures .value) (c .before .before .before .before .before .before .before .before .before .before .before .before .before .before .before .before .find-gap .ensures) (c .before .before .before .before .before .before .before .before .before .before .before .before .before .before .read-record .ensures) (c .before .before .before .before .before .before .before .before .before .before .before .before .write-record .ensures) (c .before .before .before .before .before .before .before .before .link .ensures) (c .before .before .before .before .standing-word .ensures) (c .before .before .write-standing .ensures) (λ i. omega (arith, c .slice-known4 .given i))
 
 pub remove-job-spec : {M : Type 1} → statement M
 remove-job-spec =
     tie.close
     (tie.spec
     holder-requires
-    find-place-requires
+    find-gap-requires
     read-record-requires
     write-record-requires
     link-requires

@@ -10,34 +10,33 @@ use Rattle.spec_table.specs.Board.{Board, holderOf, stands}
 use Rattle.spec_table.specs.Table.{decode}
 use Rattle.table_size.specs.Sizes.{JobIn, BenchIn}
 use Rattle.table_size.specs.declared.Size.{Size}
-use Rattle.table_board.proofs.RecordsAsBoard.{sound-holds-board}
-use Rattle.table_chains.proofs.ChainView.{held-stands}
+use Rattle.table_board.proofs.RecordsAsBoard.{sound-holds-board, held-stands}
 use Rattle.table_order.specs.InOrder.{InOrder, FirstFrom}
-use Rattle.table_splices.specs.Splices.{PlaceOf}
+use Rattle.table_splices.specs.Splices.{GapOf}
 
 -- the walk has come past job p, which is below j, to job n, the next one of bench x; 0 for none
-pub record Walking (b : Board) (s : Size) (x j p n : ℕ) : Type 0 where
+pub record ToGap (b : Board) (s : Size) (x j p n : ℕ) : Type 0 where
   pub past : p ≢ 0 → (p < j) × JobIn s p × (holderOf b p ≡ x)
   pub next : FirstFrom b s x (suc p) n
 
 -- at first it is past none ..
-pub walking-start : {b : Board} {s : Size} {x j n : ℕ} → FirstFrom b s x 1 n → Walking b s x j 0 n
-walking-start f = record { past = λ d. absurd (d refl); next = f }
+pub to-gap-start : {b : Board} {s : Size} {x j n : ℕ} → FirstFrom b s x 1 n → ToGap b s x j 0 n
+to-gap-start f = record { past = λ d. absurd (d refl); next = f }
 
-module _ {b : Board} {s : Size} {x j p n : ℕ} (w : Walking b s x j p n) where
+module _ {b : Board} {s : Size} {x j p n : ℕ} (w : ToGap b s x j p n) where
   -- .. each turn goes past one job more ..
-  pub walking-turn : {m : ℕ} → n ≢ 0 → n < j → FirstFrom b s (holderOf b n) (suc n) m → Walking b s x j n m
-  walking-turn {m} d l f =
+  pub to-gap-turn : {m : ℕ} → n ≢ 0 → n < j → FirstFrom b s (holderOf b n) (suc n) m → ToGap b s x j n m
+  to-gap-turn {m} d l f =
       let g = w .next .found d in
       record { past = λ e. (l, g .1, g .2); next = subst (λ y. FirstFrom b s y (suc n) m) (g .2) f }
 
   -- .. nearer to j ..
-  pub walking-on : n ≢ 0 → p < n
-  walking-on d = w .next .found d .0
+  pub to-gap-on : n ≢ 0 → p < n
+  to-gap-on d = w .next .found d .0
 
   -- .. and ends where job j belongs
-  pub walking-end : (n ≢ 0 → j ≤ n) → PlaceOf b s x j (record { before = p; behind = n })
-  walking-end e =
+  pub to-gap-end : (n ≢ 0 → j ≤ n) → GapOf b s x j (record { before = p; behind = n })
+  to-gap-end e =
       record {
         before = record { found = w .past; last = last };
         behind = record { found = λ d. let f = w .next .found d in (e d, f .1, f .2); least = λ i l k h. w .next .least i (later i l k) k h };
@@ -58,5 +57,5 @@ module _ {b : Board} {s : Size} {x j p n : ℕ} (w : Walking b s x j p n) where
           go (no d) = omega (arith, w .past d .0)
 
 -- a job that the walk comes to stands
-pub walking-stands : {t : List ℕ} {s : Size} {x j p n : ℕ} → InOrder t s → BenchIn s x → Walking (decode t) s x j p n → n ≢ 0 → T (stands (decode t) n)
-walking-stands {t} {s} {x} {n} o k w d = held-stands t s n x (sound-holds-board t s (o .sound)) (k .least) (w .next .found d .2)
+pub to-gap-stands : {t : List ℕ} {s : Size} {x j p n : ℕ} → InOrder t s → BenchIn s x → ToGap (decode t) s x j p n → n ≢ 0 → T (stands (decode t) n)
+to-gap-stands {t} {s} {x} {n} o k w d = held-stands t s n (sound-holds-board t s (o .sound)) (λ e. omega (arith, k .least, w .next .found d .2))

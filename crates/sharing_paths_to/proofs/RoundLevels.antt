@@ -16,10 +16,11 @@ use Rattle.spec_sharing.specs.Paths.{BenchPath}
 use Rattle.spec_sharing.proofs.Trails.{closing-trail}
 use Rattle.table_size.specs.declared.Size.{Size}
 use Rattle.graph_lists.specs.Arrays.{at}
+use Rattle.sharing_steps.proofs.AsSteps.{bench-load}
 use Rattle.sharing_search.specs.Searching.{started, Searching, Grown, AtLevel, Level}
 use Rattle.sharing_search.proofs.Steps.{found-bench, search-few, search-level, search-round, search-trails}
 use Rattle.sharing_paths.proofs.Following.{trail-few}
-use Rattle.sharing_paths_to.specs.ClosingSearch.{courseTo, FromHeavier, FoundFrom, Rounds, InRound, ClosingFound, RoundOf}
+use Rattle.sharing_paths_to.specs.ClosingSearch.{courseTo, FromHeavier, FoundFrom, Rounds, InRound, GoalFound, RoundOf}
 use Rattle.sharing_paths_to.proofs.Keeping.{found-kept}
 
 module _ {b c : Board} {s : Size} {loads : List ℕ} {x h begin end level : ℕ} {queue came : List ℕ} (k : InRound b c s loads x h begin end level queue came) where
@@ -86,7 +87,7 @@ module _ {b c : Board} {s : Size} {loads : List ℕ} {x h begin end level : ℕ}
     heavy = found-kept c (k .searching) refl after refl (grown .kept) (k .heavy) (λ v e d. absurd (omega (arith, new-far v e (omega arith), ap (λ (p : BenchPath). length (p .route)) (after .own v d))))
 
     -- x is found, along the path that the closing's order names ..
-    pub level-found : 1 ≤ at came' x → ClosingFound b c s x (level + 1) more queue' came'
+    pub level-found : 1 ≤ at came' x → GoalFound b c s x (level + 1) more queue' came'
     level-found m = record {
       course = courseTo c h (r .place) end level;
       behind = record {
@@ -100,7 +101,7 @@ module _ {b c : Board} {s : Size} {loads : List ℕ} {x h begin end level : ℕ}
       where
         starts : (v : ℕ) → at came' v ≡ started → T (within 1 (c .benches) v) × (load (c .holders) x + 2 ≤ load (c .holders) v)
         starts v e =
-            let its-load = k .loaded .bench x (k .bench .least) (omega (arith, k .bench .most, k .searching .few)) in
+            let its-load = bench-load (k .searching .few) (k .loaded) (k .bench) in
             (rw (k .without .benches) (found-bench after v (omega arith)), omega (arith, k .improves, heavy .starts v e))
 
         enough : (z : ℕ) → T (within 1 (c .benches) z) → load (c .holders) (after .trail x .start) ≤ load (c .holders) z → FromHeavier c came' (after .trail) z
@@ -126,7 +127,7 @@ module _ {b c : Board} {s : Size} {loads : List ℕ} {x h begin end level : ℕ}
 
 module _ {b c : Board} {s : Size} {loads : List ℕ} {x h found : ℕ} {queue came : List ℕ} where
   -- a round that found x ..
-  pub round-found : (n : ℕ) → ClosingFound b c s x (n + 1) found queue came → RoundOf b c s loads x h queue came (record { found = found; jobs = n + 1 })
+  pub round-found : (n : ℕ) → GoalFound b c s x (n + 1) found queue came → RoundOf b c s loads x h queue came (record { found = found; jobs = n + 1 })
   round-found n k = record { none = λ e. absurd (omega arith); some = λ d. k }
 
   -- .. and one that did not

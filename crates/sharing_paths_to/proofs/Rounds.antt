@@ -2,42 +2,40 @@
 use Prim.Native.Nat.{ℕ, suc, _+_, _-_, _≤_, _<_}
 use native.Mathlib.Omega.{arith}
 use native.Mathlib.Decide.{decLt}
-use mathlib.Core.Path.{_≡_, refl, sym, ap, _∙_}
+use mathlib.Core.Path.{_≡_, refl, sym, ap, subst, _∙_}
 use mathlib.Core.Logic.{_≢_}
 use mathlib.Core.List.{List, [], _∷_}
 use mathlib.Core.Option.{none, some}
 use lib.Dec.{T}
 use lib.ListN.{length, take, replicate, length-map}
 use lib.Seq.{getD-take}
-use Rattle.spec_lists.specs.Lists.{within, In}
+use Rattle.spec_lists.specs.Lists.{within}
 use Rattle.spec_table.specs.Board.{Board, holderOf, stands, load, heaviest}
-use Rattle.spec_table.specs.Table.{mostBenches, mostJobs, Storable, decode}
-use Rattle.spec_sharing.specs.Paths.{Step, steps, pathBy, jobs}
+use Rattle.spec_table.specs.Table.{mostBenches, decode}
+use Rattle.spec_sharing.specs.Paths.{Step, pathBy, jobs}
 use Rattle.spec_sharing.specs.Sharing.{closingChoice}
-use Rattle.spec_lists.proofs.Tests.{within-low, within-high, within-both}
-use Rattle.spec_table.proofs.Named.{named-stands, stands-within}
 use Rattle.spec_table.proofs.Loads.{load-heaviest}
-use Rattle.spec_sharing.proofs.Paths.{step-is, step-bench, improves-loads, improvingTo-only}
+use Rattle.spec_sharing.proofs.Paths.{improves-loads, improvingTo-only}
 use Rattle.spec_sharing.proofs.Choice.{closing-choice}
-use Rattle.spec_sharing.proofs.Distances.{storable-one-other}
 use Rattle.spec_sharing.proofs.Trails.{closing-trail-none}
 use Rattle.table_size.specs.Sizes.{JobIn, BenchIn}
 use Rattle.table_size.specs.declared.Size.{Size}
+use Rattle.table_size.proofs.Sizes.{bench-in}
 use Rattle.table_board.specs.BoardView.{HoldsBoard, HolderOf, Loaded}
 use Rattle.table_board.proofs.RecordsAsBoard.{stands-job}
 use Rattle.graph_lists.specs.Arrays.{at}
 use Rattle.graph_lists.proofs.Listing.{array-at}
-use Rattle.sharing_steps.proofs.AsSteps.{step-job}
+use Rattle.sharing_steps.proofs.AsSteps.{bench-load, step-job}
 use Rattle.sharing_loads.specs.LoadRanks.{NextLower}
 use Rattle.sharing_search.specs.Searching.{Searching}
 use Rattle.sharing_search.proofs.Steps.{search-none, search-round, search-trails}
 use Rattle.sharing_paths.specs.FoundPaths.{startOf, PathFound}
 use Rattle.sharing_paths.proofs.Following.{trail-few}
-use Rattle.sharing_paths_to.specs.ClosingSearch.{WithoutJob, courseTo, FromHeavier, Rounds, ClosingFound}
+use Rattle.sharing_paths_to.specs.ClosingSearch.{WithoutJob, courseTo, FromHeavier, Rounds, GoalFound}
 use Rattle.sharing_paths_to.proofs.Keeping.{heavier-kept}
 
--- above the heaviest load there is no bench: the rounds begin
-pub rounds-begin : {b c : Board} {s : Size} {loads : List ℕ} {x h : ℕ} {queue came : List ℕ} → WithoutJob b c s x → Loaded c loads → BenchIn s x → s .benches ≤ mostBenches → h ≡ heaviest c → length queue ≡ mostBenches + 1 → came ≡ replicate (mostBenches + 1) 0 → Rounds b c s loads x h 0 queue came
+-- from the heaviest load on there is no bench above: the rounds begin
+pub rounds-begin : {b c : Board} {s : Size} {loads : List ℕ} {x h : ℕ} {queue came : List ℕ} → WithoutJob b c s x → Loaded c loads → BenchIn s x → s .benches ≤ mostBenches → heaviest c ≤ h → length queue ≡ mostBenches + 1 → came ≡ replicate (mostBenches + 1) 0 → Rounds b c s loads x h 0 queue came
 rounds-begin {b} {c} {s} {loads} {x} {h} {queue} {came} without loaded bench few e q z = record {
   without = without;
   loaded = loaded;
@@ -70,11 +68,10 @@ module _ {b c : Board} {s : Size} {loads : List ℕ} {x h found : ℕ} {queue ca
 
       heavy : (z : ℕ) → T (within 1 (c .benches) z) → suc r ≤ load (c .holders) z → FromHeavier c came (after .trail) z
       heavy z t g =
-          let low = within-low 1 (c .benches) z t in
-          let high : z ≤ s .benches = omega (arith, within-high 1 (c .benches) z t, k .without .benches) in
-          let its-load = k .loaded .bench z low (omega (arith, k .searching .few)) in
+          let bench : BenchIn s z = bench-in s z (subst (λ (n : ℕ). T (within 1 n z)) (k .without .benches) t) in
+          let its-load = bench-load (k .searching .few) (k .loaded) bench in
           heavier-kept c (k .searching) refl after refl (λ y m. refl) z (k .heavier .heavy z t (elim (decLt (at loads z) h) [
-            | yes u ↦ absurd (omega (arith, n .most z (record { least = low; most = high }) u))
+            | yes u ↦ absurd (omega (arith, n .most z bench u))
             | no u ↦ omega arith
           ]))
 
@@ -82,14 +79,14 @@ module _ {b c : Board} {s : Size} {loads : List ℕ} {x h found : ℕ} {queue ca
   pub rounds-none : Rounds b c s loads x h found queue came → h < at loads x + 2 → closingChoice c x ≡ none
   rounds-none k l =
       closing-trail-none c (k .without .storable .valid) x (search-trails (k .searching)) (λ m. omega (arith, k .missed)) (λ u (i, m, n, e). omega arith)
-      (λ z t g. k .heavier .heavy z t (omega (arith, k .loaded .bench x (k .bench .least) (omega (arith, k .bench .most, k .searching .few)))) .0)
+      (λ z t g. k .heavier .heavy z t (omega (arith, bench-load (k .searching .few) (k .loaded) (k .bench))) .0)
 
 -- no path is x itself, and no job
 pub path-none : (c : Board) {x : ℕ} {path : List ℕ} → closingChoice c x ≡ none → length path ≡ mostBenches + 1 → PathFound (closingChoice c x) (startOf x (closingChoice c x)) path (record { bench = x; jobs = 0 })
 path-none c e long = rw e (record { bench = refl; count = refl; listed = refl; few = omega arith; long = long })
 
 -- a path that was found, and followed back into an array
-module _ {t : List ℕ} {c : Board} {s : Size} {x n found : ℕ} {queue came : List ℕ} (path : List ℕ) (holdsBoard : HoldsBoard t s) (without : WithoutJob (decode t) c s x) (k : ClosingFound (decode t) c s x n found queue came) (some-jobs : n ≢ 0) (listed : take n path ≡ jobs (k .behind .searching .trail x)) where
+module _ {t : List ℕ} {c : Board} {s : Size} {x n found : ℕ} {queue came : List ℕ} (path : List ℕ) (holdsBoard : HoldsBoard t s) (without : WithoutJob (decode t) c s x) (k : GoalFound (decode t) c s x n found queue came) (some-jobs : n ≢ 0) (listed : take n path ≡ jobs (k .behind .searching .trail x)) where
   -- its first job stands in the table, held by its first bench ..
   first-held : T (stands (decode t) (at path 0)) × (holderOf (decode t) (at path 0) ≡ k .behind .searching .trail x .start)
   first-held = go (k .behind .searching .trail x .start) (k .behind .searching .trail x .route) (k .choice) (k .behind .jobs) listed
