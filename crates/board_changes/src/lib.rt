@@ -50,7 +50,7 @@ fn arrival_on(
     if jobs::stands(t, s, job) {
         return Answer::Refused(Refusal::AlreadyStanding);
     }
-    let a = sharing_arrival::arrive(t, s, rising, loads, path, job, first, second);
+    let a = sharing_changes::arrive(t, s, rising, loads, path, job, first, second);
     Answer::Arrived(a.holder, a.rose, a.moved)
 }
 
@@ -96,7 +96,7 @@ fn closing_on(
     if !jobs::stands(t, s, job) {
         return Answer::Refused(Refusal::NotStanding);
     }
-    let c = sharing_closing::close(t, s, rising, loads, path, job);
+    let c = sharing_changes::close(t, s, rising, loads, path, job);
     Answer::Closed(c.bench, c.jobs)
 }
 

@@ -14,7 +14,7 @@ use Rattle.spec_table.specs.Board.{Board, Valid, namesOf, holderOf, stands, put
 use Rattle.spec_table.specs.Table.{Storable, decode, encode}
 use Rattle.spec_sharing.specs.Paths.{Step, BenchPath, pathBy, jobs, last, IsPath, handOver, flip}
 use Rattle.spec_sharing.specs.Sharing.{Change, arrivalChoice, afterArrival, arrive}
-use Rattle.spec_calls.specs.Calls.{Arriving, MayArrive}
+use Rattle.spec_calls.specs.Calls.{MayArrive}
 use Rattle.spec_lists.proofs.Tests.{true→T, not→false}
 use Rattle.spec_lists.proofs.Elements.{nth-update-other, update-again, length-update, in-getD}
 use Rattle.spec_lists.proofs.NumberLists.{distinct-head, in-member}
@@ -32,8 +32,7 @@ use Rattle.graph_lists.specs.Arrays.{at}
 use Rattle.sharing_paths.specs.FoundPaths.{lastOf, PathFound, JobAt, AfterIn, RouteIn}
 use Rattle.sharing_paths.specs.declared.FoundPath.{FoundPath}
 use Rattle.sharing_paths.proofs.HandingAlong.{route-at, route-stands, route-job, route-named, route-rest, route-after, found-route}
-use Rattle.sharing_arrival.specs.ArrivalResult.{ArrivalFound, EntersAt, IsArrival, ArrivalOf}
-use Rattle.sharing_arrival.specs.declared.Arrival.{Arrival}
+use Rattle.sharing_arrival.specs.ArrivalResult.{ArrivalFound, EntersAt, IsArrival}
 use Rattle.sharing_arrival.specs.declared.Intake.{Intake}
 use Rattle.sharing_arrival.proofs.Arriving.{new-holder, new-names, getting-in, arriving-fit, arriving-storable}
 
@@ -206,11 +205,3 @@ module _ {t : List ℕ} {s : Size} {j first second x : ℕ} {path : List ℕ} {r
               rose = n .rose;
               moved = omega (arith, n .moved);
             }
-
--- a job that may arrive on the board may arrive on a table of it ..
-pub arrival-may : {u : List ℕ} {s : Size} {b : Board} (a : Arriving) → TableOf u s b → MayArrive b a → MayArrive (decode u) a
-arrival-may a k m = rw (k .board) m
-
--- .. and what is left of the table is what the board's arrival leaves
-pub arrival-copied : {u v : List ℕ} {s : Size} {b : Board} (j x y : ℕ) {r : Arrival} → TableOf u s b → ArrivalOf u v j x y r → IsArrival v j (arrive b j (x ∷ y ∷ [])) r
-arrival-copied {v = v} j x y {r} k h = subst (λ (b : Board). IsArrival v j (arrive b j (x ∷ y ∷ [])) r) (k .board) h

@@ -1,6 +1,5 @@
 // Arrival of a job that may arrive. What it hands along is found first, and nothing is written; then it is applied.
 ghost use mathlib.Core.Path.{_≡_};
-ghost use mathlib.Core.Logic.{_↔_};
 ghost use mathlib.Core.List.{[], _∷_};
 ghost use Prim.Native.Nat.{ℕ, _+_, _≤_};
 ghost use lib.Dec.{T};
@@ -8,9 +7,8 @@ ghost use lib.ListN.{length};
 ghost use Rattle.spec_lists.specs.Lists.{within};
 ghost use Rattle.spec_table.specs.Board.{Board};
 ghost use Rattle.spec_sharing.specs.Sharing.{lightestNamed};
-ghost use Rattle.spec_table.specs.Table.{mostBenches, decode, encode};
+ghost use Rattle.spec_table.specs.Table.{mostBenches, decode};
 ghost use Rattle.spec_calls.specs.Calls.{MayArrive};
-ghost use Rattle.table_size.specs.Sizes.{SoundTable};
 ghost use Rattle.table_board.specs.BoardView.{HoldsBoard, Loaded};
 ghost use Rattle.table_order.specs.InOrder.{InOrder};
 ghost use Rattle.sharing_paths.specs.FoundPaths.{JobAt};
@@ -123,8 +121,8 @@ pub fn apply_arrival(
     }
 }
 
-// Takes in job j on a table in order: finds first, then writes.
-fn arrive_in_order(
+// Takes in job j on a table in order: finds first, then writes. `path` is lent: what it holds does not matter.
+pub fn arrive_in_order(
     t: &mut [u8],
     s: Size,
     loads: &mut [u16; Size::MOST_BENCHES + 1],
@@ -142,56 +140,4 @@ fn arrive_in_order(
     let x = lighter(loads, first, second);
     let found = find_arrival(t, s, loads, j, first, second, x, path);
     apply_arrival(t, s, j, first, second, x, found, path)
-}
-
-// Takes in job j on a table in another order: in a copy, as long as the table, that is put in order, and then copied
-// back.
-fn arrive_in_copy(
-    t: &mut [u8],
-    s: Size,
-    loads: &mut [u16; Size::MOST_BENCHES + 1],
-    path: &mut [u16; Size::MOST_BENCHES + 1],
-    j: usize,
-    first: usize,
-    second: usize,
-    copy: &mut [u8],
-) -> Arrival
-    requires { ⌜ SoundTable (now t) s ⌝ }
-    requires { ⌜ MayArrive (decode (now t)) (record { job = j; given = first ∷ second ∷ [] }) ⌝ }
-    requires { ⌜ Loaded (decode (now t)) (now loads) ⌝ }
-    requires { ⌜ length (now path) ≡ mostBenches + 1 ⌝ }
-    requires { ⌜ length (now copy) ≡ length (now t) ⌝ }
-    ensures { λ r. ⌜ ArrivalOf (now (t .entry)) (now (t .exit)) j first second r ⌝ }
-{
-    table_copies::copy_in_order(t, s, copy);
-    let a = arrive_in_order(copy, s, loads, path, j, first, second);
-    table_copies::copy_back(copy, t);
-    a
-}
-
-// Takes in job j for two benches. `path` is lent for the jobs that are handed along: what it holds does not matter.
-pub fn arrive(
-    t: &mut [u8],
-    s: Size,
-    rising: bool,
-    loads: &mut [u16; Size::MOST_BENCHES + 1],
-    path: &mut [u16; Size::MOST_BENCHES + 1],
-    j: usize,
-    first: usize,
-    second: usize,
-) -> Arrival
-    requires { ⌜ SoundTable (now t) s ⌝ }
-    requires { ⌜ T rising ↔ (now t ≡ encode (decode (now t))) ⌝ }
-    requires { ⌜ MayArrive (decode (now t)) (record { job = j; given = first ∷ second ∷ [] }) ⌝ }
-    requires { ⌜ Loaded (decode (now t)) (now loads) ⌝ }
-    requires { ⌜ length (now path) ≡ mostBenches + 1 ⌝ }
-    ensures { λ r. ⌜ ArrivalOf (now (t .entry)) (now (t .exit)) j first second r ⌝ }
-{
-    if rising {
-        arrive_in_order(t, s, loads, path, j, first, second)
-    } else {
-        let mut copy = [0; Size::MOST_BYTES];
-        let n = s.bytes();
-        arrive_in_copy(t, s, loads, path, j, first, second, &mut copy[0..n])
-    }
 }

@@ -31,7 +31,7 @@ use Rattle.sharing_paths.specs.FoundPaths.{lastOf, startOf, PathFound, RouteIn}
 use Rattle.sharing_paths.specs.declared.FoundPath.{FoundPath}
 use Rattle.sharing_paths.proofs.HandingAlong.{routeOf, found-route}
 use Rattle.sharing_paths_to.specs.ClosingSearch.{WithoutJob}
-use Rattle.sharing_closing.specs.ClosingResult.{ClosingFound, IsClosing, ClosingOf}
+use Rattle.sharing_closing.specs.ClosingResult.{ClosingFound, IsClosing}
 use Rattle.sharing_steps.proofs.JobWritten.{step-same, written-load}
 
 -- one job less at bench x
@@ -118,10 +118,6 @@ module _ {t : List ℕ} {s : Size} {j : ℕ} (z : SoundTable t s) (p : T (stands
 
 -- the path is handed along
 
--- the job stands on a table of the same board
-pub closing-stands : (j : ℕ) {u : List ℕ} {s : Size} {b : Board} → TableOf u s b → T (stands b j) → T (stands (decode u) j)
-closing-stands j o p = rw (o .board) p
-
 -- a path that the rule chooses ends at x
 ends-at : (c : Board) (x : ℕ) (o : Option BenchPath) → closingChoice c x ≡ o → lastOf x o ≡ x
 ends-at c x none q = refl
@@ -162,7 +158,3 @@ module _ {b : Board} {s : Size} {j x : ℕ} {path : List ℕ} {r : FoundPath} (f
       let k = h (startOf y d) (routeOf d) closing-route in
       let board = k .board ∙ ap (λ (l : Board). heldBy l (handOver (l .holders) (routeOf d))) removed ∙ closed-board c y d in
       closed-numbers w c y d (k .inOrder .bytes ∙ ap encode board) (f .found)
-
--- what is left of a table of the board is what the board's closing leaves
-pub closing-copied : {u v : List ℕ} {s : Size} {b : Board} (j : ℕ) {r : FoundPath} → TableOf u s b → ClosingOf u v j r → IsClosing v (close b j) r
-closing-copied {v = v} j {r} k h = subst (λ (b : Board). IsClosing v (close b j) r) (k .board) h

@@ -1,12 +1,10 @@
 // Closing of a standing job. What it hands along is found first, and nothing is written; then it is applied.
 ghost use mathlib.Core.Path.{_≡_};
-ghost use mathlib.Core.Logic.{_↔_};
 ghost use Prim.Native.Nat.{_+_};
 ghost use lib.Dec.{T};
 ghost use lib.ListN.{length};
 ghost use Rattle.spec_table.specs.Board.{stands};
-ghost use Rattle.spec_table.specs.Table.{mostBenches, decode, encode};
-ghost use Rattle.table_size.specs.Sizes.{SoundTable};
+ghost use Rattle.spec_table.specs.Table.{mostBenches, decode};
 ghost use Rattle.table_board.specs.BoardView.{Loaded};
 ghost use Rattle.table_order.specs.InOrder.{InOrder};
 ghost use Rattle.sharing_closing.specs.ClosingResult.{ClosingFound, ClosingOf};
@@ -53,8 +51,9 @@ pub fn apply_closing(
     sharing_paths::hand_along(t, s, path, 0, found.jobs, x);
 }
 
-// Closes job j on a table in order: finds first, then writes.
-fn close_in_order(
+// Closes job j on a table in order: finds first, then writes; tells the bench whose load fell, and the jobs that
+// changed holder. `path` is lent: what it holds does not matter.
+pub fn close_in_order(
     t: &mut [u8],
     s: Size,
     loads: &mut [u16; Size::MOST_BENCHES + 1],
@@ -70,53 +69,4 @@ fn close_in_order(
     let found = find_closing(t, s, loads, j, path);
     apply_closing(t, s, j, found, path);
     found
-}
-
-// Closes job j on a table in another order: in a copy, as long as the table, that is put in order, and then copied
-// back.
-fn close_in_copy(
-    t: &mut [u8],
-    s: Size,
-    loads: &mut [u16; Size::MOST_BENCHES + 1],
-    path: &mut [u16; Size::MOST_BENCHES + 1],
-    j: usize,
-    copy: &mut [u8],
-) -> FoundPath
-    requires { ⌜ SoundTable (now t) s ⌝ }
-    requires { ⌜ T (stands (decode (now t)) j) ⌝ }
-    requires { ⌜ Loaded (decode (now t)) (now loads) ⌝ }
-    requires { ⌜ length (now path) ≡ mostBenches + 1 ⌝ }
-    requires { ⌜ length (now copy) ≡ length (now t) ⌝ }
-    ensures { λ r. ⌜ ClosingOf (now (t .entry)) (now (t .exit)) j r ⌝ }
-{
-    table_copies::copy_in_order(t, s, copy);
-    let found = close_in_order(copy, s, loads, path, j);
-    table_copies::copy_back(copy, t);
-    found
-}
-
-// Closes job j, which stands; tells the bench whose load fell, and the jobs that changed holder. `path` is lent: what
-// it holds does not matter.
-pub fn close(
-    t: &mut [u8],
-    s: Size,
-    rising: bool,
-    loads: &mut [u16; Size::MOST_BENCHES + 1],
-    path: &mut [u16; Size::MOST_BENCHES + 1],
-    j: usize,
-) -> FoundPath
-    requires { ⌜ SoundTable (now t) s ⌝ }
-    requires { ⌜ T rising ↔ (now t ≡ encode (decode (now t))) ⌝ }
-    requires { ⌜ T (stands (decode (now t)) j) ⌝ }
-    requires { ⌜ Loaded (decode (now t)) (now loads) ⌝ }
-    requires { ⌜ length (now path) ≡ mostBenches + 1 ⌝ }
-    ensures { λ r. ⌜ ClosingOf (now (t .entry)) (now (t .exit)) j r ⌝ }
-{
-    if rising {
-        close_in_order(t, s, loads, path, j)
-    } else {
-        let mut copy = [0; Size::MOST_BYTES];
-        let n = s.bytes();
-        close_in_copy(t, s, loads, path, j, &mut copy[0..n])
-    }
 }

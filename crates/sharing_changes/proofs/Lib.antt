@@ -1,0 +1,2 @@
+-- A copy's board is the table's.
+pub mod Copied

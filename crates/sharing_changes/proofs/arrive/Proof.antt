@@ -1,0 +1,32 @@
+-- On the table, where it is in order, or in a copy put in order.
+use borrow.Author.Needs.{needs}
+use Rattle.spec_lists.proofs.Tests.{true→T}
+use Rattle.table_copies.proofs.Ordering.{rising-table}
+use Rattle.sharing_changes.proofs.arrive.Statement.{statement}
+use Rattle.sharing_changes.proofs.arrive.Tie as tie
+
+arrive-in-order-requires : tie.Need-arrive-in-order-requires
+arrive-in-order-requires c κs =
+    let start = c .before .before .before .before .before in
+    let (z, (rises, rest)) = start .pre in
+    (rising-table z (rises .0 (true→T (start .args .rising) (c .before .before .before .if1 .taken))) .inOrder, rest)
+
+same-length : tie.Need-same-length
+same-length c = search needs
+
+returns : tie.Need-returns
+returns c = c .before .before .arrive-in-order .ensures
+
+do-stored-requires : tie.Need-do-stored-requires
+do-stored-requires c κs = let (z, (rises, rest)) = c .before .before .before .before .before .pre in (z, rest)
+
+same-length-2 : tie.Need-same-length-2
+same-length-2 c = search needs
+
+returns-2 : tie.Need-returns-2
+returns-2 c = c .before .before .do-stored .ensures
+
+pub arrive-spec : {M : Type 1} → statement M
+arrive-spec =
+    tie.close
+    (tie.spec arrive-in-order-requires same-length returns do-stored-requires same-length-2 returns-2)
