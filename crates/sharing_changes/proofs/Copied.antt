@@ -11,8 +11,10 @@ use Rattle.sharing_changes.specs.declared.Task.{Task}
 use Rattle.sharing_changes.specs.declared.Effect.{Effect}
 
 module _ {u : List ℕ} {s : Size} {b : Board} (k : TableOf u s b) (task : Task) where
+  -- what may be done on the table may be done on the copy ..
   pub may-copied : MayDo b task → MayDo (decode u) task
   may-copied m = subst (λ (c : Board). MayDo c task) (sym (k .board)) m
 
+  -- .. and leaves what it would leave of the table's board
   pub effect-copied : (v : List ℕ) (e : Effect) → EffectOf (decode u) v task e → EffectOf b v task e
   effect-copied v e h = subst (λ (c : Board). EffectOf c v task e) (k .board) h

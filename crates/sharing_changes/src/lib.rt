@@ -36,7 +36,7 @@ struct Effect {
     moved: usize,
 }
 
-// Does it on a table in order.
+// Does the task on a table in order.
 fn do_in_order(
     t: &mut [u8],
     s: Size,
@@ -70,7 +70,7 @@ fn do_in_order(
     }
 }
 
-// Does it in a copy, as long as the table, that is put in order, and copies it back.
+// Does the task in a copy, as long as the table, that is put in order, and copies it back.
 fn do_in_copy(
     t: &mut [u8],
     s: Size,
@@ -92,7 +92,7 @@ fn do_in_copy(
     e
 }
 
-// Makes room for the copy.
+// Does the task on a table in any order: makes the room for the copy.
 fn do_stored(
     t: &mut [u8],
     s: Size,
