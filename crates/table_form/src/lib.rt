@@ -46,7 +46,7 @@ pub fn check_with(
     }
 }
 
-// Checks any bytes, as `check_with` does.
+// Checks any bytes, with an array of its own for the due jobs.
 pub fn check(t: &[u8], loads: &mut [u16; Size::MOST_BENCHES + 1]) -> Form
     requires { ⌜ now loads ≡ replicate (mostBenches + 1) 0 ⌝ }
     ensures { λ r. ⌜ FormOf (now (t .entry)) (now (loads .exit)) r ⌝ }

@@ -132,7 +132,7 @@ fn none_due(s: Size, due: &[u16; Size::MOST_BENCHES + 1]) -> bool
 }
 
 // Makes the pass; where it gets through, the loads are the benches'. The jobs that are due stand in `due`, which is
-// lent: it is of no use afterwards.
+// lent: what is left in it means nothing.
 pub fn pass_over(
     t: &[u8],
     s: Size,
