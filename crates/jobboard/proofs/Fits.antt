@@ -7,7 +7,7 @@ use mathlib.Core.List.{List, [], _∷_}
 use mathlib.Core.Option.{Option, none, some}
 use lib.Dec.{T, eqb}
 use lib.ListN.{length}
-use Rattle.spec_lists.specs.Lists.{bit, member, range, all, empty}
+use Rattle.spec_lists.specs.Lists.{bit, member, all, empty}
 use Rattle.spec_table.specs.Board.{Board, holderOf, namesOf, stands, load, heaviest}
 use Rattle.spec_table.specs.Table.{mostBenches, mostJobs, words, Layout, layout, fits, sound, decode, Storable}
 use Rattle.spec_pair.specs.Pair.{recordsRead, jobFound}
@@ -16,8 +16,7 @@ use Rattle.spec_calls.specs.Answers.{Answer, Outcome, isRefused, refused, arriv
 use Rattle.spec_calls.specs.Calls.{Arriving, Closing, Question, loadOf, heaviestLoad, tightSetOf, formCheck, levelCheck, wallSheet, Call, arrival, closing, levelling, ask, between, asked, betweenConditions, betweenFact, betweenTold, refusals, accepted, outcome, arrivalOutcome, closingOutcome, levellingOutcome, tightSetTold, sheetTold}
 use Rattle.spec_sharing.specs.Demand2.{handed}
 use Rattle.spec_lists.proofs.Tests.{true→T, false→not, not-false, within-high}
-use Rattle.spec_lists.proofs.Elements.{is-empty, length-filter}
-use Rattle.spec_lists.proofs.NumberLists.{length-range}
+use Rattle.spec_lists.proofs.Elements.{is-empty}
 use Rattle.spec_lists.proofs.Counting.{bit-le, total-most, greatest-most}
 use Rattle.spec_table.proofs.Loads.{benches-most, named-most, load-most}
 use Rattle.spec_table.proofs.Places.{fits-sized}
@@ -25,7 +24,7 @@ use Rattle.spec_table.proofs.Sound.{sound-storable}
 use Rattle.spec_sheet.proofs.Longest.{sheet-most}
 use Rattle.spec_pair.proofs.Walks.{pair-read, found-within}
 use Rattle.spec_table.proofs.Named.{holder-bench, holder-none}
-use Rattle.spec_sharing.proofs.TightSet.{tight-rising}
+use Rattle.spec_sharing.proofs.TightSet.{tight-most}
 use Rattle.spec_calls.proofs.Refusals.{accepted-by, accepted-sound}
 use Rattle.spec_calls.proofs.Outcomes.{arriveOn, arrival-accepted, levelling-accepted}
 use Rattle.spec_calls.proofs.Results.{arrival-result, closing-result}
@@ -40,11 +39,6 @@ handed-most j b c =
 inside-most : (set : List ℕ) (named : List (List ℕ)) → inside set named ≤ length named
 inside-most set [] = omega arith
 inside-most set (names ∷ named) = omega (arith, bit-le (not (empty names) && all (λ x. member x set) names), inside-most set named)
-
--- at most all benches are in a tight set
-tight-most : (b : Board) (h : ℕ) → length (tightSet b h) ≤ b .benches
-tight-most b h =
-    omega (arith, ap length (tight-rising b h), length-filter (λ x. member x (tightSet b h)) (range 1 (b .benches)), length-range 1 (b .benches))
 
 module _ (b : Board) (s : Storable b) where
   -- a holder is 0 or a bench

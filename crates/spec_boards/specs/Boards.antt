@@ -1,4 +1,5 @@
--- 01, "Boards tried by hand": the entries marked ●, in 01's order, as one table.
+-- 01, "Boards tried by hand": the entries marked ●, in 01's order, as one table. 02: the third A line of the run and
+-- the closing that hands job 1 along list the moved jobs.
 use Prim.Native.Nat.{ℕ}
 use mathlib.Core.List.{List, [], _∷_, _++_, map}
 use lib.ListN.{replicate}
@@ -81,13 +82,13 @@ says values = 0 ∷ values
 abbrev pub heavyBench : List ℕ
 heavyBench = bytesOf (2 ∷ 3 ∷ 3 ∷ 0 ∷ 3 ∷ 0 ∷ 1 ∷ 2 ∷ 1 ∷ 0 ∷ 1 ∷ 2 ∷ 1 ∷ 1 ∷ 1 ∷ 2 ∷ 1 ∷ 2 ∷ [])
 
--- job j arrives and names benches x and y
+-- job j arrives and names benches x and y; no other job will move, and no list is lent
 abbrev pub arrives : ℕ → ℕ → ℕ → Call
-arrives j x y = arrival (record { job = j; given = x ∷ y ∷ [] })
+arrives j x y = arrival (record { job = j; given = x ∷ y ∷ []; list = [] })
 
--- job j is closed
-abbrev pub closes : ℕ → Call
-closes j = closing (record { job = j })
+-- job j is closed, this list is lent
+abbrev pub closes : ℕ → List ℕ → Call
+closes j list = closing (record { job = j; list = list })
 
 -- jobs 1, 2, 3 arrive, all naming 1 and 2
 abbrev pub threeArrivals : List Call
@@ -112,21 +113,21 @@ boards =
     ∷ whenBlanked 1008 500 0 (gives 1)
     -- ● Job J accepted; 0 and J + 1 give 3.
     ∷ whenCalled (blankedTable 2 3)
-    (arrives 3 1 2 ∷ arrives 0 1 2 ∷ arrives 4 1 2 ∷ closes 0 ∷ closes 4 ∷ closes 3 ∷ [])
+    (arrives 3 1 2 ∷ arrives 0 1 2 ∷ arrives 4 1 2 ∷ closes 0 [] ∷ closes 4 [] ∷ closes 3 [] ∷ [])
     (says (1 ∷ 1 ∷ 0 ∷ []) ∷ gives 3 ∷ gives 3 ∷ gives 3 ∷ gives 3 ∷ says (1 ∷ 0 ∷ []) ∷ []) [] (0 ∷ 0 ∷ 0 ∷ [])
     -- ● Benches 2 and 2 give 4, also for a standing job.
     ∷ whenCalled (blankedTable 2 3) (arrives 1 2 2 ∷ arrives 1 1 2 ∷ arrives 1 2 2 ∷ [])
     (gives 4 ∷ says (1 ∷ 1 ∷ 0 ∷ []) ∷ gives 4 ∷ []) [] (1 ∷ 0 ∷ 0 ∷ [])
     -- ● The run above.
     ∷ whenRun (text "B 3 4\nA 1 1 2\nA 2 2 3\nA 3 1 2\nS 1\nD 2\nD 2\n")
-    (text "B 3 4\nA 1 1 1 0\nA 2 2 2 0\nA 3 1 3 2\nS 1 3 3 1 2 3\nD 2 3 0\nR 6\n")
+    (text "B 3 4\nA 1 1 1 0\nA 2 2 2 0\nA 3 1 3 2 1 2\nS 1 3 3 1 2 3\nD 2 3 0\nR 6\n")
     -- ● Jobs 1, 2, 3 all name benches 1, 2: holders 1, 2, 1; height 2 gives two benches, 1 and 2, with three inside
     -- jobs.
     ∷ whenCalled (blankedTable 2 3) (threeArrivals ++ (ask (tightSetOf 2) (9 ∷ 9 ∷ 9 ∷ 9 ∷ 9 ∷ []) ∷ []))
     (threeAnswers ++ (says (2 ∷ 3 ∷ []) ∷ [])) (1 ∷ 0 ∷ 2 ∷ 0 ∷ 9 ∷ []) (1 ∷ 2 ∷ 1 ∷ [])
     -- ● Closing job 2 then hands job 1 to bench 2; bench 1 fell, 1 moved.
-    ∷ whenCalled (blankedTable 2 3) (threeArrivals ++ (closes 2 ∷ []))
-    (threeAnswers ++ (says (1 ∷ 1 ∷ []) ∷ [])) [] (2 ∷ 0 ∷ 1 ∷ [])
+    ∷ whenCalled (blankedTable 2 3) (threeArrivals ++ (closes 2 (9 ∷ 9 ∷ 9 ∷ []) ∷ []))
+    (threeAnswers ++ (says (1 ∷ 1 ∷ []) ∷ [])) (1 ∷ 0 ∷ 9 ∷ []) (2 ∷ 0 ∷ 1 ∷ [])
     -- ● Jobs 1 to 4 name 1 and 2, 1 and 3, 1 and 4, 1 and 5: loads 1, 0, 1, 1, 1.
     ∷ whenCalled (blankedTable 5 4)
     (arrives 1 1 2 ∷ arrives 2 1 3 ∷ arrives 3 1 4 ∷ arrives 4 1 5 ∷ map (λ x. ask (loadOf x) []) (range 1 5))

@@ -70,7 +70,7 @@ module _ (t : List ℕ) (s : T (sound t)) (l : T (level (decode t))) where
   carried-arrival k a =
       let c = arriveOn t k in
       let m = a .may in
-      carried-as (arrival k) t (outcome (arrival k) t) ((arrivalOutcome (k .job) c) .answer) (c .board) (ap (λ o. o .answer) (a .is)) (a .writes)
+      carried-as (arrival k) t (outcome (arrival k) t) ((arrivalOutcome k c) .answer) (c .board) (ap (λ o. o .answer) (a .is)) (a .writes)
       (arrival-keeps-level (decode t) v l (k .job) (k .given) (m .number) (m .free) (namable-some (decode t) (k .given) (m .fit)) (namable-fit (decode t) (k .given) (m .fit)))
       (a .does .benches) (a .does .named) (λ n. (holderOf (c .board) (k .job), c .bench, length (c .moved), refl, a .rose))
 
@@ -78,7 +78,7 @@ module _ (t : List ℕ) (s : T (sound t)) (l : T (level (decode t))) where
   unfolding closingOutcome
   carried-closing k a =
       let c = close (decode t) (k .job) in
-      carried-as (closing k) t (outcome (closing k) t) ((closingOutcome c) .answer) (c .board) (ap (λ o. o .answer) (a .is)) (a .writes)
+      carried-as (closing k) t (outcome (closing k) t) ((closingOutcome k c) .answer) (c .board) (ap (λ o. o .answer) (a .is)) (a .writes)
       (closing-keeps-level (decode t) v l (k .job) (a .stood)) (a .does .benches) (a .does .named) (λ n. (c .bench, length (c .moved), refl, a .fell))
 
   -- a levelling finds nothing to turn

@@ -1,5 +1,5 @@
 -- What an accepted arrival, closing or levelling leaves of a sound table: a sound table again, of the board that the rule names.
-use Prim.Native.Nat.{ℕ, _≤_}
+use Prim.Native.Nat.{ℕ, _*_, _≤_}
 use mathlib.Core.Path.{_≡_, refl, sym, ap, subst, _∙_}
 use mathlib.Core.Logic.{_⊎_, inl, inr}
 use mathlib.Core.Bool.{true, false, not}
@@ -7,6 +7,7 @@ use mathlib.Core.List.{List, [], _∷_}
 use mathlib.Core.Option.{Option, none, some}
 use lib.Dec.{T, eqb}
 use lib.ListN.{length}
+use borrow.Author.Tests.{ltb-false}
 use Rattle.spec_lists.specs.Lists.{within, Each, empty}
 use Rattle.spec_table.specs.Board.{Board, stands, namesFit}
 use Rattle.spec_table.specs.Table.{paired, sound, decode, encode, Storable}
@@ -53,24 +54,27 @@ module _ (b : Board) (given : List ℕ) (n : T (namable b given)) where
   pub namable-fit : T (namesFit (b .benches) given)
   namable-fit = right (eqb (length given) 2) (namesFit (b .benches) given) n
 
-may-arrive : (b : Board) (a : Arriving) → Each (λ k. k .holds ≡ false) (arrivalConditions a b) → MayArrive b a
+-- no condition of an arrival holds: it may go through, and its list is long enough
+may-arrive : (b : Board) (a : Arriving) → Each (λ k. k .holds ≡ false) (arrivalConditions a b) → MayArrive b (a .job) (a .given) × (2 * length ((arrive b (a .job) (a .given)) .moved) ≤ length (a .list))
 unfolding arrivalConditions
 may-arrive b a e =
-    record {
+    (record {
       number = not-false (within 1 (length (b .named)) (a .job)) (e .0);
       free = false→not (stands b (a .job)) (e .1 .1 .0);
       fit = not-false (namable b (a .given)) (e .1 .0);
-    }
+    }, ltb-false (length (a .list)) (2 * length ((arrive b (a .job) (a .given)) .moved)) (e .1 .1 .1 .0))
 
-may-close : (b : Board) (c : Closing) → Each (λ k. k .holds ≡ false) (closingConditions c b) → T (stands b (c .job))
+may-close : (b : Board) (c : Closing) → Each (λ k. k .holds ≡ false) (closingConditions c b) → T (stands b (c .job)) × (2 * length ((close b (c .job)) .moved) ≤ length (c .list))
 unfolding closingConditions
-may-close b c e = not-false (stands b (c .job)) (e .1 .0)
+may-close b c e =
+    (not-false (stands b (c .job)) (e .1 .0), ltb-false (length (c .list)) (2 * length ((close b (c .job)) .moved)) (e .1 .1 .0))
 
 -- what an accepted arrival leaves of a sound table: one bench's load rose by one, the one in the answer, and the number
--- of moved jobs is true
+-- of moved jobs is true; its list was long enough for them
 pub record AcceptedArrival (t : List ℕ) (a : Arriving) (c : Change) : Type 0 where
-  pub may : MayArrive (decode t) a
-  pub is : outcome (arrival a) t ≡ arrivalOutcome (a .job) c
+  pub may : MayArrive (decode t) (a .job) (a .given)
+  pub room : 2 * length (c .moved) ≤ length (a .list)
+  pub is : outcome (arrival a) t ≡ arrivalOutcome a c
   pub writes : WritesBoard ((outcome (arrival a) t) .table) (c .board)
   pub does : Changed (decode t) (a .job) (a .given) c
   pub rose : OneMore ((decode t) .benches) ((decode t) .holders) ((c .board) .holders) (c .bench)
@@ -85,11 +89,12 @@ unfolding accepted arrivalOutcome refusals
 arrival-accepted t s a n =
     let by = accepted-by (arrival a) t n in
     let st = sound-storable t s in
-    let m = may-arrive (decode t) a (by .0 .1 .1) in
+    let (m, room) = may-arrive (decode t) a (by .0 .1 .1) in
     let c = arriveOn t a in
     let d = arrival-does (decode t) (st .valid) (a .job) (a .given) (m .number) (m .free) (namable-some (decode t) (a .given) (m .fit)) (namable-fit (decode t) (a .given) (m .fit)) in
     record {
       may = m;
+      room = room;
       is = by .1;
       writes = written-as (c .board) (changed-storable (decode t) (c .board) (a .job) (a .given) st (namable-paired (decode t) (a .given) (m .fit)) (d .0 .valid) (d .0 .benches) (d .0 .named)) (ap (λ o. o .table) (by .1));
       does = d .0;
@@ -99,7 +104,8 @@ arrival-accepted t s a n =
 -- what an accepted closing leaves: one bench's load fell by one
 pub record AcceptedClosing (t : List ℕ) (k : Closing) (c : Change) : Type 0 where
   pub stood : T (stands (decode t) (k .job))
-  pub is : outcome (closing k) t ≡ closingOutcome c
+  pub room : 2 * length (c .moved) ≤ length (k .list)
+  pub is : outcome (closing k) t ≡ closingOutcome k c
   pub writes : WritesBoard ((outcome (closing k) t) .table) (c .board)
   pub does : Changed (decode t) (k .job) [] c
   pub fell : OneMore ((decode t) .benches) ((c .board) .holders) ((decode t) .holders) (c .bench)
@@ -110,11 +116,12 @@ unfolding accepted closingOutcome refusals
 closing-accepted t s k n =
     let by = accepted-by (closing k) t n in
     let st = sound-storable t s in
-    let m = may-close (decode t) k (by .0 .1 .1) in
+    let (m, room) = may-close (decode t) k (by .0 .1 .1) in
     let c = close (decode t) (k .job) in
     let d = closing-does (decode t) (st .valid) (k .job) m in
     record {
       stood = m;
+      room = room;
       is = by .1;
       writes = written-as (c .board) (changed-storable (decode t) (c .board) (k .job) [] st tt (d .0 .valid) (d .0 .benches) (d .0 .named)) (ap (λ o. o .table) (by .1));
       does = d .0;

@@ -6,12 +6,11 @@ use mathlib.Core.Logic.{_⊎_, inl, inr, _↔_}
 use mathlib.Core.Bool.{Bool, true, false, cond, not, _||_}
 use mathlib.Core.List.{List, [], _∷_}
 use lib.Dec.{T, eqb, ltb, lt→ltb}
-use lib.ListN.{length, take, drop, length-drop, length-append}
-use lib.Seq.{take-at, drop-at}
+use lib.ListN.{length}
 use borrow.Author.Tests.{eqb-false, ltb-false, ne-eqb, lt-ltb, le-ltb}
 use Rattle.spec_lists.specs.Lists.{within, Each}
 use Rattle.spec_table.specs.Board.{load, heaviest, excess}
-use Rattle.spec_table.specs.Table.{mostBenches, words, bytesOf, fits, sound, decode}
+use Rattle.spec_table.specs.Table.{mostBenches, fits, sound, decode}
 use Rattle.spec_sharing.specs.Paths.{BenchPath, IsPath, improves}
 use Rattle.spec_sharing.specs.Sharing.{level, tightSet, inside, density}
 use Rattle.spec_calls.specs.Answers.{Refusal, firstHolding, isRefused, refuse, refusedOr, refused, said, sizes, unsound, benchNumber, height, listTooShort, loadIs, heaviestIs, tightSetIs, isSound, levelYes, levelNo}
@@ -23,7 +22,7 @@ use Rattle.spec_sharing.proofs.Paths.{level-exact, unlevel-improves}
 use Rattle.spec_sharing.proofs.Levels.{level-demand2, tight-density}
 use Rattle.spec_calls.proofs.Refusals.{accepted-by, refused-by}
 use Rattle.spec_sharing.proofs.TightSet.{tight-bench}
-use Rattle.spec_table.proofs.Words.{words-append, length-bytesOf}
+use Rattle.spec_table.proofs.Words.{ListLeft, in-list}
 use Rattle.spec_calls.proofs.ChainOrder.{sound-outcome}
 
 -- "A refused call changes no lent byte": the lent list is as it was
@@ -91,20 +90,13 @@ module _ (t : List ℕ) (s : T (sound t)) where
       positive h f = omega arith
 
   -- "the bench numbers, rising, as words in a lent list of bytes; the list beyond them is untouched"
-  pub record TightList (h n : ℕ) (list left : List ℕ) : Type 0 where
-    pub benches : take n (words left) ≡ tightSet (decode t) h
-    pub beyond : drop (2 * n) left ≡ drop (2 * n) list
-    pub long : length left ≡ length list
-
-  pub tight-list : (h : ℕ) (list : List ℕ) (n i : ℕ) → (outcome (ask (tightSetOf h) list) t) .answer ≡ said (tightSetIs n i) → TightList h n list ((outcome (ask (tightSetOf h) list) t) .lent)
+  pub tight-list : (h : ℕ) (list : List ℕ) (n i : ℕ) → (outcome (ask (tightSetOf h) list) t) .answer ≡ said (tightSetIs n i) → ListLeft (tightSet (decode t) h) n list ((outcome (ask (tightSetOf h) list) t) .lent)
   unfolding refusals questionConditions accepted asked tightSetTold
   tight-list h list n i e =
       let set = tightSet (decode t) h in
       let a = accepted-by (ask (tightSetOf h) list) t (ap isRefused e) in
       let k = ltb-false (length list) (2 * length set) (a .0 .1 .1 .1 .0) in
-      let rest = drop (2 * length set) list in
-      rw (sym ((tight-says h list n i e) .benches), ap (λ o. o .lent) (a .1))
-      (record { benches = ap (take (length set)) (words-append set rest (set-small h)) ∙ take-at set (words rest) (length set) refl; beyond = drop-at (bytesOf set) rest (2 * length set) (length-bytesOf set); long = length-append (bytesOf set) rest ∙ omega (arith, length-bytesOf set, length-drop (2 * length set) list) })
+      rw (sym ((tight-says h list n i e) .benches), ap (λ o. o .lent) (a .1)) (in-list set list (set-small h) k)
 
   -- "On a level table, inside jobs less (h − 1) × benches is the overhang above h − 1."
   pub tight-excess : T (level (decode t)) → (h : ℕ) (list : List ℕ) (n i : ℕ) → (outcome (ask (tightSetOf h) list) t) .answer ≡ said (tightSetIs n i) → i ≡ (h - 1) * n + excess ((decode t) .benches) ((decode t) .holders) (h - 1)

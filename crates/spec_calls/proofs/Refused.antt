@@ -1,20 +1,22 @@
 -- Arrival and closing on a sound table: when they are refused, with which number, and that nothing else refuses them.
-use Prim.Native.Nat.{ℕ}
+use Prim.Native.Nat.{ℕ, _*_, _≤_, _<_}
 use mathlib.Core.Path.{_≡_, ap, _∙_}
 use mathlib.Core.Logic.{_⊎_, _↔_}
 use mathlib.Core.Bool.{true, false}
 use mathlib.Core.List.{List, [], _∷_}
 use lib.Dec.{T}
 use lib.ListN.{length}
+use borrow.Author.Tests.{lt-ltb, le-ltb}
 use Rattle.spec_lists.specs.Lists.{within}
 use Rattle.spec_table.specs.Board.{stands}
 use Rattle.spec_table.specs.Table.{sound, decode}
-use Rattle.spec_calls.specs.Answers.{isRefused, refused, jobNumber, benchNumber, alreadyStanding, notStanding}
+use Rattle.spec_sharing.specs.Sharing.{close}
+use Rattle.spec_calls.specs.Answers.{isRefused, refused, jobNumber, benchNumber, alreadyStanding, notStanding, listTooShort}
 use Rattle.spec_calls.specs.Calls.{Arriving, Closing, namable, MayArrive, arrival, closing, arrivalConditions, closingConditions, accepted, outcome, arrivalOutcome, closingOutcome}
 use Rattle.spec_lists.proofs.Tests.{T→true, not→false}
 use Rattle.spec_table.proofs.Named.{pair-misfits, stands-within}
 use Rattle.spec_calls.proofs.ChainOrder.{sound-outcome}
-use Rattle.spec_calls.proofs.Outcomes.{arrival-accepted, closing-accepted}
+use Rattle.spec_calls.proofs.Outcomes.{arriveOn, arrival-accepted, closing-accepted}
 
 module _ (t : List ℕ) (s : T (sound t)) where
   -- 3: "job number not 1 to J"
@@ -27,10 +29,10 @@ module _ (t : List ℕ) (s : T (sound t)) where
   closing-number-refused c w = ap (λ o. o .answer) (sound-outcome (closing c) tt t s) ∙ rw w
 
   -- 4: "bench not 1 to B, or both benches the same"
-  pub arrival-bench-refused : (j x y : ℕ) → within 1 (length ((decode t) .named)) j ≡ true → (within 1 ((decode t) .benches) x ≡ false) ⊎ (within 1 ((decode t) .benches) y ≡ false) ⊎ (x ≡ y) → (outcome (arrival (record { job = j; given = x ∷ y ∷ [] })) t) .answer ≡ refused benchNumber
+  pub arrival-bench-refused : (j x y : ℕ) (list : List ℕ) → within 1 (length ((decode t) .named)) j ≡ true → (within 1 ((decode t) .benches) x ≡ false) ⊎ (within 1 ((decode t) .benches) y ≡ false) ⊎ (x ≡ y) → (outcome (arrival (record { job = j; given = x ∷ y ∷ []; list = list })) t) .answer ≡ refused benchNumber
   unfolding arrivalConditions closingConditions accepted
-  arrival-bench-refused j x y w c =
-      let a : Arriving = record { job = j; given = x ∷ y ∷ [] } in
+  arrival-bench-refused j x y list w c =
+      let a : Arriving = record { job = j; given = x ∷ y ∷ []; list = list } in
       ap (λ o. o .answer) (sound-outcome (arrival a) tt t s) ∙ rw (w, pair-misfits ((decode t) .benches) x y c)
 
   -- 5: "arrival of a standing job"
@@ -45,19 +47,36 @@ module _ (t : List ℕ) (s : T (sound t)) where
   unfolding arrivalConditions closingConditions accepted
   closing-standing-refused c w n = ap (λ o. o .answer) (sound-outcome (closing c) tt t s) ∙ rw (w, n)
 
-  -- an arrival is accepted exactly if its number is one of 1 to J, no such job stands, and its benches are two different
-  -- ones of 1 to B
-  pub arrival-exact : (a : Arriving) → (isRefused ((outcome (arrival a) t) .answer) ≡ false) ↔ MayArrive (decode t) a
-  unfolding arrivalConditions closingConditions accepted arrivalOutcome
-  arrival-exact a = (λ e. (arrival-accepted t s a e) .may, λ m. goes m)
-    where
-      goes : MayArrive (decode t) a → isRefused ((outcome (arrival a) t) .answer) ≡ false
-      goes m =
-          let b = decode t in
-          ap (λ o. isRefused (o .answer)) (sound-outcome (arrival a) tt t s) ∙ rw (T→true (within 1 (length (b .named)) (a .job)) (m .number), T→true (namable b (a .given)) (m .fit), not→false (stands b (a .job)) (m .free))
+  -- 8, 02: "a list too short for the moves"; nothing before it refused the call
+  pub arrival-list-refused : (a : Arriving) → MayArrive (decode t) (a .job) (a .given) → length (a .list) < 2 * length ((arriveOn t a) .moved) → (outcome (arrival a) t) .answer ≡ refused listTooShort
+  unfolding arrivalConditions closingConditions accepted
+  arrival-list-refused a m l =
+      let b = decode t in
+      ap (λ o. o .answer) (sound-outcome (arrival a) tt t s) ∙ rw (T→true (within 1 (length (b .named)) (a .job)) (m .number), T→true (namable b (a .given)) (m .fit), not→false (stands b (a .job)) (m .free), lt-ltb (length (a .list)) (2 * length ((arriveOn t a) .moved)) l)
 
-  -- a closing is accepted exactly if its job stands
-  pub closing-exact : (c : Closing) → (isRefused ((outcome (closing c) t) .answer) ≡ false) ↔ T (stands (decode t) (c .job))
+  pub closing-list-refused : (c : Closing) → T (stands (decode t) (c .job)) → length (c .list) < 2 * length ((close (decode t) (c .job)) .moved) → (outcome (closing c) t) .answer ≡ refused listTooShort
+  unfolding arrivalConditions closingConditions accepted
+  closing-list-refused c n l =
+      let b = decode t in
+      ap (λ o. o .answer) (sound-outcome (closing c) tt t s) ∙ rw (T→true (within 1 (length (b .named)) (c .job)) (stands-within b (c .job) n), T→true (stands b (c .job)) n, lt-ltb (length (c .list)) (2 * length ((close b (c .job)) .moved)) l)
+
+  -- an arrival is accepted exactly if its number is one of 1 to J, no such job stands, its benches are two different ones of
+  -- 1 to B, and its list is long enough for the moves
+  pub arrival-exact : (a : Arriving) → (isRefused ((outcome (arrival a) t) .answer) ≡ false) ↔ (MayArrive (decode t) (a .job) (a .given) × (2 * length ((arriveOn t a) .moved) ≤ length (a .list)))
+  unfolding arrivalConditions closingConditions accepted arrivalOutcome
+  arrival-exact a = (λ e. let r = arrival-accepted t s a e in (r .may, r .room), λ p. goes (p .0) (p .1))
+    where
+      goes : MayArrive (decode t) (a .job) (a .given) → 2 * length ((arriveOn t a) .moved) ≤ length (a .list) → isRefused ((outcome (arrival a) t) .answer) ≡ false
+      goes m l =
+          let b = decode t in
+          ap (λ o. isRefused (o .answer)) (sound-outcome (arrival a) tt t s) ∙ rw (T→true (within 1 (length (b .named)) (a .job)) (m .number), T→true (namable b (a .given)) (m .fit), not→false (stands b (a .job)) (m .free), le-ltb (length (a .list)) (2 * length ((arriveOn t a) .moved)) l)
+
+  -- a closing is accepted exactly if its job stands and its list is long enough
+  pub closing-exact : (c : Closing) → (isRefused ((outcome (closing c) t) .answer) ≡ false) ↔ (T (stands (decode t) (c .job)) × (2 * length ((close (decode t) (c .job)) .moved) ≤ length (c .list)))
   unfolding arrivalConditions closingConditions accepted closingOutcome
-  closing-exact c =
-      (λ e. (closing-accepted t s c e) .stood, λ n. ap (λ o. isRefused (o .answer)) (sound-outcome (closing c) tt t s) ∙ rw (T→true (within 1 (length ((decode t) .named)) (c .job)) (stands-within (decode t) (c .job) n), T→true (stands (decode t) (c .job)) n))
+  closing-exact c = (λ e. let r = closing-accepted t s c e in (r .stood, r .room), λ p. goes (p .0) (p .1))
+    where
+      goes : T (stands (decode t) (c .job)) → 2 * length ((close (decode t) (c .job)) .moved) ≤ length (c .list) → isRefused ((outcome (closing c) t) .answer) ≡ false
+      goes n l =
+          let b = decode t in
+          ap (λ o. isRefused (o .answer)) (sound-outcome (closing c) tt t s) ∙ rw (T→true (within 1 (length (b .named)) (c .job)) (stands-within b (c .job) n), T→true (stands b (c .job)) n, le-ltb (length (c .list)) (2 * length ((close b (c .job)) .moved)) l)

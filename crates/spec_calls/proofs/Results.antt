@@ -1,25 +1,58 @@
 -- The results of arrival, closing and levelling in 01's words: what the numbers of an answer say of the boards before and after.
-use Prim.Native.Nat.{ℕ}
+use Prim.Native.Nat.{ℕ, _<_}
 use native.Mathlib.Omega.{arith}
 use native.Mathlib.Decide.{decLt}
-use mathlib.Core.Path.{_≡_, sym, ap, subst, _∙_}
+use mathlib.Core.Path.{_≡_, sym, ap, subst, subst₂, _∙_}
 use mathlib.Core.List.{List}
 use lib.Dec.{T, T-not}
-use lib.ListN.{length}
+use lib.ListN.{length, take}
+use Rattle.spec_lists.specs.Lists.{Each}
 use Rattle.spec_table.specs.Board.{Board, holderOf}
-use Rattle.spec_table.specs.Table.{sound, decode}
+use Rattle.spec_table.specs.Table.{mostJobs, words, sound, decode}
 use Rattle.spec_sharing.specs.Paths.{BenchPath, IsPath, improves}
-use Rattle.spec_sharing.specs.Sharing.{close, relevel, level}
+use Rattle.spec_sharing.specs.Sharing.{Change, close, relevel, level}
 use Rattle.spec_calls.specs.Answers.{isRefused, arrived, closed, said, levelled, stopped}
 use Rattle.spec_calls.specs.Calls.{Arriving, Closing, arrival, closing, levelling, outcome, arrivalOutcome, closingOutcome, levellingOutcome}
 use Rattle.spec_sharing.specs.Demand2.{OneMore, ArrivalReport, ClosingReport, LevellingReport}
+use Rattle.spec_lists.proofs.Tests.{within-high}
+use Rattle.spec_lists.proofs.Elements.{in-each}
+use Rattle.spec_table.proofs.Named.{stands-within}
+use Rattle.spec_table.proofs.Words.{ListLeft, in-list}
+use Rattle.spec_table.proofs.Sound.{sound-storable}
 use Rattle.spec_sharing.proofs.Paths.{level-exact, unlevel-improves}
+use Rattle.spec_sharing.proofs.Changes.{Changed, moved-stands}
 use Rattle.spec_calls.proofs.Stops.{says-level, says-stopped}
 use Rattle.spec_calls.proofs.Outcomes.{arriveOn, arrival-accepted, closing-accepted, levelling-accepted}
 
 module _ (t : List ℕ) (s : T (sound t)) where
-  -- an arrival's answer
-  pub arrival-result : (a : Arriving) (holder rose moved : ℕ) → (outcome (arrival a) t) .answer ≡ arrived holder rose moved → ArrivalReport (decode t) (decode ((outcome (arrival a) t) .table)) (a .job) (a .given) holder rose moved
+  -- moved jobs have numbers of 1 to J, which fit a word
+  moved-small : {j : ℕ} {names : List ℕ} {c : Change} → Changed (decode t) j names c → Each (λ w. w < 65536) (c .moved)
+  moved-small {j} {names} {c} d =
+      let st = sound-storable t s in
+      in-each (λ (w : ℕ). w < 65536) (c .moved)
+      (λ i k. omega (arith, within-high 1 (length ((decode t) .named)) i (stands-within (decode t) i (moved-stands (decode t) (st .valid) j names c d i k)), within-high 1 mostJobs (length ((decode t) .named)) (st .jobs)))
+
+  -- 02: "They go as words into a lent list; the remainder is untouched": so many jobs as the answer says, in path order
+  pub arrival-list : (a : Arriving) (holder rose moved : ℕ) → (outcome (arrival a) t) .answer ≡ arrived holder rose moved → ListLeft ((arriveOn t a) .moved) moved (a .list) ((outcome (arrival a) t) .lent)
+  unfolding arrivalOutcome
+  arrival-list k holder rose moved e =
+      let a = arrival-accepted t s k (ap isRefused e) in
+      let c = arriveOn t k in
+      let d : arrived (holderOf (c .board) (k .job)) (c .bench) (length (c .moved)) ≡ arrived holder rose moved = ap (λ o. o .answer) (sym (a .is)) ∙ e in
+      let m : length (c .moved) ≡ moved = cc in
+      rw (sym m, ap (λ o. o .lent) (a .is)) (in-list (c .moved) (k .list) (moved-small (a .does)) (a .room))
+
+  pub closing-list : (k : Closing) (fell moved : ℕ) → (outcome (closing k) t) .answer ≡ closed fell moved → ListLeft ((close (decode t) (k .job)) .moved) moved (k .list) ((outcome (closing k) t) .lent)
+  unfolding closingOutcome
+  closing-list k fell moved e =
+      let a = closing-accepted t s k (ap isRefused e) in
+      let c = close (decode t) (k .job) in
+      let d : closed (c .bench) (length (c .moved)) ≡ closed fell moved = ap (λ o. o .answer) (sym (a .is)) ∙ e in
+      let m : length (c .moved) ≡ moved = cc in
+      rw (sym m, ap (λ o. o .lent) (a .is)) (in-list (c .moved) (k .list) (moved-small (a .does)) (a .room))
+
+  -- an arrival's answer, and what is listed
+  pub arrival-result : (a : Arriving) (holder rose moved : ℕ) → (outcome (arrival a) t) .answer ≡ arrived holder rose moved → let o = outcome (arrival a) t in ArrivalReport (decode t) (decode (o .table)) (a .job) (a .given) holder rose moved (take moved (words (o .lent)))
   unfolding arrivalOutcome
   arrival-result k holder rose moved e =
       let a = arrival-accepted t s k (ap isRefused e) in
@@ -27,17 +60,19 @@ module _ (t : List ℕ) (s : T (sound t)) where
       let d : arrived (holderOf (c .board) (k .job)) (c .bench) (length (c .moved)) ≡ arrived holder rose moved = ap (λ o. o .answer) (sym (a .is)) ∙ e in
       let bench : c .bench ≡ rose = cc in
       let m : length (c .moved) ≡ moved = cc in
-      subst (λ (u : Board). ArrivalReport (decode t) u (k .job) (k .given) holder rose moved) (sym (a .writes .board))
+      subst₂ (λ (u : Board) (l : List ℕ). ArrivalReport (decode t) u (k .job) (k .given) holder rose moved l) (sym (a .writes .board)) (sym ((arrival-list k holder rose moved e) .read))
       (record {
         benches = a .does .benches;
         jobs = a .does .named;
         inTheEnd = cc;
         oneRose = subst (OneMore ((decode t) .benches) ((decode t) .holders) ((c .board) .holders)) bench (a .rose);
         others = sym (a .does .number) ∙ m;
+        listed = a .does .moved;
+        number = m;
       })
 
-  -- a closing's answer
-  pub closing-result : (c : Closing) (fell moved : ℕ) → (outcome (closing c) t) .answer ≡ closed fell moved → ClosingReport (decode t) (decode ((outcome (closing c) t) .table)) (c .job) fell moved
+  -- a closing's answer, and what is listed
+  pub closing-result : (c : Closing) (fell moved : ℕ) → (outcome (closing c) t) .answer ≡ closed fell moved → let o = outcome (closing c) t in ClosingReport (decode t) (decode (o .table)) (c .job) fell moved (take moved (words (o .lent)))
   unfolding closingOutcome
   closing-result k fell moved e =
       let a = closing-accepted t s k (ap isRefused e) in
@@ -45,12 +80,14 @@ module _ (t : List ℕ) (s : T (sound t)) where
       let d : closed (c .bench) (length (c .moved)) ≡ closed fell moved = ap (λ o. o .answer) (sym (a .is)) ∙ e in
       let bench : c .bench ≡ fell = cc in
       let m : length (c .moved) ≡ moved = cc in
-      subst (λ (u : Board). ClosingReport (decode t) u (k .job) fell moved) (sym (a .writes .board))
+      subst₂ (λ (u : Board) (l : List ℕ). ClosingReport (decode t) u (k .job) fell moved l) (sym (a .writes .board)) (sym ((closing-list k fell moved e) .read))
       (record {
         benches = a .does .benches;
         jobs = a .does .named;
         oneFell = subst (OneMore ((decode t) .benches) ((c .board) .holders) ((decode t) .holders)) bench (a .fell);
         others = sym (a .does .number) ∙ m;
+        listed = a .does .moved;
+        number = m;
       })
 
   -- a levelling's answer tells its count and its board

@@ -52,7 +52,7 @@ module _ (t : List ℕ) (s : T (sound t)) where
   unfolding arrivalOutcome noted
   keeps-arrival k a =
       let c = arriveOn t k in
-      keeps-as t (outcome (arrival k) t) ((arrivalOutcome (k .job) c) .answer) (c .board) (ap (λ o. o .answer) (a .is)) (a .writes)
+      keeps-as t (outcome (arrival k) t) ((arrivalOutcome k c) .answer) (c .board) (ap (λ o. o .answer) (a .is)) (a .writes)
       (λ z b n.
       let new : Tally = record { arrivals = z .arrivals + 1; closings = z .closings; moved = z .moved + length (c .moved) } in
       let r = raised-new z new n in
@@ -64,7 +64,7 @@ module _ (t : List ℕ) (s : T (sound t)) where
   unfolding closingOutcome noted
   keeps-closing k a =
       let c = close (decode t) (k .job) in
-      keeps-as t (outcome (closing k) t) ((closingOutcome c) .answer) (c .board) (ap (λ o. o .answer) (a .is)) (a .writes)
+      keeps-as t (outcome (closing k) t) ((closingOutcome k c) .answer) (c .board) (ap (λ o. o .answer) (a .is)) (a .writes)
       (λ z b n.
       let new : Tally = record { arrivals = z .arrivals; closings = z .closings + 1; moved = z .moved + length (c .moved) } in
       let r = raised-new z new n in

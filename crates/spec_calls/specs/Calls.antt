@@ -8,20 +8,22 @@ use lib.Dec.{T, eqb, ltb}
 use lib.ListN.{length, drop}
 use Rattle.spec_lists.specs.Lists.{within}
 use Rattle.spec_table.specs.Board.{Board, holderOf, stands, load, heaviest, namesFit}
-use Rattle.spec_table.specs.Table.{words, bytesOf, layout, sizesFit, fits, sound, decode, encode, blankTable}
+use Rattle.spec_table.specs.Table.{words, inList, layout, sizesFit, fits, sound, decode, encode, blankTable}
 use Rattle.spec_sheet.specs.Sheet.{sheet}
 use Rattle.spec_pair.specs.Pair.{unreadablePair, recordsRead, jobFound}
 use Rattle.spec_sharing.specs.Sharing.{Change, arrive, close, level, Levelled, relevel, tightSet, inside}
 use Rattle.spec_calls.specs.Answers.{Fact, Outcome, Condition, refuse, unless, sizes, unsound, jobNumber, benchNumber, alreadyStanding, notStanding, height, listTooShort, pageTooShort, arrived, closed, said, blanked, loadIs, heaviestIs, tightSetIs, isSound, levelYes, levelNo, levelled, stopped, sheetIs, jobBetween, noneBetween}
 
--- what an arrival is given: the job's number, and the benches it names
+-- what an arrival is given: the job's number, and the benches it names; 02: "a lent list" for the jobs that move
 pub record Arriving : Type 0 where
   pub job : ℕ
   pub given : List ℕ
+  pub list : List ℕ
 
--- what a closing is given
+-- what a closing is given; 02: a lent list
 pub record Closing : Type 0 where
   pub job : ℕ
+  pub list : List ℕ
 
 -- "the questions, which change no table byte": a bench's load, the heaviest load, the tight set of a height, the form
 -- check, the level check; 02: the wall sheet
@@ -67,10 +69,14 @@ abbrev pub namable : Board → List ℕ → Bool
 namable b given = eqb (length given) 2 && namesFit (b .benches) given
 
 -- what 3, 4 and 5 leave through: a number of 1 to J that does not stand, and benches that a job may name
-pub record MayArrive (b : Board) (a : Arriving) : Type 0 where
-  pub number : T (within 1 (length (b .named)) (a .job))
-  pub free : T (not (stands b (a .job)))
-  pub fit : T (namable b (a .given))
+pub record MayArrive (b : Board) (j : ℕ) (given : List ℕ) : Type 0 where
+  pub number : T (within 1 (length (b .named)) j)
+  pub free : T (not (stands b j))
+  pub fit : T (namable b given)
+
+-- 8: "list shorter than the set's words"; 02: "also [..] a list too short for the moves"
+abbrev pub tooShort : List ℕ → List ℕ → Bool
+tooShort list ws = ltb (length list) (2 * length ws)
 
 -- when an arrival is refused, from 3 on, in the order that counts
 unfoldable pub arrivalConditions : Arriving → Board → List Condition
@@ -78,11 +84,16 @@ arrivalConditions a b =
     refuse jobNumber (noJob b (a .job))
     ∷ refuse benchNumber (not (namable b (a .given)))
     ∷ refuse alreadyStanding (stands b (a .job))
+    ∷ refuse listTooShort (tooShort (a .list) ((arrive b (a .job) (a .given)) .moved))
     ∷ []
 
 -- when a closing is
 unfoldable pub closingConditions : Closing → Board → List Condition
-closingConditions c b = refuse jobNumber (noJob b (c .job)) ∷ refuse notStanding (not (stands b (c .job))) ∷ []
+closingConditions c b =
+    refuse jobNumber (noJob b (c .job))
+    ∷ refuse notStanding (not (stands b (c .job)))
+    ∷ refuse listTooShort (tooShort (c .list) ((close b (c .job)) .moved))
+    ∷ []
 
 -- when each question is
 unfoldable pub questionConditions : Question → List ℕ → Board → List Condition
@@ -90,7 +101,7 @@ questionConditions (loadOf x) lent b = refuse benchNumber (noBench b x) ∷ []
 questionConditions heaviestLoad lent b = []
 questionConditions (tightSetOf h) lent b =
     refuse height (eqb h 0 || ltb (heaviest b) h)
-    ∷ refuse listTooShort (ltb (length lent) (2 * length (tightSet b h)))
+    ∷ refuse listTooShort (tooShort lent (tightSet b h))
     ∷ []
 questionConditions formCheck lent b = []
 questionConditions levelCheck lent b = []
@@ -125,34 +136,38 @@ questionOrder wallSheet = 1 ∷ 2 ∷ 11 ∷ []
 
 -- the numbers that a call may be refused with, in the order that counts
 abbrev pub order : Call → List ℕ
-order (arrival a) = 1 ∷ 2 ∷ 3 ∷ 4 ∷ 5 ∷ []
-order (closing c) = 1 ∷ 2 ∷ 3 ∷ 6 ∷ []
+order (arrival a) = 1 ∷ 2 ∷ 3 ∷ 4 ∷ 5 ∷ 8 ∷ []
+order (closing c) = 1 ∷ 2 ∷ 3 ∷ 6 ∷ 8 ∷ []
 order (levelling allowance) = 1 ∷ 2 ∷ []
 order (ask q lent) = questionOrder q
 order (between x y) = 1 ∷ 4 ∷ 2 ∷ []
 
 -- the bytes that are lent to a call beside the table
 abbrev pub lentTo : Call → List ℕ
-lentTo (arrival a) = []
-lentTo (closing c) = []
+lentTo (arrival a) = a .list
+lentTo (closing c) = c .list
 lentTo (levelling allowance) = []
 lentTo (ask q lent) = lent
 lentTo (between x y) = []
 
 -- "the bench that holds the new job in the end, the bench whose load rose, and the number of other jobs that changed
--- holder"
-unfoldable pub arrivalOutcome : ℕ → Change → Outcome
-arrivalOutcome j c =
+-- holder"; 02: "those that changed holder, the new job left out. They go as words into a lent list"
+unfoldable pub arrivalOutcome : Arriving → Change → Outcome
+arrivalOutcome a c =
     record {
-      answer = arrived (holderOf (c .board) j) (c .bench) (length (c .moved));
+      answer = arrived (holderOf (c .board) (a .job)) (c .bench) (length (c .moved));
       table = encode (c .board);
-      lent = [];
+      lent = inList (c .moved) (a .list);
     }
 
--- "the bench whose load fell, and the jobs that changed holder"
-unfoldable pub closingOutcome : Change → Outcome
-closingOutcome c =
-    record { answer = closed (c .bench) (length (c .moved)); table = encode (c .board); lent = [] }
+-- "the bench whose load fell, and the jobs that changed holder"; 02: and their list
+unfoldable pub closingOutcome : Closing → Change → Outcome
+closingOutcome k c =
+    record {
+      answer = closed (c .bench) (length (c .moved));
+      table = encode (c .board);
+      lent = inList (c .moved) (k .list);
+    }
 
 -- "It reports the paths turned, and "level" if no improving path is left, else "stopped"."
 unfoldable pub levellingOutcome : Levelled → Outcome
@@ -176,10 +191,7 @@ telling f lent = record { fact = f; lent = lent }
 -- lent list of bytes; the list beyond them is untouched"
 unfoldable pub tightSetTold : Board → List ℕ → List ℕ → Told
 tightSetTold b set list =
-    record {
-      fact = tightSetIs (length set) (inside set (b .named));
-      lent = bytesOf set ++ drop (2 * length set) list;
-    }
+    record { fact = tightSetIs (length set) (inside set (b .named)); lent = inList set list }
 
 -- 02: "The result is its length; bytes after it are untouched"
 unfoldable pub sheetTold : List ℕ → List ℕ → Told
@@ -210,8 +222,8 @@ answering t r = record { answer = said (r .fact); table = t; lent = r .lent }
 
 -- what an accepted call leaves
 unfoldable pub accepted : Call → List ℕ → Board → Outcome
-accepted (arrival a) t b = arrivalOutcome (a .job) (arrive b (a .job) (a .given))
-accepted (closing c) t b = closingOutcome (close b (c .job))
+accepted (arrival a) t b = arrivalOutcome a (arrive b (a .job) (a .given))
+accepted (closing c) t b = closingOutcome c (close b (c .job))
 accepted (levelling allowance) t b = levellingOutcome (relevel allowance b)
 accepted (ask q lent) t b = answering t (asked q lent b)
 accepted (between x y) t b = answering t (betweenTold x y t)

@@ -10,8 +10,8 @@ use lib.Dec.{T}
 use lib.ListN.{length, replicate, length-take, length-replicate}
 use Rattle.spec_table.specs.Board.{heaviest, standing}
 use Rattle.spec_table.specs.Table.{mostBenches, mostJobs, sizesFit, lengthFor, sound, decode, blankTable}
-use Rattle.spec_sharing.specs.Sharing.{tightSet}
-use Rattle.spec_calls.specs.Answers.{Outcome, isRefused, said, tightSetIs}
+use Rattle.spec_sharing.specs.Sharing.{arrive, close, tightSet}
+use Rattle.spec_calls.specs.Answers.{Outcome, isRefused, arrived, closed, said, tightSetIs}
 use Rattle.spec_calls.specs.Calls.{arrival, closing, ask, heaviestLoad, tightSetOf, questionConditions, asked, accepted, outcome, blanking}
 use Rattle.spec_calls.specs.Tally.{zeroTally, noted}
 use Rattle.spec_counter.specs.Counter.{Counter, Command, setTable, takeIn, closeJob, askTightSet, askHeaviest, command, printed, lineFor, done, after, prints, atFirst, room, counterList}
@@ -21,6 +21,7 @@ use Rattle.spec_table.proofs.Places.{sized}
 use Rattle.spec_calls.proofs.Blanking.{standing-empty, blank-sound, blank-decodes}
 use Rattle.spec_calls.proofs.ChainOrder.{sound-outcome}
 use Rattle.spec_calls.proofs.Questions.{tight-list}
+use Rattle.spec_calls.proofs.Results.{arrival-list, closing-list}
 use Rattle.spec_calls.proofs.TallyRun.{Balanced, keeps}
 
 -- "Before the first B its table has length 0"
@@ -55,7 +56,16 @@ module _ (t : List ℕ) (s : T (sound t)) where
   -- "S height, benches, inside jobs, then the benches"
   pub tight-line : (h n i : ℕ) → (outcome (ask (tightSetOf h) counterList) t) .answer ≡ said (tightSetIs n i) → lineFor (askTightSet h) (done (askTightSet h) t) ≡ printed (code "S") (h ∷ n ∷ i ∷ tightSet (decode t) h)
   unfolding lineFor done
-  tight-line h n i e = rw (e, (tight-list t s h counterList n i e) .benches)
+  tight-line h n i e = rw (e, (tight-list t s h counterList n i e) .read)
+
+  -- 02: "The counter's A and D lines gain them at the end": the moved jobs, in path order
+  pub arrival-line : (j x y holder rose moved : ℕ) → (done (takeIn j x y) t) .answer ≡ arrived holder rose moved → lineFor (takeIn j x y) (done (takeIn j x y) t) ≡ printed (code "A") (j ∷ holder ∷ rose ∷ moved ∷ (arrive (decode t) j (x ∷ y ∷ [])) .moved)
+  unfolding lineFor done
+  arrival-line j x y holder rose moved e = rw (e, (arrival-list t s (record { job = j; given = x ∷ y ∷ []; list = counterList }) holder rose moved e) .read)
+
+  pub closing-line : (j fell moved : ℕ) → (done (closeJob j) t) .answer ≡ closed fell moved → lineFor (closeJob j) (done (closeJob j) t) ≡ printed (code "D") (j ∷ fell ∷ moved ∷ (close (decode t) j) .moved)
+  unfolding lineFor done
+  closing-line j fell moved e = rw (e, (closing-list t s (record { job = j; list = counterList }) fell moved e) .read)
 
 -- "If a blank table and a zero tally start together": so they do with each B that is not refused, whatever was before
 pub table-starts : (benches jobs : ℕ) (s : Counter) → sizesFit (lengthFor benches jobs) benches jobs ≡ true → after (setTable benches jobs) s (done (setTable benches jobs) (s .table)) ≡ record { table = blankTable benches jobs; tally = zeroTally }
@@ -77,7 +87,7 @@ counter-balanced (setTable benches jobs) s f b n = go (sizesFit (length (room be
         let d = blank-decodes benches jobs (z .benches-within) (z .jobs-within) in
         rw e (blank-sound benches jobs (z .benches-within) (z .jobs-within), omega (arith, ap standing d, standing-empty jobs))
     go false e = rw e (f, b)
-counter-balanced (takeIn j x y) s f b n = let k = keeps (s .table) f (arrival (record { job = j; given = x ∷ y ∷ [] })) in (k .form, k .balance (s .tally) b n)
-counter-balanced (closeJob j) s f b n = let k = keeps (s .table) f (closing (record { job = j })) in (k .form, k .balance (s .tally) b n)
+counter-balanced (takeIn j x y) s f b n = let k = keeps (s .table) f (arrival (record { job = j; given = x ∷ y ∷ []; list = counterList })) in (k .form, k .balance (s .tally) b n)
+counter-balanced (closeJob j) s f b n = let k = keeps (s .table) f (closing (record { job = j; list = counterList })) in (k .form, k .balance (s .tally) b n)
 counter-balanced (askTightSet h) s f b n = (f, b)
 counter-balanced askHeaviest s f b n = (f, b)

@@ -91,15 +91,16 @@ repeated (closeJob j) = j ∷ []
 repeated (askTightSet h) = h ∷ []
 repeated askHeaviest = []
 
--- "then the benches": the words that a tight set left in the list
+-- "then the benches": the words that a tight set left in the list, as many as its answer says; 02: "A and D lines gain
+-- them at the end": so the jobs that an arrival or a closing moved
 abbrev pub listed : Command → Outcome → List ℕ
 listed (setTable benches jobs) o = []
-listed (takeIn j x y) o = []
-listed (closeJob j) o = []
+listed (takeIn j x y) o = take (nth (inNumbers (o .answer)) 4 0) (words (o .lent))
+listed (closeJob j) o = take (nth (inNumbers (o .answer)) 3 0) (words (o .lent))
 listed (askTightSet h) o = take (nth (inNumbers (o .answer)) 2 0) (words (o .lent))
 listed askHeaviest o = []
 
--- a command's line: "R and the refusal", or the letter, the command's numbers, the answer's values, and the benches
+-- a command's line: "R and the refusal", or the letter, the command's numbers, the answer's values, and what is listed
 unfoldable pub lineFor : Command → Outcome → List ℕ
 lineFor c o =
     cond (isRefused (o .answer)) (printed (code "R") (inNumbers (o .answer)))
@@ -125,8 +126,8 @@ counterList = replicate 1000 0
 -- what a command's call leaves
 unfoldable pub done : Command → List ℕ → Outcome
 done (setTable benches jobs) t = blanking benches jobs (room benches jobs)
-done (takeIn j x y) t = outcome (arrival (record { job = j; given = x ∷ y ∷ [] })) t
-done (closeJob j) t = outcome (closing (record { job = j })) t
+done (takeIn j x y) t = outcome (arrival (record { job = j; given = x ∷ y ∷ []; list = counterList })) t
+done (closeJob j) t = outcome (closing (record { job = j; list = counterList })) t
 done (askTightSet h) t = outcome (ask (tightSetOf h) counterList) t
 done askHeaviest t = outcome (ask heaviestLoad []) t
 

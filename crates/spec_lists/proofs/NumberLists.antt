@@ -8,6 +8,7 @@ use mathlib.Core.List.{List, [], _∷_, _++_, map, flatMap, append-nil, append-a
 use lib.Dec.{T, T-not, not-T, eqb, leb}
 use lib.ListN.{length, getD, replicate, length-map}
 use lib.Seq.{ext-getD}
+use borrow.Author.Tests.{eq-eqb, ne-eqb}
 use Rattle.spec_lists.specs.Lists.{within, member, distinct, range, filter, In, nth, update}
 use Rattle.spec_lists.proofs.Tests.{true→T, false→not, both, left, right, either, or-left, or-right, tests-same, same, Compared, other, compared, T-eqb, eqb-T, T-leb, differ, within-low, within-high, within-both}
 use Rattle.spec_lists.proofs.Elements.{in-filter, filter-in, filter-same, nth-update-same, nth-update-other, length-update}
@@ -162,6 +163,16 @@ pub others-in : (j : ℕ) (l : List ℕ) (i : ℕ) → In i (filter (λ k. not (
 others-in j l i =
     let rest : ℕ → Bool = λ k. not (eqb k j) in
     (λ m. let r = filter-in rest i l m in ((differ i j) .1 (r .1), r .0), λ d. in-filter rest i l (d .1) ((differ i j) .0 (d .0)))
+
+-- .. and these are all of them where j is none ..
+pub others-all : (j : ℕ) (l : List ℕ) → (In j l → ⊥) → filter (λ k. not (eqb k j)) l ≡ l
+others-all j [] f = refl
+others-all j (x ∷ l) f =
+    rw (ne-eqb x j (λ e. f (inl (sym e)))) (ap (λ (m : List ℕ). x ∷ m) (others-all j l (λ i. f (inr i))))
+
+-- .. and all behind the first where that alone is j
+pub others-rest : (j x : ℕ) (l : List ℕ) → x ≡ j → (In j l → ⊥) → filter (λ k. not (eqb k j)) (x ∷ l) ≡ l
+others-rest j x l e f = rw (eq-eqb x j e) (others-all j l f)
 
 -- of two numbers the one that is not x is known from x
 two-sum : (a c x y : ℕ) → In x (a ∷ c ∷ []) → In y (a ∷ c ∷ []) → y ≢ x → x + y ≡ a + c

@@ -13,7 +13,7 @@ use Rattle.spec_lists.specs.Lists.{within, distinct, filter, In, empty, nth, up
 use Rattle.spec_table.specs.Board.{load, Board, Valid, namesOf, holderOf, stands, put, namesFit}
 use Rattle.spec_sharing.specs.Paths.{BenchPath, last, jobs, IsPath, flip}
 use Rattle.spec_sharing.specs.Sharing.{Change, lightestNamed, arrivalChoice, closingChoice, afterArrival, afterClosing, arrive, close}
-use Rattle.spec_sharing.specs.Demand2.{OneMore, handed}
+use Rattle.spec_sharing.specs.Demand2.{OneMore, handed, Moved}
 use Rattle.spec_lists.proofs.Tests.{both, left, right, differ, within-low, within-high, within-both}
 use Rattle.spec_lists.proofs.Elements.{not-empty, is-empty, nth-update-same, nth-update-other}
 use Rattle.spec_lists.proofs.NumberLists.{Member, is-in, not-in, membered, filter-distinct, others-in}
@@ -47,24 +47,27 @@ pub record Changed (b : Board) (j : ℕ) (names : List ℕ) (c : Change) : Type 
   pub benches : (c .board) .benches ≡ b .benches
   pub named : (c .board) .named ≡ update (b .named) j names
   -- the moved jobs are the others whose holder changed, each once ..
-  pub moved : (i : ℕ) → In i (c .moved) ↔ ((i ≢ j) × (holderOf (c .board) i ≢ holderOf b i))
-  pub once : T (distinct (c .moved))
+  pub moved : Moved j b (c .board) (c .moved)
   -- .. and so many
   pub number : length (c .moved) ≡ handed j b (c .board)
 
--- the number follows from the rest: a job whose holder changed stands
+-- a job whose holder changed stands, but for the one that came or went
+moved-stood : (b : Board) → Valid b → (j : ℕ) (names : List ℕ) (after : Board) → Valid after → after .named ≡ update (b .named) j names → (i : ℕ) → (i ≢ j) × (holderOf after i ≢ holderOf b i) → T (stands b i)
+moved-stood b v j names after va en i d =
+    let e : namesOf after i ≡ namesOf b i = ap (λ (l : List (List ℕ)). nth l i []) en ∙ nth-update-other (b .named) j i names [] (d .0) in
+    not-empty (namesOf b i) (λ z. d .1 (holder-none after va i (e ∙ z) ∙ sym (holder-none b v i z)))
+
+pub moved-stands : (b : Board) → Valid b → (j : ℕ) (names : List ℕ) (c : Change) → Changed b j names c → (i : ℕ) → In i (c .moved) → T (stands b i)
+moved-stands b v j names c d i k = moved-stood b v j names (c .board) (d .valid) (d .named) i ((d .moved .exact i) .0 k)
+
+-- the number follows from the rest
 does : (b : Board) → Valid b → (j : ℕ) (names : List ℕ) (c : Change) → Valid (c .board) → (c .board) .benches ≡ b .benches → (c .board) .named ≡ update (b .named) j names → ((i : ℕ) → In i (c .moved) ↔ ((i ≢ j) × (holderOf (c .board) i ≢ holderOf b i))) → T (distinct (c .moved)) → Changed b j names c
 does b v j names c vc eb en m o =
-    let number = total-tested (length (b .named)) (c .moved) (λ i. not (eqb i j) && not (eqb (holderOf after i) (holderOf b i))) o (λ i k. stands-within b i (stood i ((m i) .0 k))) test in
-    record { valid = vc; benches = eb; named = en; moved = m; once = o; number = number }
+    let number = total-tested (length (b .named)) (c .moved) (λ i. not (eqb i j) && not (eqb (holderOf after i) (holderOf b i))) o (λ i k. stands-within b i (moved-stood b v j names after vc en i ((m i) .0 k))) test in
+    record { valid = vc; benches = eb; named = en; moved = record { exact = m; once = o }; number = number }
   where
     after : Board
     after = c .board
-
-    stood : (i : ℕ) → (i ≢ j) × (holderOf after i ≢ holderOf b i) → T (stands b i)
-    stood i d =
-        let e : namesOf after i ≡ namesOf b i = ap (λ (l : List (List ℕ)). nth l i []) en ∙ nth-update-other (b .named) j i names [] (d .0) in
-        not-empty (namesOf b i) (λ z. d .1 (holder-none after vc i (e ∙ z) ∙ sym (holder-none b v i z)))
 
     test : (i : ℕ) → In i (c .moved) ↔ T (not (eqb i j) && not (eqb (holderOf after i) (holderOf b i)))
     test i =
@@ -112,6 +115,11 @@ module _ (c : Board) (v : Valid c) (p : BenchPath) (h : IsPath c p) where
   less-flipped : (more : List ℕ) → T (within 1 (c .benches) (p .start)) → OneMore (c .benches) (c .holders) more (last p) → OneMore (c .benches) ((flip c p) .holders) more (p .start)
   less-flipped more w o =
       one-more (c .benches) ((flip c p) .holders) more (p .start) w (λ y l u. omega (arith, flip-loads c v p h y, more-load (c .benches) (c .holders) more (last p) o y l u))
+
+-- the bench that job j was given to holds it
+pub put-holder : (b : Board) → Valid b → (j : ℕ) (names : List ℕ) (x : ℕ) → T (within 1 (length (b .named)) j) → holderOf (put b j names x) j ≡ x
+put-holder b v j names x w =
+    nth-update-same (b .holders) j x 0 (within-low 1 (length (b .named)) j w) (omega (arith, within-high 1 (length (b .named)) j w, length-shares (b .named) (b .holders) (v .shares)))
 
 -- giving a job that does not stand to bench x adds one to its load ..
 pub put-rises : (b : Board) → Valid b → (j : ℕ) (names : List ℕ) (x : ℕ) → T (within 1 (length (b .named)) j) → T (not (stands b j)) → T (within 1 (b .benches) x) → OneMore (b .benches) (b .holders) ((put b j names x) .holders) x

@@ -3,6 +3,7 @@ pub mod Paths
 pub mod Choice
 pub mod Sets
 pub mod Changes
+pub mod Moves
 pub mod Walks
 pub mod TightSet
 pub mod Flip

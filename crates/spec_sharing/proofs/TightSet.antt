@@ -1,7 +1,7 @@
 -- The closure that tight sets are: which benches are in it, in which order, and what it proves.
 use Prim.Native.Nat.{ℕ, zero, suc, _+_, _≤_, _<_}
 use native.Mathlib.Omega.{arith}
-use mathlib.Core.Path.{_≡_, refl, sym, subst, _∙_}
+use mathlib.Core.Path.{_≡_, refl, sym, ap, subst, _∙_}
 use mathlib.Core.Logic.{_⊎_, inl, inr, _↔_}
 use mathlib.Core.Bool.{Bool, true, false, cond, _||_}
 use mathlib.Core.List.{List, [], _∷_, flatMap}
@@ -232,6 +232,11 @@ tight-inside b v h =
 pub tight-rising : (b : Board) (h : ℕ) → tightSet b h ≡ filter (λ x. member x (tightSet b h)) (range 1 (b .benches))
 unfolding tightSet
 tight-rising b h = closure-rising b (λ x. leb h (load (b .holders) x))
+
+-- .. and they are at most all
+pub tight-most : (b : Board) (h : ℕ) → length (tightSet b h) ≤ b .benches
+tight-most b h =
+    omega (arith, ap length (tight-rising b h), length-filter (λ x. member x (tightSet b h)) (range 1 (b .benches)), length-range 1 (b .benches))
 
 -- marks that are set exactly at what the benches with load h or more reach are the set
 pub tight-marked : (b : Board) → Valid b → (h : ℕ) (mark : ℕ → Bool) → ((y : ℕ) → T (within 1 (b .benches) y) → T (mark y) ↔ ((x : ℕ) × T (within 1 (b .benches) x) × (h ≤ load (b .holders) x) × Reach (steps b) x y)) → tightSet b h ≡ filter mark (range 1 (b .benches))

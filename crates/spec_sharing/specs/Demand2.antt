@@ -1,13 +1,13 @@
 -- Demand 2: what is claimed of a level board, and of what an arrival, a closing and a levelling report.
 use Prim.Native.Nat.{ℕ, suc, _+_, _-_, _*_, _≤_}
 use mathlib.Core.Path.{_≡_}
-use mathlib.Core.Logic.{_≢_}
+use mathlib.Core.Logic.{_≢_, _↔_}
 use mathlib.Core.Bool.{not, _&&_}
 use mathlib.Core.List.{List, []}
 use mathlib.Core.Option.{some}
-use lib.Dec.{eqb}
+use lib.Dec.{T, eqb}
 use lib.ListN.{length}
-use Rattle.spec_lists.specs.Lists.{bit, total, update}
+use Rattle.spec_lists.specs.Lists.{bit, total, distinct, In, update}
 use Rattle.spec_table.specs.Board.{Board, holderOf, standing, load, heaviest, excess, Shares, heldBy}
 use Rattle.spec_sharing.specs.Paths.{BenchPath, flip}
 use Rattle.spec_sharing.specs.Sharing.{levellingChoice, tightSet, inside, density}
@@ -45,21 +45,31 @@ abbrev pub handed : ℕ → Board → Board → ℕ
 handed j before after =
     total (length (before .named)) (λ i. bit (not (eqb i j) && not (eqb (holderOf after i) (holderOf before i))))
 
+-- 02: a list of "those that changed holder, the new job left out": just the jobs but j that have another holder
+-- afterwards, each once
+pub record Moved (j : ℕ) (before after : Board) (list : List ℕ) : Type 0 where
+  pub exact : (i : ℕ) → In i list ↔ ((i ≢ j) × (holderOf after i ≢ holderOf before i))
+  pub once : T (distinct list)
+
 -- an arrival of job j for these benches reports "the bench that holds the new job in the end, the bench whose load
--- rose, and the number of other jobs that changed holder"
-pub record ArrivalReport (before after : Board) (j : ℕ) (names : List ℕ) (holder rose moved : ℕ) : Type 0 where
+-- rose, and the number of other jobs that changed holder"; 02: and lists them
+pub record ArrivalReport (before after : Board) (j : ℕ) (names : List ℕ) (holder rose moved : ℕ) (list : List ℕ) : Type 0 where
   pub benches : after .benches ≡ before .benches
   pub jobs : after .named ≡ update (before .named) j names
   pub inTheEnd : holderOf after j ≡ holder
   pub oneRose : OneMore (before .benches) (before .holders) (after .holders) rose
   pub others : handed j before after ≡ moved
+  pub listed : Moved j before after list
+  pub number : length list ≡ moved
 
--- a closing of job j reports "the bench whose load fell, and the jobs that changed holder"
-pub record ClosingReport (before after : Board) (j fell moved : ℕ) : Type 0 where
+-- a closing of job j reports "the bench whose load fell, and the jobs that changed holder"; 02: and lists them
+pub record ClosingReport (before after : Board) (j fell moved : ℕ) (list : List ℕ) : Type 0 where
   pub benches : after .benches ≡ before .benches
   pub jobs : after .named ≡ update (before .named) j []
   pub oneFell : OneMore (before .benches) (after .holders) (before .holders) fell
   pub others : handed j before after ≡ moved
+  pub listed : Moved j before after list
+  pub number : length list ≡ moved
 
 -- n paths are turned between two boards, each the one that the rule names
 pub data Flips : ℕ → Board → Board → Type 0 where

@@ -10,7 +10,7 @@ use lib.ListN.{length, getD, take, drop, length-append, length-drop, take-append
 use lib.Seq.{take-at, drop-at, drop-append-add}
 use Rattle.spec_lists.specs.Lists.{within, range, Each, empty}
 use Rattle.spec_table.specs.Board.{Board, Shares, namesFit}
-use Rattle.spec_table.specs.Table.{paired, words, bytesOf, mostBenches, mostJobs, lengthFor, sizesFit, Entry, Layout, entriesIn, layout, fits, firstHeld, positionOf, entryFor, entriesFrom, layoutOf, entryWords, flat, encode, Storable}
+use Rattle.spec_table.specs.Table.{paired, words, bytesOf, inList, mostBenches, mostJobs, lengthFor, sizesFit, Entry, Layout, entriesIn, layout, fits, firstHeld, positionOf, entryFor, entriesFrom, layoutOf, entryWords, flat, encode, Storable}
 use Rattle.spec_lists.proofs.Tests.{five, cond-le, T-eqb, eqb-T, leb-T, within-high}
 use Rattle.spec_lists.proofs.Elements.{two-elements, in-each, each-append, each-map, length-filter}
 use Rattle.spec_lists.proofs.NumberLists.{length-values}
@@ -32,6 +32,22 @@ words-bytesOf ws s = ap words (sym (append-nil (bytesOf ws))) ∙ words-append w
 pub length-bytesOf : (ws : List ℕ) → length (bytesOf ws) ≡ 2 * length ws
 length-bytesOf [] = refl
 length-bytesOf (w ∷ ws) = omega (arith, length-bytesOf ws)
+
+-- a lent list as it is left: n words, and beyond them what was there
+pub record ListLeft (ws : List ℕ) (n : ℕ) (list left : List ℕ) : Type 0 where
+  pub read : take n (words left) ≡ ws
+  pub beyond : drop (2 * n) left ≡ drop (2 * n) list
+  pub long : length left ≡ length list
+
+-- so it is with words in a list that is long enough for them
+pub in-list : (ws list : List ℕ) → Each (λ w. w < 65536) ws → 2 * length ws ≤ length list → ListLeft ws (length ws) list (inList ws list)
+in-list ws list s l =
+    let rest = drop (2 * length ws) list in
+    record {
+      read = ap (take (length ws)) (words-append ws rest s) ∙ take-at ws (words rest) (length ws) refl;
+      beyond = drop-at (bytesOf ws) rest (2 * length ws) (length-bytesOf ws);
+      long = length-append (bytesOf ws) rest ∙ omega (arith, length-bytesOf ws, length-drop (2 * length ws) list);
+    }
 
 -- every byte that is written is a byte
 pub bytesOf-bytes : (ws : List ℕ) → Each (λ y. y < 256) (bytesOf ws)

@@ -20,6 +20,10 @@ abbrev pub bytesOf : List ℕ → List ℕ
 bytesOf [] = []
 bytesOf (w ∷ ws) = w % 256 ∷ w / 256 % 256 ∷ bytesOf ws
 
+-- "as words in a lent list of bytes; the list beyond them is untouched"
+abbrev pub inList : List ℕ → List ℕ → List ℕ
+inList ws list = bytesOf ws ++ drop (2 * length ws) list
+
 -- "Benches are numbered 1 to 500 ..
 abbrev pub mostBenches : ℕ
 mostBenches = 500
