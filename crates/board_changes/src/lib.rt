@@ -9,6 +9,7 @@ ghost use Rattle.table_form.specs.FormCheck.{FoundSound};
 ghost use Rattle.board_answers.specs.Answered.{Leaves};
 use board_answers::Answer;
 use graph_lists::scratch;
+use sharing_effects::Attempt;
 use table_board::jobs;
 use table_form::Form;
 use table_refusals::Refusal;
@@ -25,7 +26,7 @@ pub fn blank(t: &mut [u8], benches: usize, jobs: usize) -> Answer
     }
 }
 
-// Takes in a job on a sound table, or refuses with 3, 4 or 5, in this order.
+// Takes in a job on a sound table, or refuses with 3, 4, 5 or 8, in this order.
 fn arrival_on(
     t: &mut [u8],
     s: Size,
@@ -35,11 +36,13 @@ fn arrival_on(
     job: usize,
     first: usize,
     second: usize,
+    list: &mut [u8],
 ) -> Answer
     requires { ⌜ FoundSound (now t) (now loads) s rising ⌝ }
     requires { ⌜ length (now path) ≡ mostBenches + 1 ⌝ }
-    ensures { λ r. ⌜ Leaves (outcome (arrival (record { job = job; given = first ∷ second ∷ [] })) (now (t .entry))) r
-        (now (t .exit)) [] ⌝ }
+    ensures { λ r. ⌜ Leaves
+        (outcome (arrival (record { job = job; given = first ∷ second ∷ []; list = now (list .entry) })) (now (t .entry)))
+        r (now (t .exit)) (now (list .exit)) ⌝ }
 {
     if !s.has_job(job) {
         return Answer::Refused(Refusal::JobNumber);
@@ -50,14 +53,17 @@ fn arrival_on(
     if jobs::stands(t, s, job) {
         return Answer::Refused(Refusal::AlreadyStanding);
     }
-    let a = sharing_changes::arrive(t, s, rising, loads, path, job, first, second);
-    Answer::Arrived(a.holder, a.rose, a.moved)
+    match sharing_changes::arrive(t, s, rising, loads, path, job, first, second, list) {
+        Attempt::Refused(r) => Answer::Refused(r),
+        Attempt::Made(e) => Answer::Arrived(e.holder, e.bench, e.moved),
+    }
 }
 
-// Takes in a job that names two benches.
-pub fn arrival(t: &mut [u8], job: usize, first: usize, second: usize) -> Answer
-    ensures { λ r. ⌜ Leaves (outcome (arrival (record { job = job; given = first ∷ second ∷ [] })) (now (t .entry))) r
-        (now (t .exit)) [] ⌝ }
+// Takes in a job that names two benches, and lists the jobs that move.
+pub fn arrival(t: &mut [u8], job: usize, first: usize, second: usize, list: &mut [u8]) -> Answer
+    ensures { λ r. ⌜ Leaves
+        (outcome (arrival (record { job = job; given = first ∷ second ∷ []; list = now (list .entry) })) (now (t .entry)))
+        r (now (t .exit)) (now (list .exit)) ⌝ }
 {
     // Serves the form check first: one array less to clear.
     let mut path = scratch::benches();
@@ -73,11 +79,12 @@ pub fn arrival(t: &mut [u8], job: usize, first: usize, second: usize) -> Answer
             job,
             first,
             second,
+            list,
         ),
     }
 }
 
-// Closes a job on a sound table, or refuses with 3 or 6, in this order.
+// Closes a job on a sound table, or refuses with 3, 6 or 8, in this order.
 fn closing_on(
     t: &mut [u8],
     s: Size,
@@ -85,10 +92,12 @@ fn closing_on(
     loads: &mut [u16; Size::MOST_BENCHES + 1],
     path: &mut [u16; Size::MOST_BENCHES + 1],
     job: usize,
+    list: &mut [u8],
 ) -> Answer
     requires { ⌜ FoundSound (now t) (now loads) s rising ⌝ }
     requires { ⌜ length (now path) ≡ mostBenches + 1 ⌝ }
-    ensures { λ r. ⌜ Leaves (outcome (closing (record { job = job })) (now (t .entry))) r (now (t .exit)) [] ⌝ }
+    ensures { λ r. ⌜ Leaves (outcome (closing (record { job = job; list = now (list .entry) })) (now (t .entry))) r
+        (now (t .exit)) (now (list .exit)) ⌝ }
 {
     if !s.has_job(job) {
         return Answer::Refused(Refusal::JobNumber);
@@ -96,20 +105,23 @@ fn closing_on(
     if !jobs::stands(t, s, job) {
         return Answer::Refused(Refusal::NotStanding);
     }
-    let c = sharing_changes::close(t, s, rising, loads, path, job);
-    Answer::Closed(c.bench, c.jobs)
+    match sharing_changes::close(t, s, rising, loads, path, job, list) {
+        Attempt::Refused(r) => Answer::Refused(r),
+        Attempt::Made(e) => Answer::Closed(e.bench, e.moved),
+    }
 }
 
-// Closes a standing job.
-pub fn closing(t: &mut [u8], job: usize) -> Answer
-    ensures { λ r. ⌜ Leaves (outcome (closing (record { job = job })) (now (t .entry))) r (now (t .exit)) [] ⌝ }
+// Closes a standing job, and lists the jobs that move.
+pub fn closing(t: &mut [u8], job: usize, list: &mut [u8]) -> Answer
+    ensures { λ r. ⌜ Leaves (outcome (closing (record { job = job; list = now (list .entry) })) (now (t .entry))) r
+        (now (t .exit)) (now (list .exit)) ⌝ }
 {
     // Serves the form check first: one array less to clear.
     let mut path = scratch::benches();
     let mut loads = scratch::benches();
     match table_form::check_with(t, &mut path, &mut loads) {
         Form::Refused(r) => Answer::Refused(r),
-        Form::Sound(s, rising) => closing_on(t, s, rising, &mut loads, &mut path, job),
+        Form::Sound(s, rising) => closing_on(t, s, rising, &mut loads, &mut path, job, list),
     }
 }
 

@@ -119,7 +119,7 @@ module _ {t : List ℕ} {s : Size} (z : SoundTable t s) where
             refused-leaves code.ListTooShort (ask (tightSetOf h) list) t (tight-list-refused t (z .sound) h list low high (omega (arith, m .benches)))
 
         -- in any other the marked benches are the set
-        pub set-told : (u : List ℕ) → 2 * r .benches ≤ length list → u ≡ bytesOf (marked s marks) ++ drop (2 * length (marked s marks)) list → Leaves (outcome (ask (tightSetOf h) list) t) (told.TightSet (r .benches) (r .jobs)) t u
+        pub set-told : (u : List ℕ) → 2 * r .benches ≤ length list → u ≡ inList (marked s marks) list → Leaves (outcome (ask (tightSetOf h) list) t) (told.TightSet (r .benches) (r .jobs)) t u
         unfolding tightSetTold
         set-told u f w =
             answered-leaves (tight-answered t (z .sound) h list low high (omega (arith, m .benches)) ∙ rw (w, m .set, m .benches, m .jobs))

@@ -9,8 +9,8 @@ use Rattle.spec_calls.specs.Answers.{Answer, isRefused, inNumbers}
 use Rattle.spec_counter.specs.Counter.{printed}
 use Rattle.counter_printing.specs.Wrote.{fieldMost}
 
--- room for every line: a letter, three numbers of the command, three values, a bench for each of the most benches, a
--- line feed
+-- room for every line: a letter, three numbers of the command, three values, a word of the list for each of the most
+-- benches, a line feed
 abbrev pub lineMost : ℕ
 lineMost = 2 + fieldMost * (6 + mostBenches)
 

@@ -1,6 +1,6 @@
 // The lines that the counter program prints for answers, written into a lent buffer behind its first `at` bytes.
 ghost use mathlib.Core.List.{[], _∷_, _++_};
-ghost use Prim.Native.Nat.{_+_, _*_, _≤_};
+ghost use Prim.Native.Nat.{suc, _+_, _*_, _≤_};
 ghost use lib.ListN.{length, take, drop};
 ghost use Rattle.spec_lists.specs.Lists.{nth};
 ghost use Rattle.spec_table.specs.Table.{words, mostBenches};
@@ -53,20 +53,22 @@ pub fn answer(out: &mut [u8], at: usize, letter: u8, repeated: Values, a: Answer
     counter_printing::byte(out, end, b'\n')
 }
 
-// Prints an answer's line with the words of a list, as many as its first value says; a refusal lists none.
+// Prints an answer's line with the words of a list, as many as its value k says; a refusal lists none.
 pub fn listing(
     out: &mut [u8],
     at: usize,
     letter: u8,
     repeated: Values,
     a: Answer,
+    k: usize,
     list: &[u8],
 ) -> usize
     requires { ⌜ at + lineMost ≤ length (now out) ⌝ }
-    requires { ⌜ 2 * nth (inNumbers (answerOf a)) 2 0 ≤ length (now list) ⌝ }
+    requires { ⌜ 1 ≤ k ⌝ }
+    requires { ⌜ 2 * nth (inNumbers (answerOf a)) (suc k) 0 ≤ length (now list) ⌝ }
     requires { ⌜ length (now list) ≤ 2 * mostBenches ⌝ }
     ensures { λ r. ⌜ Wrote (now (out .entry)) (now (out .exit)) at r
-        (answerText letter (valuesOf repeated) (answerOf a) (take (nth (inNumbers (answerOf a)) 2 0) (words (now (list .entry)))))
+        (answerText letter (valuesOf repeated) (answerOf a) (take (nth (inNumbers (answerOf a)) (suc k) 0) (words (now (list .entry)))))
         ⌝ }
     ensures short { λ r. ⌜ r ≤ at + lineMost ⌝ }
 {
@@ -74,7 +76,7 @@ pub fn listing(
         return answer(out, at, letter, repeated, a);
     }
     let told = beginning(out, at, letter, repeated, a);
-    let count = a.values().get(1, 0);
+    let count = a.values().get(k, 0);
     let listed = counter_printing::listed(out, told, list, count);
     counter_printing::byte(out, listed, b'\n')
 }

@@ -45,7 +45,7 @@ pub fn set_table(
     }
 }
 
-// Performs "A job and two benches", and prints "A job, holder, bench that rose, moved".
+// Performs "A job and two benches", and prints "A job, holder, bench that rose, moved", then the moved jobs.
 pub fn take_in(
     c: Counter,
     job: usize,
@@ -61,11 +61,12 @@ pub fn take_in(
         (now (out .entry)) (now (out .exit)) at r ⌝ }
 {
     let length = c.length;
-    let a = board_changes::arrival(&mut bytes[..length], job, first, second);
-    counter_state::write_answer(c.noted(a), b'A', Values::one(job), a, out, at)
+    let mut list = counter_state::zero_list();
+    let a = board_changes::arrival(&mut bytes[..length], job, first, second, &mut list);
+    counter_state::write_listing(c.noted(a), b'A', Values::one(job), a, 3, &list, out, at)
 }
 
-// Performs "D job", and prints "D job, bench that fell, moved".
+// Performs "D job", and prints "D job, bench that fell, moved", then the moved jobs.
 pub fn close_job(c: Counter, job: usize, bytes: &mut [u8], out: &mut [u8], at: usize) -> Reply
     requires { ⌜ Room c (now bytes) ⌝ }
     requires { ⌜ at + lineMost ≤ length (now out) ⌝ }
@@ -73,8 +74,9 @@ pub fn close_job(c: Counter, job: usize, bytes: &mut [u8], out: &mut [u8], at: u
         (now (out .exit)) at r ⌝ }
 {
     let length = c.length;
-    let a = board_changes::closing(&mut bytes[..length], job);
-    counter_state::write_answer(c.noted(a), b'D', Values::one(job), a, out, at)
+    let mut list = counter_state::zero_list();
+    let a = board_changes::closing(&mut bytes[..length], job, &mut list);
+    counter_state::write_listing(c.noted(a), b'D', Values::one(job), a, 2, &list, out, at)
 }
 
 // Performs "S height", and prints "S height, benches, inside jobs, then the benches".
@@ -87,11 +89,7 @@ pub fn ask_tight_set(c: Counter, height: usize, bytes: &[u8], out: &mut [u8], at
     let length = c.length;
     let mut list = counter_state::zero_list();
     let a = board_questions::tight_set(&bytes[..length], height, &mut list);
-    let next = counter_answer_lines::listing(out, at, b'S', Values::one(height), a, &list);
-    Reply {
-        counter: c,
-        at: next,
-    }
+    counter_state::write_listing(c, b'S', Values::one(height), a, 1, &list, out, at)
 }
 
 // Performs "H", and prints "H heaviest".

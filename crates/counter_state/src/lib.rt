@@ -1,9 +1,11 @@
 // What the counter program keeps, and a line that it prints.
 ghost use mathlib.Core.Path.{_≡_};
 ghost use mathlib.Core.List.{List, []};
-ghost use Prim.Native.Nat.{ℕ, _+_, _≤_};
-ghost use lib.ListN.{length};
-ghost use Rattle.spec_calls.specs.Answers.{refusalNumber};
+ghost use Prim.Native.Nat.{ℕ, suc, _+_, _*_, _≤_};
+ghost use lib.ListN.{length, take};
+ghost use Rattle.spec_lists.specs.Lists.{nth};
+ghost use Rattle.spec_table.specs.Table.{words, mostBenches};
+ghost use Rattle.spec_calls.specs.Answers.{refusalNumber, inNumbers};
 ghost use Rattle.spec_calls.specs.Tally.{noted};
 ghost use Rattle.table_refusals.specs.Refusals.{refusalOf};
 ghost use Rattle.board_answers.specs.Answered.{answerOf, valuesOf};
@@ -53,7 +55,7 @@ impl Counter {
     }
 }
 
-// Makes the list that is lent to a tight set.
+// Makes the list that is lent to an arrival, a closing and a tight set.
 pub fn zero_list() -> [u8; LIST_BYTES]
     ensures { λ r. ⌜ r ≡ counterList ⌝ }
 {
@@ -87,6 +89,33 @@ pub fn write_answer(
         (answerText letter (valuesOf repeated) (answerOf a) []) (now (out .entry)) (now (out .exit)) at r ⌝ }
 {
     let next = counter_answer_lines::answer(out, at, letter, repeated, a);
+    Reply {
+        counter: c,
+        at: next,
+    }
+}
+
+// Prints an answer's line with the words of the list, as many as its value k says, and gives the state after it.
+pub fn write_listing(
+    c: Counter,
+    letter: u8,
+    repeated: Values,
+    a: Answer,
+    k: usize,
+    list: &[u8],
+    out: &mut [u8],
+    at: usize,
+) -> Reply
+    requires { ⌜ at + lineMost ≤ length (now out) ⌝ }
+    requires { ⌜ 1 ≤ k ⌝ }
+    requires { ⌜ 2 * nth (inNumbers (answerOf a)) (suc k) 0 ≤ length (now list) ⌝ }
+    requires { ⌜ length (now list) ≤ 2 * mostBenches ⌝ }
+    ensures { λ r. ⌜ AnswerPrinted (c .length) (tallyOf (c .tally))
+        (answerText letter (valuesOf repeated) (answerOf a)
+        (take (nth (inNumbers (answerOf a)) (suc k) 0) (words (now (list .entry)))))
+        (now (out .entry)) (now (out .exit)) at r ⌝ }
+{
+    let next = counter_answer_lines::listing(out, at, letter, repeated, a, k, list);
     Reply {
         counter: c,
         at: next,

@@ -20,43 +20,52 @@ pub extern "C" fn jobboard_check(table: &[u8]) -> u32
     board_questions::form_check(table).number()
 }
 
-// Takes in a job that names two benches. Results: the bench that holds it in the end, the bench whose load rose,
-// the other jobs moved.
+// Takes in a job that names two benches; the other jobs that move go as words to the list's beginning. Results: the bench
+// that holds it in the end, the bench whose load rose, the other jobs moved.
 #[no_mangle]
 pub extern "C" fn jobboard_arrival(
     table: &mut [u8],
     job: u32,
     first: u32,
     second: u32,
+    list: &mut [u8],
     holder: &mut u32,
     rose: &mut u32,
     moved: &mut u32,
 ) -> u32
     ensures { λ r. ⌜ Reported
-        (outcome (arrival (record { job = job; given = first ∷ second ∷ [] })) (now (table .entry)))
-        r (now (table .exit)) [] (now (holder .entry) ∷ now (rose .entry) ∷ now (moved .entry) ∷ [])
+        (outcome (arrival (record { job = job; given = first ∷ second ∷ []; list = now (list .entry) }))
+        (now (table .entry)))
+        r (now (table .exit)) (now (list .exit)) (now (holder .entry) ∷ now (rose .entry) ∷ now (moved .entry) ∷ [])
         (now (holder .exit) ∷ now (rose .exit) ∷ now (moved .exit) ∷ []) ⌝ }
 {
     jobboard_report::three(
-        board_changes::arrival(table, job as usize, first as usize, second as usize),
+        board_changes::arrival(table, job as usize, first as usize, second as usize, list),
         holder,
         rose,
         moved,
     )
 }
 
-// Closes a standing job. Results: the bench whose load fell, the jobs moved.
+// Closes a standing job; the jobs that move go as words to the list's beginning. Results: the bench whose load fell, the
+// jobs moved.
 #[no_mangle]
 pub extern "C" fn jobboard_closing(
     table: &mut [u8],
     job: u32,
+    list: &mut [u8],
     fell: &mut u32,
     moved: &mut u32,
 ) -> u32
-    ensures { λ r. ⌜ Reported (outcome (closing (record { job = job })) (now (table .entry))) r (now (table .exit)) []
-        (now (fell .entry) ∷ now (moved .entry) ∷ []) (now (fell .exit) ∷ now (moved .exit) ∷ []) ⌝ }
+    ensures { λ r. ⌜ Reported (outcome (closing (record { job = job; list = now (list .entry) })) (now (table .entry))) r
+        (now (table .exit)) (now (list .exit)) (now (fell .entry) ∷ now (moved .entry) ∷ [])
+        (now (fell .exit) ∷ now (moved .exit) ∷ []) ⌝ }
 {
-    jobboard_report::two(board_changes::closing(table, job as usize), fell, moved)
+    jobboard_report::two(
+        board_changes::closing(table, job as usize, list),
+        fell,
+        moved,
+    )
 }
 
 // Levels within an allowance of paths. Results: the paths turned, and 1 for level or 0 for stopped.

@@ -40,19 +40,21 @@ observed r table beside before after =
 
 -- the C call of c, made of the table t, was observed as v
 pub data Called : Call → List ℕ → Observed → Type 0 where
-  -- table, job, first, second; holder, rose, moved
+  -- table, job, first, second, list; holder, rose, moved
   byArrival :
-      (κs : Lfts 4) (a : _) (r : _) (s : _) → c-arrival.Post κs a r s →
-      Called (arrival (record { job = a .1 .0; given = a .1 .1 .0 ∷ a .1 .1 .1 .0 ∷ [] })) (a .0 .now)
-      (observed r (s .0 .now) []
-      (a .1 .1 .1 .1 .0 .now ∷ a .1 .1 .1 .1 .1 .0 .now ∷ a .1 .1 .1 .1 .1 .1 .0 .now ∷ [])
-      (s .1 .1 .1 .1 .0 .now ∷ s .1 .1 .1 .1 .1 .0 .now ∷ s .1 .1 .1 .1 .1 .1 .0 .now ∷ []))
-  -- table, job; fell, moved
+      (κs : Lfts 5) (a : _) (r : _) (s : _) → c-arrival.Post κs a r s →
+      Called
+      (arrival (record { job = a .1 .0; given = a .1 .1 .0 ∷ a .1 .1 .1 .0 ∷ []; list = a .1 .1 .1 .1 .0 .now }))
+      (a .0 .now)
+      (observed r (s .0 .now) (s .1 .1 .1 .1 .0 .now)
+      (a .1 .1 .1 .1 .1 .0 .now ∷ a .1 .1 .1 .1 .1 .1 .0 .now ∷ a .1 .1 .1 .1 .1 .1 .1 .0 .now ∷ [])
+      (s .1 .1 .1 .1 .1 .0 .now ∷ s .1 .1 .1 .1 .1 .1 .0 .now ∷ s .1 .1 .1 .1 .1 .1 .1 .0 .now ∷ []))
+  -- table, job, list; fell, moved
   byClosing :
-      (κs : Lfts 3) (a : _) (r : _) (s : _) → c-closing.Post κs a r s →
-      Called (closing (record { job = a .1 .0 })) (a .0 .now)
-      (observed r (s .0 .now) [] (a .1 .1 .0 .now ∷ a .1 .1 .1 .0 .now ∷ [])
-      (s .1 .1 .0 .now ∷ s .1 .1 .1 .0 .now ∷ []))
+      (κs : Lfts 4) (a : _) (r : _) (s : _) → c-closing.Post κs a r s →
+      Called (closing (record { job = a .1 .0; list = a .1 .1 .0 .now })) (a .0 .now)
+      (observed r (s .0 .now) (s .1 .1 .0 .now) (a .1 .1 .1 .0 .now ∷ a .1 .1 .1 .1 .0 .now ∷ [])
+      (s .1 .1 .1 .0 .now ∷ s .1 .1 .1 .1 .0 .now ∷ []))
   -- table, allowance; paths, level
   byLevelling :
       (κs : Lfts 3) (a : _) (r : _) (s : _) → c-levelling.Post κs a r s →

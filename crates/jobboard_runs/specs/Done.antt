@@ -25,15 +25,16 @@ use Rattle.board_pair.proofs.between.Reads as between-benches
 
 -- the call c, made of the table t, left o
 pub data Done : Call → List ℕ → Outcome → Type 0 where
-  -- table, job, first, second
+  -- table, job, first, second, list
   byArrival :
-      (κs : Lfts 1) (a : _) (r : _) (s : _) → arrive.Post κs a r s →
-      Done (arrival (record { job = a .1 .0; given = a .1 .1 .0 ∷ a .1 .1 .1 .0 ∷ [] })) (a .0 .now)
-      (leftBy r (s .0 .now) [])
-  -- table, job
+      (κs : Lfts 2) (a : _) (r : _) (s : _) → arrive.Post κs a r s →
+      Done (arrival (record { job = a .1 .0; given = a .1 .1 .0 ∷ a .1 .1 .1 .0 ∷ []; list = a .1 .1 .1 .1 .0 .now }))
+      (a .0 .now) (leftBy r (s .0 .now) (s .1 .1 .1 .1 .0 .now))
+  -- table, job, list
   byClosing :
-      (κs : Lfts 1) (a : _) (r : _) (s : _) → close.Post κs a r s →
-      Done (closing (record { job = a .1 .0 })) (a .0 .now) (leftBy r (s .0 .now) [])
+      (κs : Lfts 2) (a : _) (r : _) (s : _) → close.Post κs a r s →
+      Done (closing (record { job = a .1 .0; list = a .1 .1 .0 .now })) (a .0 .now)
+      (leftBy r (s .0 .now) (s .1 .1 .0 .now))
   -- table, allowance
   byLevelling :
       (κs : Lfts 1) (a : _) (r : _) (s : _) → level.Post κs a r s →

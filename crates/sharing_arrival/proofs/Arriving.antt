@@ -20,6 +20,7 @@ use Rattle.spec_lists.proofs.Raising.{getD-raised}
 use Rattle.spec_table.proofs.Named.{length-shares, fit-bench, pair-fits, named-may, holder-none}
 use Rattle.spec_sharing.proofs.Paths.{step-is, is-step}
 use Rattle.spec_sharing.proofs.Sets.{lightestNamed-in}
+use Rattle.spec_sharing.proofs.Changes.{put-holder}
 use Rattle.spec_calls.proofs.Outcomes.{namable-fit}
 use Rattle.table_size.specs.Sizes.{BenchIn, SoundTable}
 use Rattle.table_size.specs.declared.Size.{Size}
@@ -40,13 +41,8 @@ raised loads x = set loads x (at loads x + 1)
 
 -- the board with the new job
 
-module _ (b : Board) (w : Storable b) (j : ℕ) (names : List ℕ) (x : ℕ) (t : T (within 1 (length (b .named)) j)) where
-  -- x holds the new job ..
-  pub new-holder : holderOf (put b j names x) j ≡ x
-  new-holder =
-      nth-update-same (b .holders) j x 0 (within-low 1 (length (b .named)) j t) (omega (arith, within-high 1 (length (b .named)) j t, length-shares (b .named) (b .holders) (w .valid .shares)))
-
-  -- .. which names these benches
+module _ (b : Board) (j : ℕ) (names : List ℕ) (x : ℕ) (t : T (within 1 (length (b .named)) j)) where
+  -- the new job names these benches
   pub new-names : namesOf (put b j names x) j ≡ names
   new-names =
       nth-update-same (b .named) j names [] (within-low 1 (length (b .named)) j t) (within-high 1 (length (b .named)) j t)
@@ -70,7 +66,7 @@ with-job b s j names x o w v t free k e l u =
     c = put b j names x
 
     got : holderOf c j ≡ x
-    got = new-holder b w j names x t
+    got = put-holder b (w .valid) j names x t
 
     same : (z : ℕ) (q : Step) → q .job ≢ j → In q (steps c z) ↔ In q (steps b z)
     same = step-same b w j names x (v .valid)
@@ -82,20 +78,20 @@ with-job b s j names x o w v t free k e l u =
     here : (q : Step) → In q (steps c x) → Dec (q .job ≡ j) → In q (steps b x) ⊎ ((j ≢ 0) × (q ≡ stepBy j o))
     here q i (yes f) =
         let r = step-is c x q i in
-        let to : q .to ≡ o = k .only (q .to) (subst (In (q .to)) (ap (namesOf c) f ∙ new-names b w j names x t) (r .1)) (r .2) in
+        let to : q .to ≡ o = k .only (q .to) (subst (In (q .to)) (ap (namesOf c) f ∙ new-names b j names x t) (r .1)) (r .2) in
         inr (λ n. omega (arith, within-low 1 (length (b .named)) j t), λ h. record { job = f h; to = to h })
     here q i (no d) = inl ((same x q d) .0 i)
 
     back : (q : Step) → In q (steps b x) ⊎ ((j ≢ 0) × (q ≡ stepBy j o)) → In q (steps c x)
     back q (inl i) = (same x q (before x q i)) .1 i
     back q (inr r) =
-        rw (r .1) (is-step c x (stepBy j o) got (rw (new-names b w j names x t) (k .named)) (k .apart) (sym (length-shares (c .named) (c .holders) (v .valid .shares))))
+        rw (r .1) (is-step c x (stepBy j o) got (rw (new-names b j names x t) (k .named)) (k .apart) (sym (length-shares (c .named) (c .holders) (v .valid .shares))))
 
 -- the bench that gets the job is one of its benches
 pub getting-in : (holders : List ℕ) (x y : ℕ) {g : ℕ} → g ≡ lightestNamed holders (x ∷ y ∷ []) → In g (x ∷ y ∷ [])
 getting-in holders x y e = rw e (lightestNamed-in holders (x ∷ y ∷ []) tt)
 
-module _ {t : List ℕ} {s : Size} {j first second : ℕ} (z : SoundTable t s) (m : MayArrive (decode t) (record { job = j; given = first ∷ second ∷ [] })) where
+module _ {t : List ℕ} {s : Size} {j first second : ℕ} (z : SoundTable t s) (m : MayArrive (decode t) j (first ∷ second ∷ [])) where
   -- the new job's benches are different ones of 1 to B ..
   pub arriving-fit : T (namesFit ((decode t) .benches) (first ∷ second ∷ []))
   arriving-fit = namable-fit (decode t) (first ∷ second ∷ []) (m .fit)

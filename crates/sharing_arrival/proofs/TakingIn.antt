@@ -1,52 +1,46 @@
 -- A job taken in, and the path handed along: a job that is the path's first goes at once where it leads. What is left then gives the
 -- arrival's board, and its numbers.
-use Prim.Native.Nat.{ℕ, _+_, _-_, _<_}
+use Prim.Native.Nat.{ℕ, _+_, _-_, _*_, _≤_, _<_}
 use native.Mathlib.Omega.{arith}
 use mathlib.Core.Path.{_≡_, refl, sym, ap, subst, subst₂, _∙_}
 use mathlib.Core.Logic.{_⊎_, inl, inr, _≢_}
-use mathlib.Core.Bool.{Bool, true, false, not}
+use mathlib.Core.Bool.{false}
 use mathlib.Core.List.{List, [], _∷_}
 use mathlib.Core.Option.{Option, none, some}
-use lib.Dec.{T, eqb}
-use lib.ListN.{length, length-map}
-use Rattle.spec_lists.specs.Lists.{bit, within, count, distinct, filter, In, update}
+use lib.Dec.{T}
+use lib.ListN.{length, take, drop, length-map}
+use Rattle.spec_lists.specs.Lists.{within, In, update}
 use Rattle.spec_table.specs.Board.{Board, Valid, namesOf, holderOf, stands, put, heldBy, namesFit}
-use Rattle.spec_table.specs.Table.{Storable, decode, encode}
+use Rattle.spec_table.specs.Table.{inList, Storable, decode, encode}
 use Rattle.spec_sharing.specs.Paths.{Step, BenchPath, pathBy, jobs, last, IsPath, handOver, flip}
 use Rattle.spec_sharing.specs.Sharing.{Change, arrivalChoice, afterArrival, arrive}
 use Rattle.spec_calls.specs.Calls.{MayArrive}
 use Rattle.spec_lists.proofs.Tests.{true→T, not→false}
 use Rattle.spec_lists.proofs.Elements.{nth-update-other, update-again, length-update, in-getD}
-use Rattle.spec_lists.proofs.NumberLists.{distinct-head, in-member}
-use Rattle.spec_lists.proofs.Counting.{count-none, count-some, distinct-count, filter-counts}
+use Rattle.spec_lists.proofs.NumberLists.{in-member, others-all}
 use Rattle.spec_table.proofs.Named.{stands-within}
-use Rattle.spec_sharing.proofs.Paths.{improvingFrom-only, benchesOf, jobsOf}
+use Rattle.spec_sharing.proofs.Paths.{improvingFrom-only, jobsOf}
 use Rattle.spec_sharing.proofs.Choice.{arrival-choice}
-use Rattle.spec_sharing.proofs.Flip.{walk-leaves, path-jobs, flip-gives, flip-keeps}
+use Rattle.spec_sharing.proofs.Flip.{flip-gives, flip-keeps}
+use Rattle.spec_sharing.proofs.Changes.{put-holder}
+use Rattle.spec_sharing.proofs.Moves.{held-first, but-first}
 use Rattle.table_size.specs.Sizes.{SoundTable}
 use Rattle.table_size.specs.declared.Size.{Size}
 use Rattle.table_size.proofs.Sizes.{board-job}
 use Rattle.table_board.specs.BoardView.{Fillable}
 use Rattle.table_order.specs.InOrder.{TableOf}
+use Rattle.table_refusals.specs.declared.Refusal.the-variants.{ListTooShort}
+use Rattle.sharing_effects.specs.Effects.{Lent, TooShort, MadeAs}
 use Rattle.graph_lists.specs.Arrays.{at}
 use Rattle.sharing_paths.specs.FoundPaths.{lastOf, PathFound, JobAt, AfterIn, RouteIn}
 use Rattle.sharing_paths.specs.declared.FoundPath.{FoundPath}
 use Rattle.sharing_paths.proofs.HandingAlong.{route-at, route-stands, route-job, route-named, route-rest, route-after, found-route}
-use Rattle.sharing_arrival.specs.ArrivalResult.{ArrivalFound, EntersAt, IsArrival}
+use Rattle.sharing_arrival.specs.ArrivalResult.{ArrivalFound, EntersAt}
 use Rattle.sharing_arrival.specs.declared.Intake.{Intake}
-use Rattle.sharing_arrival.proofs.Arriving.{new-holder, new-names, getting-in, arriving-fit, arriving-storable}
-
--- a list but for j, and how often j stands in it
-others-count : (j : ℕ) (l : List ℕ) → length (filter (λ i. not (eqb i j)) l) + count j l ≡ length l
-others-count j [] = refl
-others-count j (y ∷ l) = omega (arith, filter-counts (λ i. not (eqb i j)) y l, others-count j l, once (eqb y j))
-  where
-    once : (z : Bool) → bit (not z) + bit z ≡ 1
-    once true = refl
-    once false = refl
+use Rattle.sharing_arrival.proofs.Arriving.{new-names, getting-in, arriving-fit, arriving-storable}
 
 -- job j is put on the board b at bench `holder`, and a route from place `place` of the path on is left: handed over, it gives the board of
--- the change d, in which that bench still holds the job
+-- the change d, in which that bench still holds the job, and its jobs are those that moved
 pub record Entered (b : Board) (j : ℕ) (names path : List ℕ) (d : Change) (r : FoundPath) (holder place : ℕ) : Type 0 where
   pub named : In holder names
   pub start : ℕ
@@ -55,7 +49,7 @@ pub record Entered (b : Board) (j : ℕ) (names path : List ℕ) (d : Change) (r
   pub board : heldBy (put b j names holder) (handOver ((put b j names holder) .holders) left) ≡ d .board
   pub held : holder ≡ holderOf (d .board) j
   pub rose : r .bench ≡ d .bench
-  pub moved : place + length (d .moved) ≡ r .jobs
+  pub moved : jobsOf left ≡ d .moved
 
 module _ (b : Board) (w : Storable b) (j : ℕ) (names : List ℕ) (x : ℕ) (t : T (within 1 (length (b .named)) j)) (v : Valid (put b j names x)) (g : In x names) (path : List ℕ) (r : FoundPath) where
   -- the new job goes from x to y
@@ -63,17 +57,15 @@ module _ (b : Board) (w : Storable b) (j : ℕ) (names : List ℕ) (x : ℕ) (t 
   moved-on y = ap (heldBy (put b j names x)) (update-again (b .holders) j x y)
 
   module _ (y : ℕ) (s : y ≡ x) where
-    -- the new job, if it is on a path from x, is its first: x comes on no path twice
-    behind-others : (q : Step) (l : List Step) → IsPath (put b j names x) (pathBy y (q ∷ l)) → In j (jobsOf l) → ⊥
-    behind-others q l h =
-        let apart = distinct-head y (q .to ∷ benchesOf l) (true→T (distinct (y ∷ q .to ∷ benchesOf l)) (h .once)) in
-        walk-leaves (put b j names x) (q .to) l (h .walk .1) j (λ i. apart (subst (λ (z : ℕ). In z (q .to ∷ benchesOf l)) (new-holder b w j names x t ∙ sym s) i))
+    -- the path begins at the bench that holds the new job
+    holds : holderOf (put b j names x) j ≡ y
+    holds = put-holder b (w .valid) j names x t ∙ sym s
 
     not-on : (l : List Step) → IsPath (put b j names x) (pathBy y l) → RouteIn (put b j names x) path 0 (r .jobs) (r .bench) y l → (r .jobs ≡ 0) ⊎ (at path 0 ≢ j) → In j (jobsOf l) → ⊥
     not-on [] h k d i = i
     not-on (q ∷ l) h k (inl e) i = omega (arith, k .count)
     not-on (q ∷ l) h k (inr d) (inl e) = d (route-job k ∙ sym e)
-    not-on (q ∷ l) h k (inr d) (inr i) = behind-others q l h i
+    not-on (q ∷ l) h k (inr d) (inr i) = held-first (put b j names x) y j holds q l h i
 
     -- the whole path is left
     whole : (l : List Step) → IsPath (put b j names x) (pathBy y l) → RouteIn (put b j names x) path 0 (r .jobs) (r .bench) y l → (In j (jobsOf l) → ⊥) → Entered b j names path (afterArrival (put b j names x) j x (some (pathBy y l))) r x 0
@@ -85,9 +77,9 @@ module _ (b : Board) (w : Storable b) (j : ℕ) (names : List ℕ) (x : ℕ) (t 
           left = l;
           route = k;
           board = refl;
-          held = sym (flip-keeps (put b j names x) v (pathBy y l) h j f ∙ new-holder b w j names x t);
+          held = sym (flip-keeps (put b j names x) v (pathBy y l) h j f ∙ put-holder b (w .valid) j names x t);
           rose = sym (k .ends);
-          moved = omega (arith, others-count j (jobsOf l), count-none j (jobsOf l) f, k .count, length-map l (λ (s : Step). s .job));
+          moved = sym (others-all j (jobsOf l) f);
         }
 
     -- the new job went, the rest is left
@@ -97,14 +89,14 @@ module _ (b : Board) (w : Storable b) (j : ℕ) (names : List ℕ) (x : ℕ) (t 
         let c = put b j names x in
         let on : heldBy c (update (c .holders) (q .job) (q .to)) ≡ put b j names (q .to) = ap (λ (i : ℕ). heldBy c (update (c .holders) i (q .to))) e ∙ moved-on (q .to) in
         record {
-          named = subst (In (q .to)) (ap (namesOf c) e ∙ new-names b w j names x t) (route-named k);
+          named = subst (In (q .to)) (ap (namesOf c) e ∙ new-names b j names x t) (route-named k);
           start = q .to;
           left = l;
           route = subst (λ (d : Board). RouteIn d path 1 (r .jobs) (r .bench) (q .to) l) on (route-rest k v);
           board = sym (ap (λ (d : Board). heldBy d (handOver (d .holders) l)) on);
           held = sym (flip-gives c v (pathBy y (q ∷ l)) h q (inl refl)) ∙ ap (holderOf (flip c (pathBy y (q ∷ l)))) e;
           rose = sym (k .ends);
-          moved = omega (arith, others-count j (jobsOf (q ∷ l)), count-some j (jobsOf (q ∷ l)) (inl (sym e)), distinct-count (jobsOf (q ∷ l)) (path-jobs c v (pathBy y (q ∷ l)) h) j, k .count, length-map (q ∷ l) (λ (s : Step). s .job));
+          moved = sym (but-first c y j holds q l h e);
         }
 
     -- the bench that it goes to: the board without it tells the same
@@ -114,7 +106,7 @@ module _ (b : Board) (w : Storable b) (j : ℕ) (names : List ℕ) (x : ℕ) (t 
         next : 1 < r .jobs → z ≡ holderOf (put b j names x) (at path 1)
         next u =
             let there : In (at path 1) (jobsOf l) = subst (λ (i : ℕ). In i (jobsOf l)) (route-at k 1 (omega (arith, k .count))) (in-getD (jobsOf l) 0 0 (omega (arith, k .count, length-map l (λ (s : Step). s .job)))) in
-            a .next u ∙ sym (nth-update-other (b .holders) j (at path 1) x 0 (λ e. behind-others q l h (subst (λ (i : ℕ). In i (jobsOf l)) e there)))
+            a .next u ∙ sym (nth-update-other (b .holders) j (at path 1) x 0 (λ e. held-first (put b j names x) y j holds q l h (subst (λ (i : ℕ). In i (jobsOf l)) e there)))
 
     entered-path : (l : List Step) → IsPath (put b j names x) (pathBy y l) → RouteIn (put b j names x) path 0 (r .jobs) (r .bench) y l → (e : Intake) → EntersAt b j x path r e → Entered b j names path (afterArrival (put b j names x) j x (some (pathBy y l))) r (e .holder) (e .place)
     entered-path l h k e (inr (d, p, o)) =
@@ -135,9 +127,9 @@ module _ (b : Board) (w : Storable b) (j : ℕ) (names : List ℕ) (x : ℕ) (t 
             left = [];
             route = rw (f .bench) (found-route (put b j names x) x none (λ p i. absurd (true→T false (cc))) f);
             board = refl;
-            held = sym (new-holder b w j names x t);
+            held = sym (put-holder b (w .valid) j names x t);
             rose = f .bench;
-            moved = omega (arith, f .count);
+            moved = refl;
           }
   entered-by (some p) q f e a =
       let only = improvingFrom-only (put b j names x) x p (((arrival-choice (put b j names x) x p) .0 q) .listed-is) in
@@ -152,7 +144,7 @@ entered b w j names x t v g {path} {r} {e} f a =
 
 -- the table
 
-module _ {t : List ℕ} {s : Size} {j first second x : ℕ} {path : List ℕ} {r : FoundPath} (z : SoundTable t s) (m : MayArrive (decode t) (record { job = j; given = first ∷ second ∷ [] })) (f : ArrivalFound (decode t) j (first ∷ second ∷ []) x path r) where
+module _ {t : List ℕ} {s : Size} {j first second x : ℕ} {path : List ℕ} {r : FoundPath} (z : SoundTable t s) (m : MayArrive (decode t) j (first ∷ second ∷ [])) (f : ArrivalFound (decode t) j (first ∷ second ∷ []) x path r) where
   -- the path's jobs are numbers of 1 to J
   pub taking-jobs : (i : ℕ) → JobAt s path i (r .jobs)
   taking-jobs i u =
@@ -194,14 +186,35 @@ module _ {t : List ℕ} {s : Size} {j first second x : ℕ} {path : List ℕ} {r
         taking-route =
             subst (λ (d : Board). RouteIn d path place (r .jobs) (r .bench) (n .start) (n .left)) (sym taken-in) (n .route)
 
-        -- .. and then the arrival is done
-        pub taking-done : {w : List ℕ} → ((y : ℕ) (l : List Step) → RouteIn (decode v) path place (r .jobs) (r .bench) y l → TableOf w s (heldBy (decode v) (handOver ((decode v) .holders) l))) → IsArrival w j d (record { holder = holder; rose = r .bench; moved = r .jobs - place })
+        -- .. and then the table is the arrival's
+        pub taking-done : {w : List ℕ} → ((y : ℕ) (l : List Step) → RouteIn (decode v) path place (r .jobs) (r .bench) y l → TableOf w s (heldBy (decode v) (handOver ((decode v) .holders) l))) → w ≡ encode (d .board)
         taking-done h =
             let k = h (n .start) (n .left) taking-route in
-            let board = k .board ∙ ap (λ (d : Board). heldBy d (handOver (d .holders) (n .left))) taken-in ∙ n .board in
-            record {
-              bytes = k .inOrder .bytes ∙ ap encode board;
-              holder = n .held;
-              rose = n .rose;
-              moved = omega (arith, n .moved);
-            }
+            k .inOrder .bytes ∙ ap encode (k .board ∙ ap (λ (d : Board). heldBy d (handOver (d .holders) (n .left))) taken-in ∙ n .board)
+
+-- the list
+
+module _ {b : Board} {j : ℕ} {names path : List ℕ} {d : Change} {r : FoundPath} {holder place : ℕ} (n : Entered b j names path d r holder place) where
+  -- from its place on the path has the jobs that moved ..
+  pub entered-list : take (r .jobs - place) (drop place path) ≡ d .moved
+  entered-list = sym (n .route .listed) ∙ n .moved
+
+  -- .. and so many
+  pub entered-number : place + length (d .moved) ≡ r .jobs
+  entered-number = omega (arith, ap length (n .moved), length-map (n .left) (λ (s : Step). s .job), n .route .count)
+
+  -- a list that is too short for them: nothing was written
+  pub entered-short : {before after : Lent} {moved : ℕ} → moved ≡ r .jobs - place → length (before .list) < 2 * moved → after ≡ before → TooShort d before after ListTooShort
+  entered-short e h k = record { why = refl; short = omega (arith, entered-number); left = k }
+
+  -- one that is long enough gets them
+  pub entered-made : {before after : Lent} {moved : ℕ} → moved ≡ r .jobs - place → 2 * moved ≤ length (before .list) → after .table ≡ encode (d .board) → after .list ≡ inList (take (r .jobs - place) (drop place path)) (before .list) → MadeAs j d before after (record { holder = holder; bench = r .bench; moved = moved })
+  entered-made {before} e h table list =
+      record {
+        room = omega (arith, entered-number);
+        table = table;
+        list = list ∙ ap (λ (l : List ℕ). inList l (before .list)) entered-list;
+        holder = n .held;
+        bench = n .rose;
+        moved = omega (arith, entered-number);
+      }

@@ -1,17 +1,16 @@
--- Arrival: the path is the rule's, found while every byte is as it was; the table is then the rule's board, and the
--- numbers are the rule's.
+-- Arrival: the path is the rule's, found while every byte is as it was; what comes of it.
 use Prim.Native.Nat.{ℕ}
 use mathlib.Core.Path.{_≡_}
 use mathlib.Core.Logic.{_⊎_, _≢_}
 use mathlib.Core.List.{List, [], _∷_}
-use lib.ListN.{length}
-use Rattle.spec_table.specs.Board.{Board, holderOf, put}
-use Rattle.spec_sharing.specs.Sharing.{Change, lightestNamed, arrivalChoice, arrive}
-use Rattle.spec_table.specs.Table.{decode, encode}
+use Rattle.spec_table.specs.Board.{Board, put}
+use Rattle.spec_sharing.specs.Sharing.{lightestNamed, arrivalChoice, arrive}
+use Rattle.spec_table.specs.Table.{decode}
 use Rattle.graph_lists.specs.Arrays.{at}
 use Rattle.sharing_paths.specs.FoundPaths.{lastOf, PathFound, AfterIn}
 use Rattle.sharing_paths.specs.declared.FoundPath.{FoundPath}
-use Rattle.sharing_arrival.specs.declared.Arrival.{Arrival}
+use Rattle.sharing_effects.specs.Effects.{Lent, AttemptOf}
+use Rattle.sharing_effects.specs.declared.Attempt.{Attempt}
 use Rattle.sharing_arrival.specs.declared.Intake.{Intake}
 
 -- bench x gets job j of these benches, and the rule's path from there is found: r and `path` tell it
@@ -27,13 +26,6 @@ EntersAt b j x path r e =
     ((r .jobs ≢ 0) × (at path 0 ≡ j) × (e .place ≡ 1) × AfterIn b path 1 (r .jobs) (r .bench) (e .holder)) ⊎
     (((r .jobs ≡ 0) ⊎ (at path 0 ≢ j)) × (e .place ≡ 0) × (e .holder ≡ x))
 
--- r and the table u are those of the arrival c of job j
-pub record IsArrival (u : List ℕ) (j : ℕ) (c : Change) (r : Arrival) : Type 0 where
-  pub bytes : u ≡ encode (c .board)
-  pub holder : r .holder ≡ holderOf (c .board) j
-  pub rose : r .rose ≡ c .bench
-  pub moved : r .moved ≡ length (c .moved)
-
--- the arrival of job j for benches x and y
-abbrev pub ArrivalOf : List ℕ → List ℕ → ℕ → ℕ → ℕ → Arrival → Type 0
-ArrivalOf t u j x y r = IsArrival u j (arrive (decode t) j (x ∷ y ∷ [])) r
+-- what comes of the arrival of job j for benches x and y
+abbrev pub ArrivalOf : ℕ → ℕ → ℕ → Lent → Lent → Attempt → Type 0
+ArrivalOf j x y before after r = AttemptOf j (arrive (decode (before .table)) j (x ∷ y ∷ [])) before after r

@@ -1,4 +1,5 @@
-// Arrival of a job that may arrive. What it hands along is found first, and nothing is written; then it is applied.
+// Arrival of a job that may arrive. What it hands along is found first, then the list for it is tested, and only then
+// anything is written: the list, and the table.
 ghost use mathlib.Core.Path.{_≡_};
 ghost use mathlib.Core.List.{[], _∷_};
 ghost use Prim.Native.Nat.{ℕ, _+_, _≤_};
@@ -6,28 +7,24 @@ ghost use lib.Dec.{T};
 ghost use lib.ListN.{length};
 ghost use Rattle.spec_lists.specs.Lists.{within};
 ghost use Rattle.spec_table.specs.Board.{Board};
-ghost use Rattle.spec_sharing.specs.Sharing.{lightestNamed};
-ghost use Rattle.spec_table.specs.Table.{mostBenches, decode};
+ghost use Rattle.spec_sharing.specs.Sharing.{lightestNamed, arrive};
+ghost use Rattle.spec_table.specs.Table.{mostBenches, decode, encode};
 ghost use Rattle.spec_calls.specs.Calls.{MayArrive};
 ghost use Rattle.table_board.specs.BoardView.{HoldsBoard, Loaded};
 ghost use Rattle.table_order.specs.InOrder.{InOrder};
 ghost use Rattle.sharing_paths.specs.FoundPaths.{JobAt};
+ghost use Rattle.sharing_effects.specs.Effects.{lent};
 ghost use Rattle.sharing_arrival.specs.ArrivalResult.{ArrivalFound, EntersAt, ArrivalOf};
+use sharing_effects::Attempt;
+use sharing_effects::Effect;
 use sharing_paths::FoundPath;
+use table_refusals::Refusal;
 use table_size::Size;
 
-// What an arrival reports: the bench that holds the new job in the end, the bench whose load rose, and the other jobs
-// that changed holder.
-pub struct Arrival {
-    pub holder: usize,
-    pub rose: usize,
-    pub moved: usize,
-}
-
 // Where an arriving job is taken in: the bench that holds it, and the place from which on the path is left.
-struct Intake {
-    holder: usize,
-    place: usize,
+pub struct Intake {
+    pub holder: usize,
+    pub place: usize,
 }
 
 // Picks the lighter of two benches, the first-named if they are equal.
@@ -57,7 +54,7 @@ pub fn find_arrival(
     path: &mut [u16; Size::MOST_BENCHES + 1],
 ) -> FoundPath
     requires { ⌜ InOrder (now t) s ⌝ }
-    requires { ⌜ MayArrive (decode (now t)) (record { job = j; given = first ∷ second ∷ [] }) ⌝ }
+    requires { ⌜ MayArrive (decode (now t)) j (first ∷ second ∷ []) ⌝ }
     requires { ⌜ Loaded (decode (now t)) (now loads) ⌝ }
     requires { ⌜ x ≡ lightestNamed (decode (now t) .holders) (first ∷ second ∷ []) ⌝ }
     requires { ⌜ length (now path) ≡ mostBenches + 1 ⌝ }
@@ -93,35 +90,30 @@ fn enter(
     }
 }
 
-// Takes in job j and hands the path's jobs along.
+// Takes in job j where it enters, and hands the rest of the path along.
 pub fn apply_arrival(
     t: &mut [u8],
     s: Size,
     j: usize,
     first: usize,
     second: usize,
-    x: usize,
+    intake: Intake,
     found: FoundPath,
     path: &[u16; Size::MOST_BENCHES + 1],
-) -> Arrival
+)
     requires { ⌜ InOrder (now t) s ⌝ }
-    requires { ⌜ MayArrive (decode (now t)) (record { job = j; given = first ∷ second ∷ [] }) ⌝ }
-    requires { ⌜ ArrivalFound (decode (now t)) j (first ∷ second ∷ []) x (now path) found ⌝ }
-    ensures { λ r. ⌜ ArrivalOf (now (t .entry)) (now (t .exit)) j first second r ⌝ }
+    requires { ⌜ MayArrive (decode (now t)) j (first ∷ second ∷ []) ⌝ }
+    requires { ⌜ ((x : ℕ) × ArrivalFound (decode (now t)) j (first ∷ second ∷ []) x (now path) found ×
+        EntersAt (decode (now t)) j x (now path) found intake) ⌝ }
+    ensures { λ _. ⌜ now (t .exit) ≡ encode ((arrive (decode (now (t .entry))) j (first ∷ second ∷ [])) .board) ⌝ }
 {
-    let entry = enter(t, s, j, x, found, path);
     let names = [first, second];
-    table_splices::add_job(t, s, j, &names, entry.holder);
-    sharing_paths::hand_along(t, s, path, entry.place, found.jobs, found.bench);
-    let moved = found.jobs - entry.place;
-    Arrival {
-        holder: entry.holder,
-        rose: found.bench,
-        moved,
-    }
+    table_splices::add_job(t, s, j, &names, intake.holder);
+    sharing_paths::hand_along(t, s, path, intake.place, found.jobs, found.bench);
 }
 
-// Takes in job j on a table in order: finds first, then writes. `path` is lent: what it holds does not matter.
+// Takes in job j on a table in order, and lists the jobs that move: finds, refuses a list that is too short, and then
+// writes. `path` is lent: what it holds does not matter.
 pub fn arrive_in_order(
     t: &mut [u8],
     s: Size,
@@ -130,14 +122,29 @@ pub fn arrive_in_order(
     j: usize,
     first: usize,
     second: usize,
-) -> Arrival
+    list: &mut [u8],
+) -> Attempt
     requires { ⌜ InOrder (now t) s ⌝ }
-    requires { ⌜ MayArrive (decode (now t)) (record { job = j; given = first ∷ second ∷ [] }) ⌝ }
+    requires { ⌜ MayArrive (decode (now t)) j (first ∷ second ∷ []) ⌝ }
     requires { ⌜ Loaded (decode (now t)) (now loads) ⌝ }
     requires { ⌜ length (now path) ≡ mostBenches + 1 ⌝ }
-    ensures { λ r. ⌜ ArrivalOf (now (t .entry)) (now (t .exit)) j first second r ⌝ }
+    ensures { λ r. ⌜ ArrivalOf j first second (lent (now (t .entry)) (now (list .entry)))
+        (lent (now (t .exit)) (now (list .exit))) r ⌝ }
 {
     let x = lighter(loads, first, second);
     let found = find_arrival(t, s, loads, j, first, second, x, path);
-    apply_arrival(t, s, j, first, second, x, found, path)
+    let intake = enter(t, s, j, x, found, path);
+    let place = intake.place;
+    let end = found.jobs;
+    let moved = end - place;
+    if list.len() < 2 * moved {
+        return Attempt::Refused(Refusal::ListTooShort);
+    }
+    table_words::write_list(list, &path[place..end]);
+    apply_arrival(t, s, j, first, second, intake, found, path);
+    Attempt::Made(Effect {
+        holder: intake.holder,
+        bench: found.bench,
+        moved,
+    })
 }

@@ -15,9 +15,9 @@ ghost use Rattle.table_board.specs.BoardView.{Loaded};
 ghost use Rattle.table_order.specs.InOrder.{InOrder};
 ghost use Rattle.sharing_arrival.specs.ArrivalResult.{ArrivalOf};
 ghost use Rattle.sharing_closing.specs.ClosingResult.{ClosingOf};
-ghost use Rattle.sharing_changes.specs.TaskResult.{MayDo, EffectOf};
-use sharing_arrival::Arrival;
-use sharing_paths::FoundPath;
+ghost use Rattle.sharing_effects.specs.Effects.{lent};
+ghost use Rattle.sharing_changes.specs.TaskResult.{MayDo, TaskOf};
+use sharing_effects::Attempt;
 use table_size::Size;
 
 // What is to be done.
@@ -28,14 +28,6 @@ enum Task {
     Close(usize),
 }
 
-// What was done: the bench that holds an arrived job in the end, the bench whose load rose or fell, and the other jobs
-// that changed holder.
-struct Effect {
-    holder: usize,
-    bench: usize,
-    moved: usize,
-}
-
 // Does the task on a table in order.
 fn do_in_order(
     t: &mut [u8],
@@ -43,53 +35,47 @@ fn do_in_order(
     loads: &mut [u16; Size::MOST_BENCHES + 1],
     path: &mut [u16; Size::MOST_BENCHES + 1],
     task: Task,
-) -> Effect
+    list: &mut [u8],
+) -> Attempt
     requires { ⌜ InOrder (now t) s ⌝ }
     requires { ⌜ MayDo (decode (now t)) task ⌝ }
     requires { ⌜ Loaded (decode (now t)) (now loads) ⌝ }
     requires { ⌜ length (now path) ≡ mostBenches + 1 ⌝ }
-    ensures { λ r. ⌜ EffectOf (decode (now (t .entry))) (now (t .exit)) task r ⌝ }
+    ensures { λ r. ⌜ TaskOf task (lent (now (t .entry)) (now (list .entry))) (lent (now (t .exit)) (now (list .exit))) r ⌝ }
 {
     match task {
         Task::Arrive(j, first, second) => {
-            let a = sharing_arrival::arrive_in_order(t, s, loads, path, j, first, second);
-            Effect {
-                holder: a.holder,
-                bench: a.rose,
-                moved: a.moved,
-            }
+            sharing_arrival::arrive_in_order(t, s, loads, path, j, first, second, list)
         }
-        Task::Close(j) => {
-            let c = sharing_closing::close_in_order(t, s, loads, path, j);
-            Effect {
-                holder: 0,
-                bench: c.bench,
-                moved: c.jobs,
-            }
-        }
+        Task::Close(j) => sharing_closing::close_in_order(t, s, loads, path, j, list),
     }
 }
 
-// Does the task in a copy, as long as the table, that is put in order, and copies it back.
+// Does the task in a copy, as long as the table, that is put in order; copies it back if the task was done.
 fn do_in_copy(
     t: &mut [u8],
     s: Size,
     loads: &mut [u16; Size::MOST_BENCHES + 1],
     path: &mut [u16; Size::MOST_BENCHES + 1],
     task: Task,
+    list: &mut [u8],
     copy: &mut [u8],
-) -> Effect
+) -> Attempt
     requires { ⌜ SoundTable (now t) s ⌝ }
     requires { ⌜ MayDo (decode (now t)) task ⌝ }
     requires { ⌜ Loaded (decode (now t)) (now loads) ⌝ }
     requires { ⌜ length (now path) ≡ mostBenches + 1 ⌝ }
     requires { ⌜ length (now copy) ≡ length (now t) ⌝ }
-    ensures { λ r. ⌜ EffectOf (decode (now (t .entry))) (now (t .exit)) task r ⌝ }
+    ensures { λ r. ⌜ TaskOf task (lent (now (t .entry)) (now (list .entry))) (lent (now (t .exit)) (now (list .exit))) r ⌝ }
 {
     table_copies::copy_in_order(t, s, copy);
-    let e = do_in_order(copy, s, loads, path, task);
-    table_copies::copy_back(copy, t);
-    e
+    match do_in_order(copy, s, loads, path, task, list) {
+        Attempt::Refused(r) => Attempt::Refused(r),
+        Attempt::Made(e) => {
+            table_copies::copy_back(copy, t);
+            Attempt::Made(e)
+        }
+    }
 }
 
 // Does the task on a table in any order: makes the room for the copy.
@@ -99,19 +85,20 @@ fn do_stored(
     loads: &mut [u16; Size::MOST_BENCHES + 1],
     path: &mut [u16; Size::MOST_BENCHES + 1],
     task: Task,
-) -> Effect
+    list: &mut [u8],
+) -> Attempt
     requires { ⌜ SoundTable (now t) s ⌝ }
     requires { ⌜ MayDo (decode (now t)) task ⌝ }
     requires { ⌜ Loaded (decode (now t)) (now loads) ⌝ }
     requires { ⌜ length (now path) ≡ mostBenches + 1 ⌝ }
-    ensures { λ r. ⌜ EffectOf (decode (now (t .entry))) (now (t .exit)) task r ⌝ }
+    ensures { λ r. ⌜ TaskOf task (lent (now (t .entry)) (now (list .entry))) (lent (now (t .exit)) (now (list .exit))) r ⌝ }
 {
     let mut copy = [0; Size::MOST_BYTES];
     let n = s.bytes();
-    do_in_copy(t, s, loads, path, task, &mut copy[0..n])
+    do_in_copy(t, s, loads, path, task, list, &mut copy[0..n])
 }
 
-// Takes in job j for two benches. `path` is lent: what it holds does not matter.
+// Takes in job j for two benches, and lists the jobs that move. `path` is lent: what it holds does not matter.
 pub fn arrive(
     t: &mut [u8],
     s: Size,
@@ -121,27 +108,23 @@ pub fn arrive(
     j: usize,
     first: usize,
     second: usize,
-) -> Arrival
+    list: &mut [u8],
+) -> Attempt
     requires { ⌜ SoundTable (now t) s ⌝ }
     requires { ⌜ T rising ↔ (now t ≡ encode (decode (now t))) ⌝ }
-    requires { ⌜ MayArrive (decode (now t)) (record { job = j; given = first ∷ second ∷ [] }) ⌝ }
+    requires { ⌜ MayArrive (decode (now t)) j (first ∷ second ∷ []) ⌝ }
     requires { ⌜ Loaded (decode (now t)) (now loads) ⌝ }
     requires { ⌜ length (now path) ≡ mostBenches + 1 ⌝ }
-    ensures { λ r. ⌜ ArrivalOf (now (t .entry)) (now (t .exit)) j first second r ⌝ }
+    ensures { λ r. ⌜ ArrivalOf j first second (lent (now (t .entry)) (now (list .entry)))
+        (lent (now (t .exit)) (now (list .exit))) r ⌝ }
 {
     if rising {
-        return sharing_arrival::arrive_in_order(t, s, loads, path, j, first, second);
+        return sharing_arrival::arrive_in_order(t, s, loads, path, j, first, second, list);
     }
-    let e = do_stored(t, s, loads, path, Task::Arrive(j, first, second));
-    Arrival {
-        holder: e.holder,
-        rose: e.bench,
-        moved: e.moved,
-    }
+    do_stored(t, s, loads, path, Task::Arrive(j, first, second), list)
 }
 
-// Closes job j, which stands; tells the bench whose load fell, and the jobs that changed holder. `path` is lent: what
-// it holds does not matter.
+// Closes job j, which stands, and lists the jobs that move. `path` is lent: what it holds does not matter.
 pub fn close(
     t: &mut [u8],
     s: Size,
@@ -149,20 +132,18 @@ pub fn close(
     loads: &mut [u16; Size::MOST_BENCHES + 1],
     path: &mut [u16; Size::MOST_BENCHES + 1],
     j: usize,
-) -> FoundPath
+    list: &mut [u8],
+) -> Attempt
     requires { ⌜ SoundTable (now t) s ⌝ }
     requires { ⌜ T rising ↔ (now t ≡ encode (decode (now t))) ⌝ }
     requires { ⌜ T (stands (decode (now t)) j) ⌝ }
     requires { ⌜ Loaded (decode (now t)) (now loads) ⌝ }
     requires { ⌜ length (now path) ≡ mostBenches + 1 ⌝ }
-    ensures { λ r. ⌜ ClosingOf (now (t .entry)) (now (t .exit)) j r ⌝ }
+    ensures { λ r. ⌜ ClosingOf j (lent (now (t .entry)) (now (list .entry)))
+        (lent (now (t .exit)) (now (list .exit))) r ⌝ }
 {
     if rising {
-        return sharing_closing::close_in_order(t, s, loads, path, j);
+        return sharing_closing::close_in_order(t, s, loads, path, j, list);
     }
-    let e = do_stored(t, s, loads, path, Task::Close(j));
-    FoundPath {
-        bench: e.bench,
-        jobs: e.moved,
-    }
+    do_stored(t, s, loads, path, Task::Close(j), list)
 }

@@ -1,15 +1,15 @@
 -- A closing: the board without the job, its steps and its loads, and what is left once the path is handed along.
-use Prim.Native.Nat.{ℕ, _+_, _-_, _≤_}
+use Prim.Native.Nat.{ℕ, _+_, _-_, _*_, _≤_, _<_}
 use native.Mathlib.Omega.{arith}
 use mathlib.Core.Path.{_≡_, refl, sym, ap, subst, subst₂, _∙_}
 use mathlib.Core.Logic.{_≢_}
 use mathlib.Core.List.{List, []}
 use mathlib.Core.Option.{Option, none, some}
 use lib.Dec.{T, eqb}
-use lib.ListN.{length, set, length-set}
+use lib.ListN.{length, set, take, length-set}
 use Rattle.spec_lists.specs.Lists.{bit, greatest, In, update}
-use Rattle.spec_table.specs.Board.{Board, namesOf, holderOf, stands, put, load, heldBy}
-use Rattle.spec_table.specs.Table.{mostBenches, decode, encode, Storable}
+use Rattle.spec_table.specs.Board.{Board, Valid, namesOf, holderOf, stands, put, load, heldBy}
+use Rattle.spec_table.specs.Table.{inList, mostBenches, decode, encode, Storable}
 use Rattle.spec_sharing.specs.Paths.{Step, BenchPath, steps, handOver, flip}
 use Rattle.spec_sharing.specs.Sharing.{closingChoice, afterClosing, close}
 use Rattle.spec_lists.proofs.Elements.{length-update}
@@ -18,20 +18,22 @@ use Rattle.spec_lists.proofs.Raising.{getD-lowered}
 use Rattle.spec_table.proofs.Named.{stands-within, holder-bench}
 use Rattle.spec_sharing.proofs.Paths.{step-is, improvingTo-only}
 use Rattle.spec_sharing.proofs.Choice.{closing-choice}
-use Rattle.spec_sharing.proofs.Changes.{taken-names}
+use Rattle.spec_sharing.proofs.Changes.{taken-names, closed-holder}
 use Rattle.table_size.specs.Sizes.{BenchIn, JobIn, SoundTable}
 use Rattle.table_size.specs.declared.Size.{Size}
 use Rattle.table_size.proofs.Sizes.{board-job, board-bench}
 use Rattle.table_board.specs.BoardView.{HolderOf, Loaded}
 use Rattle.table_board.proofs.RecordsAsBoard.{sound-holds-board, put-storable}
 use Rattle.table_order.specs.InOrder.{TableOf}
+use Rattle.table_refusals.specs.declared.Refusal.the-variants.{ListTooShort}
+use Rattle.sharing_effects.specs.Effects.{Lent, TooShort, MadeAs}
 use Rattle.graph_lists.specs.Arrays.{at, LoadsIn}
 use Rattle.sharing_steps.proofs.AsSteps.{loads-in}
-use Rattle.sharing_paths.specs.FoundPaths.{lastOf, startOf, PathFound, RouteIn}
+use Rattle.sharing_paths.specs.FoundPaths.{jobsIn, lastOf, startOf, PathFound, RouteIn}
 use Rattle.sharing_paths.specs.declared.FoundPath.{FoundPath}
 use Rattle.sharing_paths.proofs.HandingAlong.{routeOf, found-route}
 use Rattle.sharing_paths_to.specs.ClosingSearch.{WithoutJob}
-use Rattle.sharing_closing.specs.ClosingResult.{ClosingFound, IsClosing}
+use Rattle.sharing_closing.specs.ClosingResult.{ClosingFound}
 use Rattle.sharing_steps.proofs.JobWritten.{step-same, written-load}
 
 -- one job less at bench x
@@ -129,10 +131,10 @@ unfolding flip
 closed-board c x none = refl
 closed-board c x (some p) = refl
 
--- the numbers are the path's
-closed-numbers : (u : List ℕ) (c : Board) (x : ℕ) (o : Option BenchPath) {path : List ℕ} {r : FoundPath} → u ≡ encode ((afterClosing c x o) .board) → PathFound o (startOf x o) path r → IsClosing u (afterClosing c x o) r
-closed-numbers u c x none e f = record { bytes = e; fell = f .bench; moved = f .count }
-closed-numbers u c x (some p) e f = record { bytes = e; fell = f .bench; moved = f .count }
+-- the bench whose load falls and the jobs that move are the path's
+closed-path : (c : Board) (x : ℕ) (o : Option BenchPath) → (startOf x o ≡ (afterClosing c x o) .bench) × (jobsIn o ≡ (afterClosing c x o) .moved)
+closed-path c x none = (refl, refl)
+closed-path c x (some p) = (refl, refl)
 
 module _ {b : Board} {s : Size} {j x : ℕ} {path : List ℕ} {r : FoundPath} (f : ClosingFound b j path r) {u : List ℕ} (o : TableOf u s b) (e : HolderOf u s j x) {v : List ℕ} (a : TableOf v s (put (decode u) j [] 0)) where
   removed : decode v ≡ put b j [] 0
@@ -148,13 +150,39 @@ module _ {b : Board} {s : Size} {j x : ℕ} {path : List ℕ} {r : FoundPath} (f
       let k = found-route c y d (λ p q. (improvingTo-only c y p (((closing-choice c y p) .0 q) .listed-is)) .0) (f .found) in
       subst₂ (λ (l : Board) (n : ℕ). RouteIn l path 0 (r .jobs) n (startOf y d) (routeOf d)) (sym removed) end k
 
-  -- .. and then the closing is done
-  pub closing-done : {w : List ℕ} → ((y : ℕ) (l : List Step) → RouteIn (decode v) path 0 (r .jobs) x y l → TableOf w s (heldBy (decode v) (handOver ((decode v) .holders) l))) → IsClosing w (close b j) r
+  -- .. and then the table is the closing's
+  pub closing-done : {w : List ℕ} → ((y : ℕ) (l : List Step) → RouteIn (decode v) path 0 (r .jobs) x y l → TableOf w s (heldBy (decode v) (handOver ((decode v) .holders) l))) → w ≡ encode ((close b j) .board)
   unfolding close
   closing-done {w} h =
       let c = put b j [] 0 in
       let y = holderOf b j in
       let d = closingChoice c y in
       let k = h (startOf y d) (routeOf d) closing-route in
-      let board = k .board ∙ ap (λ (l : Board). heldBy l (handOver (l .holders) (routeOf d))) removed ∙ closed-board c y d in
-      closed-numbers w c y d (k .inOrder .bytes ∙ ap encode board) (f .found)
+      k .inOrder .bytes ∙ ap encode (k .board ∙ ap (λ (l : Board). heldBy l (handOver (l .holders) (routeOf d))) removed ∙ closed-board c y d)
+
+-- the list
+
+module _ {b : Board} {j : ℕ} {path : List ℕ} {r : FoundPath} (f : ClosingFound b j path r) where
+  is-path : let x = holderOf b j in let o = closingChoice (put b j [] 0) x in (startOf x o ≡ (close b j) .bench) × (jobsIn o ≡ (close b j) .moved)
+  unfolding close
+  is-path = let x = holderOf b j in let c = put b j [] 0 in closed-path c x (closingChoice c x)
+
+  -- so many jobs move as were found
+  number : r .jobs ≡ length ((close b j) .moved)
+  number = f .found .count ∙ ap length (is-path .1)
+
+  -- a list that is too short for them: nothing was written
+  pub closing-short : {before after : Lent} → length (before .list) < 2 * r .jobs → after ≡ before → TooShort (close b j) before after ListTooShort
+  closing-short h k = record { why = refl; short = omega (arith, number); left = k }
+
+  -- one that is long enough gets them
+  pub closing-made : {before after : Lent} → Valid b → T (stands b j) → 2 * r .jobs ≤ length (before .list) → after .table ≡ encode ((close b j) .board) → after .list ≡ inList (take (r .jobs) path) (before .list) → MadeAs j (close b j) before after (record { holder = 0; bench = r .bench; moved = r .jobs })
+  closing-made {before} v p h table list =
+      record {
+        room = omega (arith, number);
+        table = table;
+        list = list ∙ ap (λ (l : List ℕ). inList l (before .list)) (f .found .listed ∙ is-path .1);
+        holder = sym (closed-holder b v j p);
+        bench = f .found .bench ∙ is-path .0;
+        moved = number;
+      }

@@ -1,5 +1,5 @@
 -- Marks as a set: counted, written to a list, and the tight set of a board.
-use Prim.Native.Nat.{ℕ, zero, suc, _+_, _*_, _/_, _%_, _≤_, _<_}
+use Prim.Native.Nat.{ℕ, zero, suc, _+_, _*_, _≤_, _<_}
 use native.Mathlib.Omega.{arith}
 use native.Mathlib.Decide.{ℕ-discrete, decLe}
 use mathlib.Core.Path.{_≡_, refl, sym, ap, _∙_}
@@ -7,26 +7,25 @@ use mathlib.Core.Logic.{_↔_}
 use mathlib.Core.Bool.{Bool, true, false, cond}
 use mathlib.Core.List.{List, [], _∷_, _++_, append-nil}
 use lib.Dec.{T, T-not}
-use lib.ListN.{length, set, drop, replicate, length-append}
+use lib.ListN.{length, set, replicate, length-append}
 use lib.Seq.{getD-set-same, getD-set-other}
 use Rattle.spec_lists.specs.Lists.{bit, within, count, member, range, total, filter, In}
 use Rattle.spec_table.specs.Board.{Board, load}
 use Rattle.spec_sharing.specs.Paths.{Step, steps}
 use Rattle.spec_sharing.specs.Sharing.{tightSet, inside}
 use Rattle.spec_sharing.specs.Searches.{Reach}
-use Rattle.spec_table.specs.Table.{mostBenches, mostJobs, decode, bytesOf}
+use Rattle.spec_table.specs.Table.{inList, mostBenches, mostJobs, decode}
 use Rattle.spec_lists.proofs.Tests.{true→T, false→not, Compared, same, other, compared, within-both}
 use Rattle.spec_lists.proofs.Elements.{length-filter}
 use Rattle.spec_lists.proofs.NumberLists.{member-marked, length-range}
 use Rattle.spec_lists.proofs.Counting.{total-same, filter-counts}
-use Rattle.spec_table.proofs.Places.{two-more, two-more-high}
 use Rattle.spec_sharing.proofs.Certificate.{loadIn}
 use Rattle.spec_sharing.proofs.TightSet.{tight-marked, tight-inside}
 use Rattle.spec_sharing.proofs.Walks.{reach-here, reach-all}
 use Rattle.table_words.specs.Bytes.{setWord}
 use Rattle.table_size.specs.Sizes.{Limits, BenchIn, SoundTable}
 use Rattle.table_size.specs.declared.Size.{Size}
-use Rattle.table_words.proofs.Bytes.{length-setWord}
+use Rattle.table_words.proofs.Bytes.{length-setWord, list-next}
 use Rattle.table_size.proofs.Sizes.{board-bench}
 use Rattle.table_board.specs.BoardView.{HoldsBoard, Loaded}
 use Rattle.table_board.proofs.RecordsAsBoard.{sound-holds-board}
@@ -133,26 +132,12 @@ measure-end {s} m e =
 
 -- writing
 
--- the numbers as words at the list's beginning
-abbrev written : List ℕ → List ℕ → List ℕ
-written list l = bytesOf l ++ drop (2 * length l) list
-
--- the next word written is one number more
-written-next : (list l : List ℕ) (w : ℕ) → 2 * length l + 1 < length list → setWord (written list l) (length l) w ≡ written list (l ++ (w ∷ []))
-unfolding setWord
-written-next [] l w h = absurd (omega arith)
-written-next (a ∷ []) l w h = absurd (omega arith)
-written-next (a ∷ b ∷ list) [] w h = refl
-written-next (a ∷ b ∷ list) (v ∷ l) w h =
-    rw (two-more-high (length l), two-more (length l), two-more (length (l ++ (w ∷ []))))
-    (ap (λ (bytes : List ℕ). v % 256 ∷ v / 256 % 256 ∷ bytes) (written-next list l w (omega arith)))
-
 -- the marked benches before x are written
 pub record Writing (list₀ : List ℕ) (marks : List Bool) (list : List ℕ) (count x : ℕ) : Type 0 where
   pub done : ℕ
   pub next : x ≡ suc done
   pub counted : count ≡ length (passing (mark marks) done)
-  pub bytes : list ≡ written list₀ (passing (mark marks) done)
+  pub bytes : list ≡ inList (passing (mark marks) done) list₀
   pub long : length list ≡ length list₀
 
 -- no bench is written yet
@@ -174,7 +159,7 @@ write-turn {list₀} {marks} {list} {count} {x} list' count' m room e f =
       done = suc (m .done);
       next = omega (arith, m .next);
       counted = omega (arith, m .counted, passing-counts (mark marks) (m .done));
-      bytes = e ∙ stepped (mark marks x) refl ∙ ap (written list₀) (sym all);
+      bytes = e ∙ stepped (mark marks x) refl ∙ ap (λ (l : List ℕ). inList l list₀) (sym all);
       long = ap length e ∙ length-stepped (mark marks x) ∙ m .long;
     }
   where
@@ -185,13 +170,13 @@ write-turn {list₀} {marks} {list} {count} {x} list' count' m room e f =
     length-stepped true = length-setWord list count x
     length-stepped false = refl
 
-    stepped : (z : Bool) → mark marks x ≡ z → cond z (setWord list count x) list ≡ written list₀ (before ++ cond z (x ∷ []) [])
+    stepped : (z : Bool) → mark marks x ≡ z → cond z (setWord list count x) list ≡ inList (before ++ cond z (x ∷ []) []) list₀
     stepped true q =
-        rw (m .bytes, m .counted) (written-next list₀ before x (omega (arith, room q, m .counted, m .long)))
-    stepped false q = m .bytes ∙ ap (written list₀) (sym (append-nil before))
+        rw (m .bytes, m .counted) (list-next list₀ before x (omega (arith, room q, m .counted, m .long)))
+    stepped false q = m .bytes ∙ ap (λ (l : List ℕ). inList l list₀) (sym (append-nil before))
 
 -- all benches are written
-pub write-end : {list₀ : List ℕ} {marks : List Bool} {list : List ℕ} {count x : ℕ} (s : Size) → Writing list₀ marks list count x → x ≡ s .benches + 1 → list ≡ bytesOf (marked s marks) ++ drop (2 * length (marked s marks)) list₀
+pub write-end : {list₀ : List ℕ} {marks : List Bool} {list : List ℕ} {count x : ℕ} (s : Size) → Writing list₀ marks list count x → x ≡ s .benches + 1 → list ≡ inList (marked s marks) list₀
 write-end s m e =
     let d : m .done ≡ s .benches = omega (arith, m .next) in
     rw d at (m .bytes)

@@ -1,10 +1,9 @@
 // The tight set of a height: its benches marked, their number and the jobs inside, and the benches written to a list.
 ghost use mathlib.Core.Path.{_≡_};
 ghost use mathlib.Core.Bool.{false};
-ghost use mathlib.Core.List.{_++_};
 ghost use Prim.Native.Nat.{_≤_, _+_, _*_};
-ghost use lib.ListN.{length, drop, replicate};
-ghost use Rattle.spec_table.specs.Table.{mostBenches, decode, bytesOf};
+ghost use lib.ListN.{length, replicate};
+ghost use Rattle.spec_table.specs.Table.{inList, mostBenches, decode};
 ghost use Rattle.spec_sharing.specs.Sharing.{tightSet};
 ghost use Rattle.table_size.specs.Sizes.{Limits, SoundTable};
 ghost use Rattle.table_board.specs.BoardView.{Loaded};
@@ -125,8 +124,7 @@ pub fn tight_set(
 pub fn write(s: Size, marks: &[bool; Size::MOST_BENCHES + 1], list: &mut [u8])
     requires { ⌜ Limits s ⌝ }
     requires { ⌜ 2 * length (marked s (now marks)) ≤ length (now list) ⌝ }
-    ensures { λ _. ⌜ now (list .exit) ≡ bytesOf (marked s (now (marks .entry))) ++ drop
-        (2 * length (marked s (now (marks .entry)))) (now (list .entry)) ⌝ }
+    ensures { λ _. ⌜ now (list .exit) ≡ inList (marked s (now (marks .entry))) (now (list .entry)) ⌝ }
 {
     let benches = s.benches();
     let mut count = 0;

@@ -57,12 +57,14 @@ module _ (b : Board) (given : List ℕ) (n : T (namable b given)) where
 -- no condition of an arrival holds: it may go through, and its list is long enough
 may-arrive : (b : Board) (a : Arriving) → Each (λ k. k .holds ≡ false) (arrivalConditions a b) → MayArrive b (a .job) (a .given) × (2 * length ((arrive b (a .job) (a .given)) .moved) ≤ length (a .list))
 unfolding arrivalConditions
-may-arrive b a e =
-    (record {
-      number = not-false (within 1 (length (b .named)) (a .job)) (e .0);
-      free = false→not (stands b (a .job)) (e .1 .1 .0);
-      fit = not-false (namable b (a .given)) (e .1 .0);
-    }, ltb-false (length (a .list)) (2 * length ((arrive b (a .job) (a .given)) .moved)) (e .1 .1 .1 .0))
+may-arrive b a e = (
+  record {
+    number = not-false (within 1 (length (b .named)) (a .job)) (e .0);
+    free = false→not (stands b (a .job)) (e .1 .1 .0);
+    fit = not-false (namable b (a .given)) (e .1 .0);
+  },
+  ltb-false (length (a .list)) (2 * length ((arrive b (a .job) (a .given)) .moved)) (e .1 .1 .1 .0),
+)
 
 may-close : (b : Board) (c : Closing) → Each (λ k. k .holds ≡ false) (closingConditions c b) → T (stands b (c .job)) × (2 * length ((close b (c .job)) .moved) ≤ length (c .list))
 unfolding closingConditions

@@ -193,6 +193,12 @@ closing-does b v j s = go (closingChoice c x) refl
         let only = improvingTo-only c x p (((closing-choice c x p) .0 q) .listed-is) in
         (does-flip b v j [] 0 vc p (only .0) (p .start) (jobs p) (λ k. (λ m. (gone p (only .0) k m, m), λ d. d .1)) (path-jobs c vc p (only .0)), less-flipped c vc p (only .0) (b .holders) (only .1) (subst (OneMore (b .benches) (c .holders) (b .holders)) (sym (only .2)) (put-falls b v j s)))
 
+-- afterwards no bench holds the job
+pub closed-holder : (b : Board) → Valid b → (j : ℕ) → T (stands b j) → holderOf ((close b j) .board) j ≡ 0
+closed-holder b v j s =
+    let d = (closing-does b v j s) .0 in
+    holder-none ((close b j) .board) (d .valid) j (ap (λ (l : List (List ℕ)). nth l j []) (d .named) ∙ taken-names b j s)
+
 -- "The lighter named bench gets the job ..
 pub arrive-lighter : (b : Board) (j x y : ℕ) → load (b .holders) y < load (b .holders) x → let c = put b j (x ∷ y ∷ []) y in arrive b j (x ∷ y ∷ []) ≡ afterArrival c j y (arrivalChoice c y)
 unfolding arrive

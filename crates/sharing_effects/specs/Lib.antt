@@ -1,0 +1,2 @@
+-- What comes of a change.
+pub mod Effects
