@@ -19,7 +19,7 @@ slice-aggregate-add-job c = search needs
 
 add-job-requires : tie.Need-add-job-requires
 add-job-requires c κs =
-    let start = c .before in
+    let start = c .before .before .before in
     let (k, (m, (x, f, e))) = start .pre in
     let o = rising-table (k .sound) (k .bytes) in
     (k, (taking-fills (k .sound) m f o (entered start), taking-free (k .sound) m f o))
@@ -27,7 +27,7 @@ add-job-requires c κs =
 hand-along-requires : tie.Need-hand-along-requires
 hand-along-requires c κs =
     let added = c .before .before .before in
-    let start = added .before .before in
+    let start = added .before .before .before .before in
     let (k, (m, (x, f, e))) = start .pre in
     let n = entered start in
     let a = added .add-job .ensures in
@@ -40,7 +40,7 @@ returns : tie.Need-returns
 returns c =
     let along = c .before .before in
     let added = along .before .before .before .before in
-    let start = added .before .before in
+    let start = added .before .before .before .before in
     let (k, (m, (x, f, e))) = start .pre in
     taking-done (k .sound) m f (rising-table (k .sound) (k .bytes)) (entered start) (added .add-job .ensures) (along .hand-along .ensures)
 
