@@ -61,11 +61,8 @@ pub extern "C" fn jobboard_closing(
         (now (table .exit)) (now (list .exit)) (now (fell .entry) ∷ now (moved .entry) ∷ [])
         (now (fell .exit) ∷ now (moved .exit) ∷ []) ⌝ }
 {
-    jobboard_report::two(
-        board_changes::closing(table, job as usize, list),
-        fell,
-        moved,
-    )
+    let a = board_changes::closing(table, job as usize, list);
+    jobboard_report::two(a, fell, moved)
 }
 
 // Levels within an allowance of paths. Results: the paths turned, and 1 for level or 0 for stopped.
