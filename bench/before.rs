@@ -1,5 +1,8 @@
 //! Holds the proved calls against those of an older archive, timed in turn: has any become slower? A program of its own, which
 //! bench/run --before builds. It uses a part of what the measurements share.
+//!
+//! Before there were lists of moved jobs, arrival and closing took none. Of such an archive (older::LISTS is false) their answers and
+//! tables are compared, not the lists; in the rows this archive's calls list the jobs, so that their time is part of the ratio.
 #![allow(dead_code)]
 mod boards;
 #[macro_use]
@@ -7,37 +10,53 @@ mod calls;
 mod comparison;
 mod figures;
 mod independent;
+// Where it lists no moved jobs, it takes lists and does not use them.
+#[allow(unused_variables)]
 #[path = "../target/bench/older.rs"]
 mod older;
 mod proved;
 mod timing;
 mod trials;
 
-use calls::{Call, Perform};
+use calls::{Call, Perform, INDEPENDENT, LIST};
 use figures::{head, micros, print_line, rows, two_places, Row};
 use timing::{times, Task};
 
 const OLDER: Perform = |c, t, room| answer!(older, c, t, room);
 const PROVED: Perform = |c, t, room| answer!(proved, c, t, room);
-const INDEPENDENT: Perform = |c, t, room| answer!(independent, c, t, room);
 const TABLE: &str = "before and now";
+
+/// The proved calls as they can be compared: where the older arrivals and closings list no jobs, these list theirs elsewhere.
+const COMPARED: Perform = |c, t, room| match c {
+    Call::Arrival(..) | Call::Closing(..) if !older::LISTS => PROVED(c, t, &mut [0; LIST]),
+    _ => PROVED(c, t, room),
+};
 
 /// The older archive's calls: on each line a name there, and the one in older.rs.
 const NAMES: &str = include_str!("../target/bench/older.names");
 
-/// Tells whether the older archive has a call. The first ones have no sheet, and later ones no question for two benches: then older.rs has
-/// this one's in its place, which is neither compared nor timed.
-fn had(call: Call) -> bool {
+/// Calls that older archives may lack, and how they are called.
+const LATER: [(Call, &str); 2] = [(Call::Sheet(0), "sheet"), (Call::Between(0, 0), "question for two benches")];
+
+/// The rows that are compared where the older archive lacks none: each list of calls on each board of each size (trials.rs).
+const ROWS: usize = 192;
+
+/// Gives a call as the older archive has it. The first ones have no sheet, and later ones no question for two benches: then older.rs has
+/// this one's in its place, which is neither compared nor timed. Where arrivals and closings list no jobs they refuse no list as too short,
+/// so that this one's must be long enough.
+fn had(call: Call) -> Option<Call> {
     match call {
-        Call::Sheet(..) => NAMES.contains("jobboard_sheet "),
-        Call::Between(..) => NAMES.contains("jobboard_between "),
-        _ => true,
+        Call::Sheet(..) => NAMES.contains("jobboard_sheet ").then_some(call),
+        Call::Between(..) => NAMES.contains("jobboard_between ").then_some(call),
+        Call::Arrival(j, x, y, _) if !older::LISTS => Some(Call::Arrival(j, x, y, LIST)),
+        Call::Closing(j, _) if !older::LISTS => Some(Call::Closing(j, LIST)),
+        _ => Some(call),
     }
 }
 
 /// Times calls of one kind, before and now, if the older archive has them.
 fn measure_row(board: &str, t: &[u8], calls: &[Call], number: u32) {
-    if !had(calls[0]) {
+    if had(calls[0]).is_none() {
         return;
     }
     let both = times([OLDER, PROVED].map(|perform| Task(perform, t, calls, number)));
@@ -46,9 +65,12 @@ fn measure_row(board: &str, t: &[u8], calls: &[Call], number: u32) {
 
 /// Prints that both answer alike, and what the older archive lacks.
 fn compare() {
-    comparison::print("Before and now", [OLDER, PROVED], had);
-    for (call, what) in [(Call::Sheet(0), "sheet"), (Call::Between(0, 0), "question for two benches")] {
-        if !had(call) {
+    comparison::print("Before and now", [OLDER, COMPARED], had);
+    if !older::LISTS {
+        println!("The older archive's arrivals and closings list no jobs: their lists are not compared, and none is too short.");
+    }
+    for (call, what) in LATER {
+        if had(call).is_none() {
             println!("The older archive has no {what}: its calls and rows are left out.");
         }
     }
@@ -83,6 +105,8 @@ fn named(row: &Row) -> String {
 /// Prints whether no call is slower than before, and the three rows whose ratio is most above what is allowed or nearest to it.
 fn verdict(files: &[String]) {
     let mut rows = rows(TABLE, files);
+    let lacks_some = LATER.iter().any(|(call, _)| had(*call).is_none());
+    assert!(lacks_some || rows.len() == ROWS, "{} rows are compared", rows.len());
     rows.sort_by(|a, b| excess(b).total_cmp(&excess(a)));
     let slower = rows.iter().filter(|row| excess(row) > 0.0).count();
     let verdict = if slower == 0 { "met" } else { "missed" };

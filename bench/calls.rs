@@ -1,14 +1,18 @@
 //! Random calls, and a call's answer by an implementation: a module with one function for each call. Beside its table a call is lent
-//! room: bytes for the list of a tight set or the page of a sheet.
+//! room: bytes for the list of an arrival, a closing or a tight set, or for the page of a sheet.
 use crate::boards::{self, Random};
+use crate::independent;
 
-/// A call with its numbers; a tight set also with the length of its list, a sheet with that of its page.
+/// The length of a list that is long enough for the moves of every path and for every tight set: words for 500 benches.
+pub const LIST: usize = 1000;
+
+/// A call with its numbers; an arrival, a closing and a tight set also with the length of their list, a sheet with that of its page.
 #[derive(Clone, Copy, Debug)]
 pub enum Call {
     Blank(u32, u32),
     FormCheck,
-    Arrival(u32, u32, u32),
-    Closing(u32),
+    Arrival(u32, u32, u32, usize),
+    Closing(u32, usize),
     Levelling(u32),
     LevelCheck,
     Load(u32),
@@ -39,9 +43,9 @@ pub fn kind(call: Call) -> usize {
 }
 
 /// Gives the length of the list or the page that a call is lent.
-pub fn room(call: Call) -> usize {
+fn room(call: Call) -> usize {
     match call {
-        Call::TightSet(_, list) => list,
+        Call::Arrival(.., list) | Call::Closing(_, list) | Call::TightSet(_, list) => list,
         Call::Sheet(page) => page,
         _ => 0,
     }
@@ -50,6 +54,7 @@ pub fn room(call: Call) -> usize {
 /// Gives how many bytes an accepted call writes to its list or its page, by its values.
 fn written(call: Call, values: [u32; 3]) -> usize {
     match call {
+        Call::Arrival(..) | Call::Closing(..) => 2 * moved(call, values).unwrap_or(0) as usize,
         Call::TightSet(..) => 2 * values[0] as usize,
         Call::Sheet(..) => values[0] as usize,
         _ => 0,
@@ -96,8 +101,8 @@ macro_rules! answer {
         match $call {
             $crate::calls::Call::Blank(b, j) => $crate::calls::bare($module::blank($table, b, j)),
             $crate::calls::Call::FormCheck => $crate::calls::bare($module::form_check($table)),
-            $crate::calls::Call::Arrival(j, x, y) => $module::arrival($table, j, x, y).map($crate::calls::padded),
-            $crate::calls::Call::Closing(j) => $module::closing($table, j).map($crate::calls::padded),
+            $crate::calls::Call::Arrival(j, x, y, len) => $module::arrival($table, j, x, y, &mut $room[..len]).map($crate::calls::padded),
+            $crate::calls::Call::Closing(j, len) => $module::closing($table, j, &mut $room[..len]).map($crate::calls::padded),
             $crate::calls::Call::Levelling(n) => $module::levelling($table, n).map($crate::calls::padded),
             $crate::calls::Call::LevelCheck => $module::level_check($table).map($crate::calls::padded),
             $crate::calls::Call::Load(x) => $module::load($table, x).map($crate::calls::padded),
@@ -112,16 +117,33 @@ macro_rules! answer {
 /// An implementation: the answer to a call on a table and with this room.
 pub type Perform = fn(Call, &mut [u8], &mut [u8]) -> Answer;
 
+/// The independent implementation, which also makes the boards and tells how many jobs a call moves.
+pub const INDEPENDENT: Perform = |c, t, room| answer!(independent, c, t, room);
+
+/// What a call comes to: its answer, and the bytes that it leaves in the table and in the room.
+pub type Outcome = (Answer, Vec<u8>, Vec<u8>);
+
+/// Performs a call on a copy of a table, with a copy of this room.
+fn outcome_in(room: &[u8], perform: Perform, call: Call, t: &[u8]) -> Outcome {
+    let (mut after, mut room) = (t.to_vec(), room.to_vec());
+    let answer = perform(call, &mut after, &mut room);
+    (answer, after, room)
+}
+
+/// Performs a call on a copy of a table, with zeros for its list or its page.
+pub fn outcome(perform: Perform, call: Call, t: &[u8]) -> Outcome {
+    outcome_in(&vec![0; room(call)], perform, call, t)
+}
+
+/// Bytes behind a list or a page, which no call is lent.
+const BEHIND: usize = 8;
+
 /// Performs a call with all implementations, which must answer alike and leave the same bytes in the table and in
 /// the list or the page. Bytes behind what they write there stay, and all if they refuse. Gives the table that they
 /// leave and their answer.
 pub fn same<const N: usize>(all: [Perform; N], call: Call, t: &[u8], random: &mut Random) -> (Vec<u8>, Answer) {
-    let room: Vec<u8> = (0..room(call)).map(|_| random.below(256) as u8).collect();
-    let outcomes = all.map(|perform| {
-        let (mut after, mut room) = (t.to_vec(), room.clone());
-        let answer = perform(call, &mut after, &mut room);
-        (answer, after, room)
-    });
+    let room: Vec<u8> = (0..room(call) + BEHIND).map(|_| random.below(256) as u8).collect();
+    let outcomes = all.map(|perform| outcome_in(&room, perform, call, t));
     assert!(outcomes.iter().all(|o| *o == outcomes[0]), "the implementations differ: {call:?} on {t:?} gives {outcomes:?}");
     let (answer, after, after_room) = outcomes.into_iter().next().unwrap();
     let end = answer.map_or(0, |values| written(call, values));
@@ -172,16 +194,24 @@ fn benches_to_ask(t: &[u8], random: &mut Random) -> [u32; 2] {
     [at, 1 - at].map(|k| boards::get(t, benches + 4 * j + k) as u32)
 }
 
-/// Picks the length of a page: that of the table's sheet, longer, one less, 0, or shorter.
-fn page(t: &[u8], random: &mut Random) -> usize {
-    let sheet = boards::sheet_length(t);
-    match random.below(8) {
+/// Picks the length of a list or a page that so many bytes are to go into: as long, longer, by one byte or by more, one byte too short, 0,
+/// or shorter.
+fn length(needed: usize, random: &mut Random) -> usize {
+    match random.below(9) {
         0 => 0,
-        1 => sheet - 1,
-        2 => random.below(sheet),
-        3..=5 => sheet,
-        _ => sheet + 1 + random.below(200),
+        1 => needed.saturating_sub(1),
+        2 => random.below(needed.max(1)),
+        3..=5 => needed,
+        6 => needed + 1,
+        _ => needed + 1 + random.below(200),
     }
+}
+
+/// Picks the length of the list that a call is lent for the jobs it moves.
+fn with_list(call: impl Fn(usize) -> Call, t: &[u8], random: &mut Random) -> Call {
+    let (answer, ..) = outcome(INDEPENDENT, call(LIST), t);
+    let needed = answer.map_or(0, |values| written(call(LIST), values));
+    call(length(needed, random))
 }
 
 /// Makes a call for a sound table, with numbers in and out of range.
@@ -192,15 +222,18 @@ pub fn random_call(t: &[u8], random: &mut Random) -> Call {
         0 => Call::Blank(number(benches, random), number(jobs, random)),
         1 => Call::FormCheck,
         2..=5 => {
-            let [first, second] = benches_to_name(benches, random);
-            Call::Arrival(job(t, false, random), first, second)
+            let ([first, second], job) = (benches_to_name(benches, random), job(t, false, random));
+            with_list(|list| Call::Arrival(job, first, second, list), t, random)
         }
-        6..=8 => Call::Closing(job(t, true, random)),
+        6..=8 => {
+            let job = job(t, true, random);
+            with_list(|list| Call::Closing(job, list), t, random)
+        }
         9 | 10 => Call::Levelling(*[0, 1, 2, 3, 5, u32::MAX].get(random.below(7)).unwrap_or(&number(jobs, random))),
         11 => Call::LevelCheck,
         12 => Call::Load(number(benches, random)),
         13 => Call::Heaviest,
-        14 | 15 => Call::Sheet(page(t, random)),
+        14 | 15 => Call::Sheet(length(boards::sheet_length(t), random)),
         16..=18 => {
             let [first, second] = benches_to_ask(t, random);
             Call::Between(first, second)

@@ -1,5 +1,5 @@
 //! Each call on each board, timed with all implementations.
-use crate::calls::{moved, room, Call};
+use crate::calls::{moved, outcome, Call};
 use crate::figures::{head, micros, print_line, rows, two_places, Row};
 use crate::timing::{times, Task};
 use crate::trials::{self, SIZES};
@@ -19,7 +19,7 @@ fn moved_or_read(call: Call, values: [u32; 3]) -> Option<u32> {
 /// Gives the mean number of jobs moved, of paths turned or of records read, of calls of one kind. None for calls that have no such number,
 /// and for refused ones.
 fn mean(t: &[u8], calls: &[Call]) -> Option<f64> {
-    let each = calls.iter().map(|&call| moved_or_read(call, PROVED(call, &mut t.to_vec(), &mut vec![0; room(call)]).ok()?));
+    let each = calls.iter().map(|&call| moved_or_read(call, outcome(PROVED, call, t).0.ok()?));
     Some(each.sum::<Option<u32>>()? as f64 / calls.len() as f64)
 }
 

@@ -1,7 +1,7 @@
 //! How the cost of proved calls grows with J and with the length of the path, and that of a question for two benches does not. What a
 //! column compares, of these questions a row, is timed in turn.
 use crate::boards::{self, Random};
-use crate::calls::{moved, Call, ACCEPTED};
+use crate::calls::{Call, ACCEPTED};
 use crate::figures::{head, micros, print_line, rows, two_places, Row, Spread};
 use crate::timing::{times, Task};
 use crate::trials::{self, PAIRS};
@@ -50,8 +50,7 @@ fn print_with_jobs(files: &[String]) {
 /// Times calls that move as many jobs as MOVED says.
 fn moving(t: &[u8], calls: [Call; 6]) -> [f64; 6] {
     for (call, count) in calls.into_iter().zip(MOVED) {
-        let values = PROVED(call, &mut t.to_vec(), &mut []).unwrap();
-        assert_eq!(moved(call, values), Some(count as u32), "{call:?}");
+        trials::hold_moved(call, t, count);
     }
     times(calls.each_ref().map(|call| Task(PROVED, t, from_ref(call), ACCEPTED)))
 }

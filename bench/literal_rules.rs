@@ -165,7 +165,16 @@ fn refusal(conditions: &[(u32, bool)]) -> Result<(), u32> {
     conditions.iter().find(|c| c.1).map_or(Ok(()), |c| Err(c.0))
 }
 
-pub fn arrival(t: &mut [u8], job: u32, x: u32, y: u32) -> Result<[u32; 3], u32> {
+/// Writes numbers as words into a list, or refuses with 8.
+fn write_words(list: &mut [u8], numbers: &[usize]) -> Result<(), u32> {
+    refusal(&[(8, list.len() < 2 * numbers.len())])?;
+    for (i, &n) in numbers.iter().enumerate() {
+        list[2 * i..2 * i + 2].copy_from_slice(&(n as u16).to_le_bytes());
+    }
+    Ok(())
+}
+
+pub fn arrival(t: &mut [u8], job: u32, x: u32, y: u32, list: &mut [u8]) -> Result<[u32; 3], u32> {
     let mut board = read(t)?;
     let (j, names) = (job as usize, [x as usize, y as usize]);
     let numbered = 1 <= j && j <= board.jobs.len();
@@ -173,33 +182,35 @@ pub fn arrival(t: &mut [u8], job: u32, x: u32, y: u32) -> Result<[u32; 3], u32> 
     refusal(&[(3, !numbered), (4, !named), (5, numbered && board.jobs[j - 1].is_some())])?;
     let holder = (board.load(names[1]) < board.load(names[0])) as usize;
     board.jobs[j - 1] = Some((names, holder));
-    let (mut rose, mut moved) = (names[holder], 0);
+    let (mut rose, mut moved) = (names[holder], vec![]);
     let paths = board.improving().into_iter().filter(|p| first(p) == names[holder]);
     if let Some(path) = paths.min_by_key(|p| board.arrival_order(p)) {
         board.turn(&path);
         rose = last(&path);
-        moved = path.1.iter().filter(|&&k| k != j).count();
+        moved = path.1.into_iter().filter(|&k| k != j).collect();
     }
+    write_words(list, &moved)?;
     t.copy_from_slice(&board.table());
     let holds = names[board.jobs[j - 1].unwrap().1];
-    Ok([holds as u32, rose as u32, moved as u32])
+    Ok([holds as u32, rose as u32, moved.len() as u32])
 }
 
-pub fn closing(t: &mut [u8], job: u32) -> Result<[u32; 2], u32> {
+pub fn closing(t: &mut [u8], job: u32, list: &mut [u8]) -> Result<[u32; 2], u32> {
     let mut board = read(t)?;
     let j = job as usize;
     let numbered = 1 <= j && j <= board.jobs.len();
     refusal(&[(3, !numbered), (6, numbered && board.jobs[j - 1].is_none())])?;
     let (names, holder) = board.jobs[j - 1].take().unwrap();
-    let (mut fell, mut moved) = (names[holder], 0);
+    let (mut fell, mut moved) = (names[holder], vec![]);
     let paths = board.improving().into_iter().filter(|p| last(p) == names[holder]);
     if let Some(path) = paths.min_by_key(|p| (Reverse(board.load(first(p))), p.1.len(), first(p), p.1.clone())) {
         board.turn(&path);
         fell = first(&path);
-        moved = path.1.len();
+        moved = path.1;
     }
+    write_words(list, &moved)?;
     t.copy_from_slice(&board.table());
-    Ok([fell as u32, moved as u32])
+    Ok([fell as u32, moved.len() as u32])
 }
 
 pub fn levelling(t: &mut [u8], allowance: u32) -> Result<[u32; 2], u32> {
@@ -240,11 +251,8 @@ pub fn tight_set(t: &[u8], height: u32, list: &mut [u8]) -> Result<[u32; 2], u32
     while let Some(y) = set.iter().flat_map(|&x| board.chain(x)).map(|(_, y)| y).find(|y| !set.contains(y)) {
         set.push(y);
     }
-    refusal(&[(8, list.len() < 2 * set.len())])?;
     set.sort();
-    for (i, &x) in set.iter().enumerate() {
-        list[2 * i..2 * i + 2].copy_from_slice(&(x as u16).to_le_bytes());
-    }
+    write_words(list, &set)?;
     let inside = board.jobs.iter().flatten().filter(|(names, _)| names.iter().all(|x| set.contains(x)));
     Ok([set.len() as u32, inside.count() as u32])
 }

@@ -1,6 +1,6 @@
 //! The proved calls beside two other implementations: a plain one, which works as a straightforward program does, and an independent one,
-//! written from document 01 alone, its sheet and its question for two benches from 02. First that all answer alike, then how long they
-//! take, in several processes. See bench/run.
+//! written from document 01 alone, its sheet, its question for two benches and its lists of moved jobs from 02. First that all answer
+//! alike, then how long they take, in several processes. See bench/run.
 mod boards;
 #[macro_use]
 mod calls;
@@ -18,11 +18,10 @@ mod targets;
 mod timing;
 mod trials;
 
-use calls::Perform;
+use calls::{Perform, INDEPENDENT};
 
 const PROVED: Perform = |c, t, room| answer!(proved, c, t, room);
 const PLAIN: Perform = |c, t, room| answer!(plain, c, t, room);
-const INDEPENDENT: Perform = |c, t, room| answer!(independent, c, t, room);
 
 /// Prints the figures of this process, which has a number, as lines.
 fn measure(process: usize) {
@@ -46,7 +45,7 @@ fn report(files: &[String]) {
 fn main() {
     let arguments: Vec<_> = std::env::args().skip(1).collect();
     match arguments.first().map(String::as_str) {
-        Some("compare") => comparison::print("Proved, plain and independent", [PROVED, PLAIN, INDEPENDENT], |_| true),
+        Some("compare") => comparison::print("Proved, plain and independent", [PROVED, PLAIN, INDEPENDENT], Some),
         Some("measure") => measure(arguments[1].parse().unwrap()),
         Some("report") => report(&arguments[1..]),
         _ => panic!("compare, or measure and the process's number, or report and files"),

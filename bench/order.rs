@@ -1,7 +1,7 @@
 //! The first change of a table in another order, which leaves every chain rising, beside the same change of the same board in order: what
 //! a stored table in another order costs once.
 use crate::boards;
-use crate::calls::{Answer, Call};
+use crate::calls::{outcome, Call};
 use crate::figures::{head, micros, print_line, rows, two_places};
 use crate::timing::{times, Task};
 use crate::trials::{self, NO_ORDER};
@@ -14,18 +14,12 @@ fn shown(call: Call) -> bool {
     matches!(call, Call::Arrival(..) | Call::Closing(..) | Call::Levelling(0))
 }
 
-/// Gives a call's answer and the table that it leaves.
-fn outcome(call: Call, t: &[u8]) -> (Answer, Vec<u8>) {
-    let mut t = t.to_vec();
-    (PROVED(call, &mut t, &mut []), t)
-}
-
-/// Holds what a call does to a table in another order against what it does to the same board in order: the same answer and the same
-/// bytes, chains rising, else the two times would not be of one change.
+/// Holds what a call does to a table in another order against what it does to the same board in order: the same answer, the same list and
+/// the same bytes, chains rising, else the two times would not be of one change.
 fn hold(call: Call, stored: &[u8], rising: &[u8]) {
-    let (first, in_order) = (outcome(call, stored), outcome(call, rising));
+    let [first, in_order] = [stored, rising].map(|t| outcome(PROVED, call, t));
     assert!(stored != rising, "the table is in order before {call:?}");
-    assert!(first == in_order, "{call:?} gives another answer or table where chains are in no order");
+    assert!(first == in_order, "{call:?} gives another answer, table or list where chains are in no order");
     assert!(first.1 == trials::rising(&first.1), "{call:?} leaves a chain that does not rise");
 }
 

@@ -9,11 +9,13 @@ extern "C" {
         job: u32,
         first: u32,
         second: u32,
+        list: *mut u8,
+        list_len: usize,
         holder: *mut u32,
         rose: *mut u32,
         moved: *mut u32,
     ) -> u32;
-    fn jobboard_closing(table: *mut u8, len: usize, job: u32, fell: *mut u32, moved: *mut u32) -> u32;
+    fn jobboard_closing(table: *mut u8, len: usize, job: u32, list: *mut u8, list_len: usize, fell: *mut u32, moved: *mut u32) -> u32;
     fn jobboard_levelling(table: *mut u8, len: usize, allowance: u32, paths: *mut u32, level: *mut u32) -> u32;
     fn jobboard_level_check(table: *const u8, len: usize, level: *mut u32) -> u32;
     fn jobboard_load(table: *const u8, len: usize, bench: u32, load: *mut u32) -> u32;
@@ -52,17 +54,19 @@ pub fn form_check(t: &[u8]) -> u32 {
     unsafe { jobboard_check(t.as_ptr(), t.len()) }
 }
 
-pub fn arrival(t: &mut [u8], job: u32, first: u32, second: u32) -> Result<[u32; 3], u32> {
+pub fn arrival(t: &mut [u8], job: u32, first: u32, second: u32, list: &mut [u8]) -> Result<[u32; 3], u32> {
     let [mut holder, mut rose, mut moved] = [UNSET; 3];
-    // SAFETY: as above.
-    let number = unsafe { jobboard_arrival(t.as_mut_ptr(), t.len(), job, first, second, &mut holder, &mut rose, &mut moved) };
+    // SAFETY: as above; the list is lent with its own length.
+    let number = unsafe {
+        jobboard_arrival(t.as_mut_ptr(), t.len(), job, first, second, list.as_mut_ptr(), list.len(), &mut holder, &mut rose, &mut moved)
+    };
     values(number, [holder, rose, moved])
 }
 
-pub fn closing(t: &mut [u8], job: u32) -> Result<[u32; 2], u32> {
+pub fn closing(t: &mut [u8], job: u32, list: &mut [u8]) -> Result<[u32; 2], u32> {
     let [mut fell, mut moved] = [UNSET; 2];
-    // SAFETY: as above.
-    let number = unsafe { jobboard_closing(t.as_mut_ptr(), t.len(), job, &mut fell, &mut moved) };
+    // SAFETY: as above; the list is lent with its own length.
+    let number = unsafe { jobboard_closing(t.as_mut_ptr(), t.len(), job, list.as_mut_ptr(), list.len(), &mut fell, &mut moved) };
     values(number, [fell, moved])
 }
 

@@ -1,6 +1,6 @@
 //! One change on a level board, beside levelling the changed board's jobs from scratch.
 use crate::boards::{self, Random};
-use crate::calls::{Call, ACCEPTED};
+use crate::calls::{outcome, Call, ACCEPTED};
 use crate::figures::{head, micros, print_line, rows};
 use crate::timing::{times, Task};
 use crate::trials::{self, KINDS, SIZES};
@@ -14,9 +14,8 @@ const LEVEL: Call = Call::Levelling(u32::MAX);
 
 /// Gives the table after a call, and the call's first value.
 fn after(call: Call, t: &[u8]) -> (Vec<u8>, u32) {
-    let mut t = t.to_vec();
-    let [first, ..] = PROVED(call, &mut t, &mut []).unwrap();
-    (t, first)
+    let (answer, after, _) = outcome(PROVED, call, t);
+    (after, answer.unwrap()[0])
 }
 
 fn sorted_loads(t: &[u8]) -> Vec<usize> {

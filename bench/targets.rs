@@ -30,6 +30,9 @@ const NAMES: [&str; 4] = ["", "of the plain one's time", "of the independent one
 /// As long as the other, and a tenth for noise.
 const NOISY: f64 = 1.1;
 
+/// The form checks that an arrival or a closing may take, however many jobs it moves and lists.
+const CHANGE: f64 = 4.0;
+
 /// The calls whose name begins so, on which boards, at which sizes, against what, the most their ratio may be on any of these boards.
 struct Target(&'static str, Boards, From, Against, f64);
 
@@ -61,8 +64,8 @@ const TARGETS: [Target; 32] = [
     Target("levelling", EVERY, LARGEST, PLAIN, 1.0),
     Target("level check", EVERY, LARGEST, CHECKS, 3.0),
     Target("tight set", EVERY, LARGEST, CHECKS, 3.0),
-    Target("arrival", EVERY, LARGEST, CHECKS, 4.0),
-    Target("closing", EVERY, LARGEST, CHECKS, 4.0),
+    Target("arrival", EVERY, LARGEST, CHECKS, CHANGE),
+    Target("closing", EVERY, LARGEST, CHECKS, CHANGE),
     Target("levelling", EVERY, LARGEST, CHECKS, 4.0),
     Target("sheet", EVERY, LARGEST, CHECKS, 5.0),
     Target("between, loads 8, 8", EVERY, LARGEST, CHECKS, 0.05),
@@ -130,16 +133,26 @@ fn judged_length(both: &Row) -> (bool, String) {
     (missed, format!("| {call} | the same search | {benches} | {jobs} | {WHATEVER_LENGTH:?} of a short path's time | {end}"))
 }
 
+/// Writes whether the long path takes too many form checks, and its row of the table.
+fn judged_long(both: &Row) -> (bool, String) {
+    let [call, benches, jobs, _, many] = &both.cells[..] else { unreachable!() };
+    let (missed, end) = verdict(&both.ratio(1, 2), CHANGE, &format!("{many} jobs moved and listed"));
+    (missed, format!("| {call} | long path, whole search | {benches} | {jobs} | {CHANGE:?} {} | {end}", NAMES[CHECKS]))
+}
+
 /// Prints each target and each goal at each of its sizes, the missed ones first. `same` has the times of the same questions for two
-/// benches, `lengths` those of short and long paths.
+/// benches, `lengths` those of short and long paths and of the form checks beside them.
 pub fn print(rows: &[Row], same: &Row, lengths: &[Row]) {
     head(
         "What was to be reached, and the board where the median was greatest; missed ones first.",
         "call | boards | B | J | at most | reached | on | verdict",
     );
-    let targets = TARGETS.iter().flat_map(|target| target.judged("", rows)).chain([judged_pairs(same)]).chain(lengths.iter().map(judged_length));
+    let targets = TARGETS.iter().flat_map(|target| target.judged("", rows));
+    let longest = lengths.iter().filter(|row| (row.number(1), row.number(2)) == SIZES[LARGEST]);
+    let paths = lengths.iter().map(judged_length).chain(longest.map(judged_long));
     let goals = GOALS.iter().flat_map(|goal| goal.judged("goal: ", rows));
-    let (missed, met): (Vec<_>, Vec<_>) = targets.chain(goals).partition(|(missed, _)| *missed);
+    let all = targets.chain([judged_pairs(same)]).chain(paths).chain(goals);
+    let (missed, met): (Vec<_>, Vec<_>) = all.partition(|(missed, _)| *missed);
     for (_, row) in [missed, met].concat() {
         println!("{row}");
     }

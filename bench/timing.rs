@@ -1,5 +1,5 @@
 //! Least times of calls, taken in turn.
-use crate::calls::{self, Call, Perform, ACCEPTED};
+use crate::calls::{outcome, Call, Perform, ACCEPTED};
 use std::hint::black_box;
 use std::time::{Duration, Instant};
 
@@ -107,7 +107,7 @@ pub fn shift(process: usize) {
 pub fn times<const N: usize>(tasks: [Task; N]) -> [f64; N] {
     for Task(perform, table, calls, number) in &tasks {
         for &call in *calls {
-            let answer = perform(call, &mut table.to_vec(), &mut vec![0; calls::room(call)]);
+            let (answer, ..) = outcome(*perform, call, table);
             assert_eq!(answer.err().unwrap_or(ACCEPTED), *number, "{call:?} is answered otherwise than expected");
         }
     }

@@ -1,8 +1,8 @@
 //! The boards that are timed, and the calls on each.
 use crate::boards::{self, Job, Random};
-use crate::calls::{kind, Call, ACCEPTED, NAMES};
+use crate::calls::{kind, moved, outcome, Call, ACCEPTED, LIST, NAMES};
 use crate::timing::ROOM;
-use crate::{independent, INDEPENDENT};
+use crate::{independent, INDEPENDENT, PROVED};
 use std::collections::HashSet;
 
 /// The sizes that are timed, B and J.
@@ -32,7 +32,11 @@ const RING: Names = |j, benches, random| {
 pub const KINDS: [(&str, Names); 2] = [("random pairs", PAIRS), ("ring", RING)];
 
 pub fn arrival(j: usize, [first, second]: [usize; 2]) -> Call {
-    Call::Arrival(j as u32, first as u32, second as u32)
+    Call::Arrival(j as u32, first as u32, second as u32, LIST)
+}
+
+pub fn closing(j: usize) -> Call {
+    Call::Closing(j as u32, LIST)
 }
 
 /// Makes a nearly full board, level, as arrivals in random order leave it: one job number in a hundred is free, and
@@ -42,7 +46,7 @@ pub fn level(names: Names, benches: usize, jobs: usize, random: &mut Random) -> 
     random.shuffle(&mut numbers);
     let mut t = boards::blank(benches, jobs);
     for &j in &numbers[(jobs / 100).max(1)..] {
-        INDEPENDENT(arrival(j, names(j, benches, random)), &mut t, &mut []).unwrap();
+        INDEPENDENT(arrival(j, names(j, benches, random)), &mut t, &mut [0; LIST]).unwrap();
     }
     t
 }
@@ -100,7 +104,7 @@ pub fn arrivals(count: usize, t: &[u8], names: Names, random: &mut Random) -> Ve
 /// Makes closings of jobs that stand.
 pub fn closings(count: usize, t: &[u8], random: &mut Random) -> Vec<Call> {
     let standing = standing(t);
-    (0..count).map(|_| Call::Closing(standing[random.below(standing.len())].0 as u32)).collect()
+    (0..count).map(|_| closing(standing[random.below(standing.len())].0)).collect()
 }
 
 /// Makes the arrival that moves so many jobs on `boards::long_path`. It names no lighter bench than the one that is
@@ -112,12 +116,20 @@ pub fn arrival_moving(count: usize, benches: usize, jobs: usize) -> Call {
 
 /// Makes the closing that moves so many jobs on `boards::long_path_back`.
 pub fn closing_moving(count: usize) -> Call {
-    Call::Closing(count as u32 + 1)
+    closing(count + 1)
+}
+
+/// Holds a proved call against the independent one, which must come to the same answer, table and list, and against the number of jobs that
+/// it is to move.
+pub fn hold_moved(call: Call, t: &[u8], count: usize) {
+    let proved = outcome(PROVED, call, t);
+    assert!(proved == outcome(INDEPENDENT, call, t), "{call:?} gives another answer, table or list than the independent one");
+    assert_eq!(moved(call, proved.0.unwrap()), Some(count as u32), "{call:?}");
 }
 
 fn tightest(t: &[u8]) -> Call {
     let [heaviest] = independent::heaviest(t).unwrap();
-    Call::TightSet(heaviest, 1000)
+    Call::TightSet(heaviest, LIST)
 }
 
 /// Asks for the load of the last bench.
@@ -126,7 +138,7 @@ fn last_load(t: &[u8]) -> Call {
 }
 
 fn questions(t: &[u8]) -> Vec<Vec<Call>> {
-    let questions = [Call::FormCheck, Call::LevelCheck, last_load(t), Call::Heaviest, tightest(t), Call::TightSet(1, 1000)];
+    let questions = [Call::FormCheck, Call::LevelCheck, last_load(t), Call::Heaviest, tightest(t), Call::TightSet(1, LIST)];
     questions.map(|question| vec![question]).into()
 }
 
@@ -269,7 +281,7 @@ fn pair(call: Call, t: &[u8]) -> String {
         return "".into();
     };
     let [x, y] = [first, second].map(|bench| boards::loads(t)[bench as usize - 1]);
-    let [job, ..] = INDEPENDENT(call, &mut t.to_vec(), &mut []).unwrap();
+    let [job, ..] = outcome(INDEPENDENT, call, t).0.unwrap();
     format!(", loads {x}, {y}, {}", if job == 0 { "no job" } else { "a job" })
 }
 

@@ -162,3 +162,10 @@ pub fn read(t: &[u8], board: &mut Board) -> Result<(), u32> {
     }
     Ok(())
 }
+
+/// Does the same out of line, for calls that go on with much else: built into them, the pass over the records had to share their registers
+/// and took up to a tenth longer.
+#[inline(never)]
+pub fn read_apart(t: &[u8], board: &mut Board) -> Result<(), u32> {
+    read(t, board)
+}

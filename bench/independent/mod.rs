@@ -1,5 +1,5 @@
-//! The calls of document 01, written from the document alone, and the sheet and the question for two benches of 02, without bounds checks:
-//! what the proved ones are measured against.
+//! The calls of document 01, written from the document alone, and the sheet, the question for two benches and the lists of moved jobs of
+//! 02, without bounds checks: what the proved ones are measured against.
 //!
 //! Each call but that question makes the form check first and then tests its refusals in rising order, so that the lowest number is
 //! returned, and writes nothing before the last of them. It gives its values, or the number of the refusal.
@@ -14,7 +14,7 @@ mod words;
 use chains::Step;
 use form::Board;
 use pair::Chains;
-use search::{Aim, Back, Search};
+use search::{Aim, Arriving, Back, Search};
 use words::*;
 
 /// Refuses with a number where a condition holds.
@@ -45,95 +45,144 @@ pub fn blank(t: &mut [u8], benches: u32, jobs: u32) -> u32 {
     0
 }
 
-/// Takes in a job. Gives the bench that holds it in the end, the bench whose load rose, the number of other jobs that
-/// changed holder.
-pub fn arrival(t: &mut [u8], job: u32, first: u32, second: u32) -> Result<[u32; 3], u32> {
-    let mut board = Board::new();
-    form::read(t, &mut board)?;
-    refuse_if(!board.numbered(job), 3)?;
-    refuse_if(!board.named(first) || !board.named(second) || first == second, 4)?;
-    let (j, first, second) = (job as usize, first as usize, second as usize);
-    // SAFETY: the table is sound and the numbers are in range; from here on nothing is refused but a standing job.
-    unsafe {
-        refuse_if(!record(t, board.benches, j).empty(), 5)?;
-        chains::rebuild_chains(t, &board);
-        let holder = if board.load.at(first) <= board.load.at(second) { 1 } else { 2 };
-        let bench = [first, second][holder - 1];
-        let at = board.benches + 4 * j;
-        put(t, at, first);
-        put(t, at + 1, second);
-        put(t, at + 2, holder);
-        chains::insert(t, board.benches, bench, j);
-        put(t, 2, board.standing + 1);
-        board.add(bench, 1);
-        let (rose, flipped) = hand_on(t, &board, bench);
-        let held = record(t, board.benches, j).bench();
-        Ok([held as u32, rose as u32, flipped - (held != bench) as u32])
-    }
+/// Tells whether a list may be too short for the moves: no path has more jobs than there are other benches.
+fn may_be_short(list: &[u8], board: &Board) -> bool {
+    list.len() < 2 * (board.benches - 1)
 }
 
-/// Flips the path that the arrival's order chooses from `first`. Gives its last bench and its number of jobs; `first`
-/// and 0 for none.
+/// Makes a change of a table in another order on a copy in order, which takes its place unless the change is refused. For lists that may be
+/// too short: that is known with the path, which is found along rising chains. Stays out of line, so that the copy is no part of every
+/// change's frame.
 ///
 /// # Safety
-/// The table is sound, its chains rise, `board` is what it holds, and `first` a bench.
-unsafe fn hand_on(t: &mut [u8], board: &Board, first: usize) -> (usize, u32) {
-    let least = board.loads().iter().fold(i16::MAX, |least, &load| least.min(load));
-    if board.load.at(first) - least < 2 {
-        return (first, 0);
-    }
-    let mut search = Search::new(board.benches);
-    let last = search.lowest(t, board, first, Aim::first(board.loads(), least));
-    if last == 0 {
-        return (first, 0);
-    }
-    let path = search.way(first, last);
-    chains::flip(t, board.benches, path);
-    (last, path.len() as u32)
+/// The table is sound and `board` what it holds.
+#[cold]
+#[inline(never)]
+unsafe fn in_order<const N: usize>(
+    t: &mut [u8],
+    board: &Board,
+    change: impl FnOnce(&mut [u8]) -> Result<[u32; N], u32>,
+) -> Result<[u32; N], u32> {
+    let mut copy = [0; MOST_BYTES];
+    let copy = &mut copy[..t.len()];
+    copy.copy_from_slice(t);
+    chains::rebuild_chains(copy, board);
+    let values = change(copy)?;
+    t.copy_from_slice(copy);
+    Ok(values)
 }
 
-/// Closes a job. Gives the bench whose load fell and the number of jobs that changed holder.
-pub fn closing(t: &mut [u8], job: u32) -> Result<[u32; 2], u32> {
+/// Takes in a job. Gives the bench that holds it in the end, the bench whose load rose, the number of other jobs that
+/// changed holder; these go into the list.
+pub fn arrival(t: &mut [u8], job: u32, first: u32, second: u32, list: &mut [u8]) -> Result<[u32; 3], u32> {
     let mut board = Board::new();
-    form::read(t, &mut board)?;
+    form::read_apart(t, &mut board)?;
+    refuse_if(!board.numbered(job), 3)?;
+    refuse_if(!board.named(first) || !board.named(second) || first == second, 4)?;
+    let (j, x, y) = (job as usize, first as usize, second as usize);
+    // SAFETY: the table is sound and the numbers are in range.
+    unsafe {
+        refuse_if(!record(t, board.benches, j).empty(), 5)?;
+        if !board.rising && may_be_short(list, &board) {
+            return in_order(t, &board, |t| arrival(t, job, first, second, list));
+        }
+        chains::rebuild_chains(t, &board);
+        let (bench, other) = if board.load.at(x) <= board.load.at(y) { (x, y) } else { (y, x) };
+        board.add(bench, 1);
+        let [held, rose, moved] = hand_on(t, &board, Arriving { job: j, bench, other }, list)?;
+        let at = board.benches + 4 * j;
+        put(t, at, x);
+        put(t, at + 1, y);
+        put(t, at + 2, 1 + (held == y) as usize);
+        chains::insert(t, board.benches, held, j);
+        put(t, 2, board.standing + 1);
+        Ok([held, rose, moved].map(|n| n as u32))
+    }
+}
+
+/// Hands jobs on along the path that the arrival's order chooses from the bench that gets a job, and lists them; refuses with 8 before it.
+/// Gives the bench that is to hold the arriving job, the path's last bench, and the number of jobs handed on.
+///
+/// # Safety
+/// The table is sound, its chains rise, and `board` is what it holds and the arriving job.
+unsafe fn hand_on(t: &mut [u8], board: &Board, new: Arriving, list: &mut [u8]) -> Result<[usize; 3], u32> {
+    let least = board.loads().iter().fold(i16::MAX, |least, &load| least.min(load));
+    if board.load.at(new.bench) - least < 2 {
+        return Ok([new.bench, new.bench, 0]);
+    }
+    let mut search = Search::new(board.benches);
+    let last = search.lowest_with(t, board, new, Aim::first(board.loads(), least));
+    if last == 0 {
+        return Ok([new.bench, new.bench, 0]);
+    }
+    // The arriving job is on no chain yet, and can only be the first of the path.
+    let (held, path) = match search.way(new.bench, last) {
+        [path @ .., step] if step.job as usize == new.job => (new.other, path),
+        path => (new.bench, path),
+    };
+    refuse_if(list.len() < 2 * path.len(), 8)?;
+    chains::flip(t, board.benches, path);
+    write_jobs(list, path.iter().rev());
+    Ok([held, last, path.len()])
+}
+
+/// Writes the jobs of a path into a list.
+///
+/// # Safety
+/// The list is long enough.
+unsafe fn write_jobs<'a>(list: &mut [u8], path: impl Iterator<Item = &'a Step>) {
+    for (i, step) in path.enumerate() {
+        put(list, i, step.job as usize);
+    }
+}
+
+/// Closes a job. Gives the bench whose load fell and the number of jobs that changed holder; these go into the list.
+pub fn closing(t: &mut [u8], job: u32, list: &mut [u8]) -> Result<[u32; 2], u32> {
+    let mut board = Board::new();
+    form::read_apart(t, &mut board)?;
     refuse_if(!board.numbered(job), 3)?;
     let j = job as usize;
-    // SAFETY: the table is sound and the job's number in range; from here on nothing is refused but a job that is not standing.
+    // SAFETY: the table is sound and the job's number in range.
     unsafe {
         let closed = record(t, board.benches, j);
         refuse_if(closed.empty(), 6)?;
+        if !board.rising && may_be_short(list, &board) {
+            return in_order(t, &board, |t| closing(t, job, list));
+        }
         chains::rebuild_chains(t, &board);
         let bench = closed.bench();
+        board.add(bench, -1);
+        let [fell, moved] = hand_back(t, &board, bench, list)?;
         let before = chains::before(t, board.benches, bench, j) as u16;
         chains::take(t, board.benches, Step { bench: bench as u16, job: j as u16, before });
         for i in 0..4 {
             put(t, board.benches + 4 * j + i, 0);
         }
         put(t, 2, board.standing - 1);
-        board.add(bench, -1);
-        let (fell, flipped) = hand_back(t, &board, bench);
-        Ok([fell as u32, flipped])
+        Ok([fell, moved].map(|n| n as u32))
     }
 }
 
-/// Flips the path that the closing's order chooses to `last`. Gives its first bench and its number of jobs; `last`
-/// and 0 for none.
+/// Hands jobs on along the path that the closing's order chooses to the bench that loses one, and lists them; refuses with 8 before it.
+/// Gives the path's first bench and the number of jobs handed on. The job that is closed is on its chain still, and on no path to it.
 ///
 /// # Safety
-/// The table is sound, its chains rise, `board` is what it holds, and `last` a bench.
-unsafe fn hand_back(t: &mut [u8], board: &Board, last: usize) -> (usize, u32) {
+/// The table is sound, its chains rise, `board` is what it holds without the closed job, and `last` the bench that holds that one.
+unsafe fn hand_back(t: &mut [u8], board: &Board, last: usize, list: &mut [u8]) -> Result<[usize; 2], u32> {
     let greatest = most(board);
     if greatest - board.load.at(last) < 2 {
-        return (last, 0);
+        return Ok([last, 0]);
     }
     let mut back = Back::new(t, board);
     let first = back.greatest(t, board, last, Aim::first(board.loads(), greatest));
     if first == 0 {
-        return (last, 0);
+        return Ok([last, 0]);
     }
     let path = back.way(t, board.benches, first);
+    refuse_if(list.len() < 2 * path.len(), 8)?;
     chains::flip(t, board.benches, path);
-    (first, path.len() as u32)
+    write_jobs(list, path.iter());
+    Ok([first, path.len()])
 }
 
 /// Levels within an allowance. Gives the paths flipped, and 1 if the table is level in the end.

@@ -26,17 +26,40 @@ struct Choice {
     load: i16,
     /// It was met in the level that is being met.
     fresh: bool,
+    aim: Aim,
 }
 
 impl Choice {
-    /// Prefers the lower load, then the earlier level, then the lower number.
+    /// Begins with none. Loads below this one may be chosen.
+    fn below(load: i16, aim: Aim) -> Self {
+        Choice { bench: 0, load, fresh: false, aim }
+    }
+
+    /// Prefers the lower load, then the earlier level, then the lower number. Tells whether no better one can come.
     #[inline(always)]
-    fn offer(&mut self, bench: usize, load: i16) {
+    fn offer(&mut self, bench: usize, load: i16) -> bool {
         if load < self.load || load == self.load && self.fresh && bench < self.bench {
-            *self = Choice { bench, load, fresh: true };
+            (self.bench, self.load, self.fresh) = (bench, load, true);
         }
+        STOP_EARLY && bench == self.aim.bench && self.bench == bench
+    }
+
+    /// Tells whether no better one can come in later levels.
+    fn settled(&self) -> bool {
+        STOP_EARLY && self.bench != 0 && self.load == self.aim.load
     }
 }
+
+/// A job that arrives: its number, the bench that gets it, and the other that it names.
+#[derive(Clone, Copy)]
+pub struct Arriving {
+    pub job: usize,
+    pub bench: usize,
+    pub other: usize,
+}
+
+/// A place on a chain: a job, 0 behind the last, and the one before it, 0 for none.
+type Place = (usize, u16);
 
 /// The benches that a search has met, in its order, and how it came to each.
 pub struct Search {
@@ -87,27 +110,66 @@ impl Search {
         self.met = 0;
     }
 
+    /// Meets and offers a bench, if it is unseen, that a step leads to. Gives true when `offer` does or all are seen.
+    ///
+    /// # Safety
+    /// `y` is 1 to B.
+    #[inline(always)]
+    unsafe fn come(&mut self, step: Step, y: usize, offer: &mut impl FnMut(usize) -> bool) -> bool {
+        if self.seen.at(y) {
+            return false;
+        }
+        self.came.set(y, step);
+        self.meet(y);
+        offer(y) || STOP_EARLY && self.unseen == 0
+    }
+
+    /// Meets and offers each unseen bench that a job leads to from bench `x`, from a place on its chain as long as it `goes_on`, which ends
+    /// with the chain. Gives the place behind; None, and ends, when `offer` gives true or all are seen.
+    ///
+    /// # Safety
+    /// The table is sound, `benches` its B, `x` 1 to B, and the place is on its chain.
+    #[inline(always)]
+    unsafe fn follow(
+        &mut self,
+        t: &[u8],
+        benches: usize,
+        x: usize,
+        (mut j, mut before): Place,
+        goes_on: impl Fn(usize) -> bool,
+        offer: &mut impl FnMut(usize) -> bool,
+    ) -> Option<Place> {
+        while goes_on(j) {
+            let r = record(t, benches, j);
+            if self.come(Step { bench: x as u16, job: j as u16, before }, r.other(x), offer) {
+                return None;
+            }
+            (j, before) = (r.next(), j as u16);
+        }
+        Some((j, before))
+    }
+
     /// Meets and offers each unseen bench that a job leads to from bench `x`. Gives true, and ends, when `offer` does
     /// or all are seen.
     ///
     /// # Safety
     /// The table is sound, `benches` its B, and `x` 1 to B.
     #[inline(always)]
-    pub unsafe fn leave(&mut self, t: &[u8], benches: usize, x: usize, mut offer: impl FnMut(usize) -> bool) -> bool {
-        let (mut before, mut j) = (0, word(t, 3 + x));
-        while j != 0 {
-            let r = record(t, benches, j);
-            let y = r.other(x);
-            if !self.seen.at(y) {
-                self.came.set(y, Step { bench: x as u16, job: j as u16, before });
-                self.meet(y);
-                if offer(y) || STOP_EARLY && self.unseen == 0 {
-                    return true;
-                }
-            }
-            (before, j) = (j as u16, r.next());
-        }
-        false
+    unsafe fn leave(&mut self, t: &[u8], benches: usize, x: usize, mut offer: impl FnMut(usize) -> bool) -> bool {
+        self.follow(t, benches, x, (word(t, 3 + x), 0), |j| j != 0, &mut offer).is_none()
+    }
+
+    /// Does the same at the bench that gets an arriving job, as if the job were in its place on the chain.
+    ///
+    /// # Safety
+    /// As for `leave`, and the job does not stand.
+    unsafe fn leave_with(&mut self, t: &[u8], benches: usize, new: Arriving, mut offer: impl FnMut(usize) -> bool) -> bool {
+        let x = new.bench;
+        let Some(place) = self.follow(t, benches, x, (word(t, 3 + x), 0), |j| j != 0 && j < new.job, &mut offer) else {
+            return true;
+        };
+        let step = Step { bench: x as u16, job: new.job as u16, before: place.1 };
+        self.come(step, new.other, &mut offer) || self.follow(t, benches, x, place, |j| j != 0, &mut offer).is_none()
     }
 
     /// Finds the last bench of the path that the arrival's order chooses among the improving paths from `first`, 0 if
@@ -120,23 +182,38 @@ impl Search {
     pub unsafe fn lowest(&mut self, t: &[u8], board: &Board, first: usize, aim: Aim) -> usize {
         self.start();
         self.meet(first);
-        let mut best = Choice { bench: 0, load: board.load.at(first) - 1, fresh: false };
-        let mut next = 0;
-        while next < self.met {
+        self.lowest_from(t, board, Choice::below(board.load.at(first) - 1, aim), 0)
+    }
+
+    /// Finds the same from the bench that gets an arriving job, as if the job were in its place on the chain: it is in the loads, not yet
+    /// in the table.
+    ///
+    /// # Safety
+    /// As for `lowest`, and the job does not stand.
+    pub unsafe fn lowest_with(&mut self, t: &[u8], board: &Board, new: Arriving, aim: Aim) -> usize {
+        self.start();
+        self.meet(new.bench);
+        let mut best = Choice::below(board.load.at(new.bench) - 1, aim);
+        if self.leave_with(t, board.benches, new, |y| best.offer(y, board.load.at(y))) {
+            return best.bench;
+        }
+        self.lowest_from(t, board, best, 1)
+    }
+
+    /// Goes on, level by level, from the bench that is `next` in the queue, the first of its level.
+    ///
+    /// # Safety
+    /// As for `lowest`.
+    #[inline(always)]
+    unsafe fn lowest_from(&mut self, t: &[u8], board: &Board, mut best: Choice, mut next: usize) -> usize {
+        while next < self.met && !best.settled() {
             best.fresh = false;
             for _ in next..self.met {
                 let x = self.queue.at(next) as usize;
                 next += 1;
-                let ends = self.leave(t, board.benches, x, |y| {
-                    best.offer(y, board.load.at(y));
-                    STOP_EARLY && y == aim.bench && best.bench == y
-                });
-                if ends {
+                if self.leave(t, board.benches, x, |y| best.offer(y, board.load.at(y))) {
                     return best.bench;
                 }
-            }
-            if STOP_EARLY && best.bench != 0 && best.load == aim.load {
-                break;
             }
         }
         best.bench
@@ -248,9 +325,9 @@ impl Back {
         self.away.set(last, 0);
         self.queue.set(0, last as u16);
         // Loads count downward here, so that the greatest is chosen.
-        let mut best = Choice { bench: 0, load: -(board.load.at(last) + 1), fresh: false };
+        let mut best = Choice::below(-(board.load.at(last) + 1), Aim { load: -aim.load, bench: aim.bench });
         let (mut next, mut met, mut steps) = (0, 1, 0);
-        while next < met {
+        while next < met && !best.settled() {
             best.fresh = false;
             steps += 1;
             for _ in next..met {
@@ -262,16 +339,12 @@ impl Back {
                         self.away.set(x, steps);
                         self.queue.set(met, x as u16);
                         met += 1;
-                        best.offer(x, -board.load.at(x));
-                        if STOP_EARLY && (x == aim.bench && best.bench == x || met == board.benches) {
+                        if best.offer(x, -board.load.at(x)) || STOP_EARLY && met == board.benches {
                             return best.bench;
                         }
                     }
                     j = self.after.at(j) as usize;
                 }
-            }
-            if STOP_EARLY && best.bench != 0 && -best.load == aim.load {
-                break;
             }
         }
         best.bench

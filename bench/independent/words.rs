@@ -4,6 +4,9 @@ use std::mem::MaybeUninit;
 pub const MOST_BENCHES: usize = 500;
 pub const MOST_JOBS: usize = 4000;
 
+/// The length of the largest table.
+pub const MOST_BYTES: usize = 2 * (4 + MOST_BENCHES + 4 * MOST_JOBS);
+
 /// Reads word `i` of a table.
 ///
 /// # Safety

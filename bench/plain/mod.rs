@@ -1,6 +1,6 @@
-//! The calls of document 01, and the sheet and the question for two benches of 02, as a straightforward program makes them, without bounds
-//! checks: passes over the records, lists in arrays, searches of all that is reached, and chains made anew. Chains are read by the form
-//! check, by load, by heaviest and by the question for two benches alone.
+//! The calls of document 01, and the sheet, the question for two benches and the lists of moved jobs of 02, as a straightforward program
+//! makes them, without bounds checks: passes over the records, lists in arrays, searches of all that is reached, and chains made anew.
+//! Chains are read by the form check, by load, by heaviest and by the question for two benches alone.
 //!
 //! Each call but that question makes the form check first and then tests its refusals in rising order. It gives its values, or the number
 //! of the refusal.
@@ -51,8 +51,8 @@ pub fn blank(t: &mut [u8], benches: u32, jobs: u32) -> u32 {
 }
 
 /// Takes in a job. Gives the bench that holds it in the end, the bench whose load rose, the number of other jobs that
-/// changed holder.
-pub fn arrival(t: &mut [u8], job: u32, first: u32, second: u32) -> Result<[u32; 3], u32> {
+/// changed holder; these go into the list.
+pub fn arrival(t: &mut [u8], job: u32, first: u32, second: u32, list: &mut [u8]) -> Result<[u32; 3], u32> {
     let s = sound(t)?;
     refuse_if(!within(job, s.jobs), 3)?;
     refuse_if(!within(first, s.benches) || !within(second, s.benches) || first == second, 4)?;
@@ -62,23 +62,26 @@ pub fn arrival(t: &mut [u8], job: u32, first: u32, second: u32) -> Result<[u32; 
         refuse_if(bench(t, s, j) != 0, 5)?;
         let mut work = Work::new(s);
         work.read_loads(t);
+        work.read_arcs(t);
         let holder = if work.load.at(first) <= work.load.at(second) { 1 } else { 2 };
-        let getter = [first, second][holder - 1];
+        let (getter, other) = if holder == 1 { (first, second) } else { (second, first) };
+        work.add(j, getter, other);
+        work.list_out();
+        let rose = work.path_from(getter);
+        let moved = work.moved(j);
+        refuse_if(list.len() < 2 * moved, 8)?;
         put(t, s.record(j), first);
         put(t, s.record(j) + 1, second);
         put(t, s.record(j) + 2, holder);
-        work.load.set(getter, work.load.at(getter) + 1);
-        work.read_arcs(t);
-        work.list_out();
-        let (rose, flipped) = work.flip_from(t, getter);
+        work.flip(t);
+        work.write_moved(j, list);
         rebuild_chains(t, s);
-        let held = bench(t, s, j);
-        Ok([held as u32, rose as u32, flipped - (held != getter) as u32])
+        Ok([bench(t, s, j) as u32, rose as u32, moved as u32])
     }
 }
 
-/// Closes a job. Gives the bench whose load fell and the number of jobs that changed holder.
-pub fn closing(t: &mut [u8], job: u32) -> Result<[u32; 2], u32> {
+/// Closes a job. Gives the bench whose load fell and the number of jobs that changed holder; these go into the list.
+pub fn closing(t: &mut [u8], job: u32, list: &mut [u8]) -> Result<[u32; 2], u32> {
     let s = sound(t)?;
     refuse_if(!within(job, s.jobs), 3)?;
     let j = job as usize;
@@ -88,14 +91,18 @@ pub fn closing(t: &mut [u8], job: u32) -> Result<[u32; 2], u32> {
         refuse_if(giver == 0, 6)?;
         let mut work = Work::new(s);
         work.read_loads(t);
+        work.read_arcs(t);
+        work.remove(j, giver);
+        let fell = work.path_to(giver);
+        let moved = work.moved(j);
+        refuse_if(list.len() < 2 * moved, 8)?;
         for i in 0..4 {
             put(t, s.record(j) + i, 0);
         }
-        work.load.set(giver, work.load.at(giver) - 1);
-        work.read_arcs(t);
-        let (fell, flipped) = work.flip_to(t, giver);
+        work.flip(t);
+        work.write_moved(j, list);
         rebuild_chains(t, s);
-        Ok([fell as u32, flipped])
+        Ok([fell as u32, moved as u32])
     }
 }
 
@@ -108,7 +115,8 @@ pub fn levelling(t: &mut [u8], allowance: u32) -> Result<[u32; 2], u32> {
     unsafe {
         let mut first = start(t, &mut work);
         while first != 0 && paths < allowance {
-            work.flip_from(t, first);
+            work.path_from(first);
+            work.flip(t);
             paths += 1;
             first = start(t, &mut work);
         }

@@ -65,13 +65,17 @@ pub struct Work {
     /// Distances from the path's first bench, and to its last.
     away: Found,
     near: Found,
+    /// The path's jobs in its order, and their number.
+    path: Benches,
+    jobs: usize,
 }
 
 impl Work {
     pub fn new(s: Sizes) -> Self {
         let (load, from, to) = (Row::new(), Row::new(), Row::new());
         let (out, into, heavy) = (ByBench::new(), ByBench::new(), ByLoad::new());
-        Work { s, load, from, to, out, into, heavy, away: Found::new(), near: Found::new() }
+        let (away, near, path) = (Found::new(), Found::new(), Row::new());
+        Work { s, load, from, to, out, into, heavy, away, near, path, jobs: 0 }
     }
 
     /// Counts the loads of all benches.
@@ -102,6 +106,26 @@ impl Work {
         }
     }
 
+    /// Adds a job that is not in the table.
+    ///
+    /// # Safety
+    /// Loads and arcs were read, `j` is 1 to J and does not stand, and the benches are 1 to B.
+    pub unsafe fn add(&mut self, j: usize, from: usize, to: usize) {
+        self.from.set(j, from);
+        self.to.set(j, to);
+        self.load.set(from, self.load.at(from) + 1);
+    }
+
+    /// Removes a job that is in the table.
+    ///
+    /// # Safety
+    /// Loads and arcs were read, and job `j` leads from bench `from`.
+    pub unsafe fn remove(&mut self, j: usize, from: usize) {
+        self.from.set(j, 0);
+        self.to.set(j, 0);
+        self.load.set(from, self.load.at(from) - 1);
+    }
+
     /// Lists the jobs by the bench they lead from.
     ///
     /// # Safety
@@ -120,56 +144,94 @@ impl Work {
         self.near.breadth_first(&self.into, &self.from, last);
     }
 
-    /// Flips, of the improving paths from `first`, the one that the arrival's order chooses. Gives its last bench and
-    /// its number of jobs; `first` and 0 if there is none.
+    /// Finds, of the improving paths from `first`, the one that the arrival's order chooses. Gives its last bench, `first` if there is
+    /// none.
     ///
     /// # Safety
-    /// The table is one of these sizes and sound but for its chains; loads and arcs are its own, `out` was listed, `first` is 1 to B.
-    pub unsafe fn flip_from(&mut self, t: &mut [u8], first: usize) -> (usize, u32) {
+    /// Loads and arcs were read, `out` was listed, `first` is 1 to B.
+    pub unsafe fn path_from(&mut self, first: usize) -> usize {
         self.away.clear(self.s.benches);
         self.away.breadth_first(&self.out, &self.to, first);
         let last = self.away.choose(self.s.benches, first, |y| self.load.at(y));
+        self.jobs = 0;
         if last == 0 {
-            return (first, 0);
+            return first;
         }
         self.search_back(last);
-        (last, self.flip(t, first))
+        self.list_path(first);
+        last
     }
 
-    /// Flips, of the improving paths to `last`, the one that the closing's order chooses. Gives its first bench and
-    /// its number of jobs; `last` and 0 if there is none.
+    /// Finds, of the improving paths to `last`, the one that the closing's order chooses. Gives its first bench, `last` if there is none.
     ///
     /// # Safety
-    /// The table is one of these sizes and sound but for its chains; loads and arcs are its own, `last` is 1 to B.
-    pub unsafe fn flip_to(&mut self, t: &mut [u8], last: usize) -> (usize, u32) {
+    /// Loads and arcs were read, `last` is 1 to B.
+    pub unsafe fn path_to(&mut self, last: usize) -> usize {
         self.search_back(last);
         let first = self.near.choose(self.s.benches, last, |y| MOST_JOBS - self.load.at(y));
+        self.jobs = 0;
         if first == 0 {
-            return (last, 0);
+            return last;
         }
         self.list_out();
-        (first, self.flip(t, first))
+        self.list_path(first);
+        first
     }
 
-    /// Hands on, from `first` to the bench that was searched from, at each bench the lowest job that leads one
-    /// nearer. Gives their number.
+    /// Lists, from `first` to the bench that was searched from, at each bench the lowest job that leads one nearer.
     ///
     /// # Safety
-    /// `out` was listed and `search_back` has found `first`.
-    unsafe fn flip(&self, t: &mut [u8], first: usize) -> u32 {
-        let (mut x, mut jobs) = (first, 0);
+    /// `out` was listed, `search_back` has found `first`, and the path is empty.
+    unsafe fn list_path(&mut self, first: usize) {
+        let mut x = first;
         while self.near.dist.at(x) > 1 {
             let near = self.near.dist.at(x) - 1;
             let mut j = self.out.head.at(x);
             while self.near.dist.at(self.to.at(j)) != near {
                 j = self.out.next.at(j);
             }
-            let at = self.s.record(j) + 2;
-            put(t, at, 3 - word(t, at));
+            self.path.set(self.jobs, j);
+            self.jobs += 1;
             x = self.to.at(j);
-            jobs += 1;
         }
-        jobs
+    }
+
+    /// Hands each job of the path to its other bench.
+    ///
+    /// # Safety
+    /// The table is one of these sizes and holds the path's jobs.
+    pub unsafe fn flip(&self, t: &mut [u8]) {
+        for i in 0..self.jobs {
+            let at = self.s.record(self.path.at(i)) + 2;
+            put(t, at, 3 - word(t, at));
+        }
+    }
+
+    /// Tells where the path's jobs other than `new` begin: it can only be the first.
+    ///
+    /// # Safety
+    /// A path was found, or none.
+    unsafe fn other_jobs(&self, new: usize) -> usize {
+        (self.jobs != 0 && self.path.at(0) == new) as usize
+    }
+
+    /// Counts the path's jobs other than `new`.
+    ///
+    /// # Safety
+    /// As for `other_jobs`.
+    pub unsafe fn moved(&self, new: usize) -> usize {
+        self.jobs - self.other_jobs(new)
+    }
+
+    /// Writes the path's jobs other than `new` into the list.
+    ///
+    /// # Safety
+    /// As for `other_jobs`; the list is long enough.
+    pub unsafe fn write_moved(&self, new: usize, list: &mut [u8]) {
+        let begin = self.other_jobs(new);
+        for i in begin..self.jobs {
+            put(list, i - begin, self.path.at(i));
+        }
     }
 
     /// Finds the bench of greatest load, then lowest number, that starts an improving path; 0 if none does. What a
