@@ -9,7 +9,7 @@ use mathlib.Core.List.{List, [], _∷_, _++_}
 use lib.ListN.{length, drop}
 use Rattle.spec_lists.specs.Lists.{within, In}
 use Rattle.spec_table.specs.Board.{Board, Valid, load, heaviest}
-use Rattle.spec_table.specs.Table.{mostBenches, bytesOf, decode}
+use Rattle.spec_table.specs.Table.{mostBenches, inList, decode}
 use Rattle.spec_sharing.specs.Paths.{steps}
 use Rattle.spec_sharing.specs.Sharing.{level, tightSet}
 use Rattle.spec_calls.specs.Calls.{ask, loadOf, heaviestLoad, tightSetOf, formCheck, levelCheck, questionConditions, asked, accepted, outcome, tightSetTold}
