@@ -27,13 +27,28 @@ static void say_count(struct report *report, uint32_t n, const char *one, const 
         say(report, "%u %s", (unsigned)n, n == 1 ? one : many);
 }
 
-void say_moves(struct report *report, const uint8_t *before, const uint8_t *after)
+/* Reads word i of a list that a call has written. */
+static uint32_t listed(const uint8_t *list, uint32_t i)
 {
-    for (uint32_t job = 1; job <= table_jobs(after); job++) {
-        uint32_t from = table_holder(before, job), to = table_holder(after, job);
-        if (from != 0 && to != 0 && from != to)
-            say(report, "Job %u moves from bench %u to bench %u.\n", (unsigned)job, (unsigned)from, (unsigned)to);
-    }
+    return list[2 * i] + 256u * list[2 * i + 1];
+}
+
+/* Says that a job has left the other bench that it names: somebody has to carry it. */
+static void say_carried(struct report *report, const uint8_t *table, uint32_t job)
+{
+    say(report, "Job %u moves from bench %u to bench %u.\n", (unsigned)job, (unsigned)table_other(table, job),
+        (unsigned)table_holder(table, job));
+}
+
+/* Says "job 1 moves.", "jobs 1, 2 move.", or for none the given words; then from where to where, in the order of the list. */
+static void say_moved(struct report *report, const uint8_t *table, const uint8_t *list, uint32_t moved, const char *none)
+{
+    say(report, "%s", moved == 0 ? none : moved == 1 ? "job" : "jobs");
+    for (uint32_t i = 0; i < moved; i++)
+        say(report, "%s%u", i == 0 ? " " : ", ", (unsigned)listed(list, i));
+    say(report, "%s.\n", moved == 0 ? "" : moved == 1 ? " moves" : " move");
+    for (uint32_t i = 0; i < moved; i++)
+        say_carried(report, table, listed(list, i));
 }
 
 static uint32_t run_new(uint8_t *table, size_t length, const struct numbers *n, struct report *report)
@@ -46,37 +61,42 @@ static uint32_t run_new(uint8_t *table, size_t length, const struct numbers *n, 
 
 static uint32_t run_take(uint8_t *table, size_t length, const struct numbers *n, struct report *report)
 {
+    uint8_t list[JOBBOARD_MOST_LIST_BYTES];
     uint32_t holder, rose, moved;
-    uint32_t refusal = jobboard_arrival(table, length, n->at[0], n->at[1], n->at[2], &holder, &rose, &moved);
+    uint32_t refusal = jobboard_arrival(table, length, n->at[0], n->at[1], n->at[2], list, sizeof list, &holder, &rose, &moved);
     if (refusal != JOBBOARD_OK)
         return refusal;
     say(report, "Job %u goes to bench %u. Bench %u has one job more; ", (unsigned)n->at[0], (unsigned)holder, (unsigned)rose);
-    say_count(report, moved, "other job moves", "other jobs move");
-    say(report, ".\n");
+    say_moved(report, table, list, moved, "no other jobs move");
     return refusal;
 }
 
 static uint32_t run_close(uint8_t *table, size_t length, const struct numbers *n, struct report *report)
 {
+    uint8_t list[JOBBOARD_MOST_LIST_BYTES];
     uint32_t fell, moved;
-    uint32_t refusal = jobboard_closing(table, length, n->at[0], &fell, &moved);
+    uint32_t refusal = jobboard_closing(table, length, n->at[0], list, sizeof list, &fell, &moved);
     if (refusal != JOBBOARD_OK)
         return refusal;
     say(report, "Job %u is closed. Bench %u has one job less; ", (unsigned)n->at[0], (unsigned)fell);
-    say_count(report, moved, "job moves", "jobs move");
-    say(report, ".\n");
+    say_moved(report, table, list, moved, "no jobs move");
     return refusal;
 }
 
 static uint32_t run_level(uint8_t *table, size_t length, const struct numbers *n, struct report *report)
 {
+    static uint8_t before[JOBBOARD_MOST_TABLE_BYTES];
     uint32_t paths, level;
+    memcpy(before, table, length < sizeof before ? length : sizeof before); /* a longer table is refused */
     uint32_t refusal = jobboard_levelling(table, length, n->count == 0 ? JOBBOARD_ENOUGH_PATHS : n->at[0], &paths, &level);
     if (refusal != JOBBOARD_OK)
         return refusal;
     say(report, "The board is %s; ", level == 1 ? "level" : "not level yet");
     say_count(report, paths, "path", "paths");
     say(report, " turned.\n");
+    for (uint32_t job = 1; job <= table_jobs(table); job++)
+        if (table_holder(before, job) != table_holder(table, job))
+            say_carried(report, table, job);
     return refusal;
 }
 
@@ -128,7 +148,7 @@ static uint32_t run_tight(uint8_t *table, size_t length, const struct numbers *n
     say_count(report, jobs, "job", "jobs");
     say(report, " among themselves:");
     for (uint32_t i = 0; i < benches; i++)
-        say(report, " %u", list[2 * i] + 256u * list[2 * i + 1]);
+        say(report, " %u", (unsigned)listed(list, i));
     say(report, "\n");
     /* More jobs than one less on every bench: on a level board always so. */
     if (jobs > (n->at[0] - 1) * benches)
@@ -224,7 +244,7 @@ const char *refusal_words(const struct command *command, uint32_t refusal)
     case JOBBOARD_HEIGHT:
         return "height 0, or above the heaviest load";
     case JOBBOARD_LIST_TOO_SHORT:
-        return "list shorter than the set's words";
+        return "list shorter than the words of the set, or of the moved jobs";
     case JOBBOARD_PAGE_TOO_SHORT:
         return "page shorter than the sheet";
     default:
@@ -235,8 +255,8 @@ const char *refusal_words(const struct command *command, uint32_t refusal)
 static const struct command commands[] = {
     {"new", 2, 2, CREATES, run_new, "new BENCHES JOBS      make the file, with a board without jobs; a file that exists is left alone"},
     {"renew", 2, 2, CREATES_ANEW, run_new, "renew BENCHES JOBS    the same, in place of the file if there is one: what it held is lost"},
-    {"take", 3, 3, CHANGES, run_take, "take JOB BENCH BENCH  a job arrives that either bench can do"},
-    {"close", 1, 1, CHANGES, run_close, "close JOB             a job is done"},
+    {"take", 3, 3, CHANGES, run_take, "take JOB BENCH BENCH  a job arrives that either bench can do; says which others to carry, and where"},
+    {"close", 1, 1, CHANGES, run_close, "close JOB             a job is done; says which jobs to carry, and where"},
     {"load", 1, 1, ASKS, run_load, "load BENCH            how many jobs a bench holds"},
     {"heaviest", 0, 0, ASKS, run_heaviest, "heaviest              how many the heaviest bench holds"},
     {"between", 2, 2, ASKS, run_between, "between BENCH BENCH   the lowest job that names both benches, in a file that is in order (see level)"},

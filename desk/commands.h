@@ -36,9 +36,6 @@ struct command {
 /* Finds the command of that word, NULL if there is none. */
 const struct command *command_of(const char *word);
 
-/* Says which jobs other benches hold after a change: somebody has to carry them. New and closed jobs are left out. */
-void say_moves(struct report *report, const uint8_t *before, const uint8_t *after);
-
 /* Lists all commands and what they do, for people. */
 void say_help(struct report *report);
 

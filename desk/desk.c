@@ -83,16 +83,13 @@ static enum status refuse(const struct command *command, uint32_t refusal)
 /* Asks or changes: reads the file's table, and replaces it after an accepted change. */
 static enum status run_on_table(const struct command *command, struct board_file *f, const struct numbers *n, struct report *report)
 {
-    static uint8_t before[sizeof f->table];
     if (!file_read(f, command->use == CHANGES))
         return cannot("read");
-    memcpy(before, f->table, f->length);
     uint32_t refusal = command->run(f->table, f->length, n, report);
     if (refusal != JOBBOARD_OK)
         return refuse(command, refusal);
     if (command->use == ASKS)
         return DONE;
-    say_moves(report, before, f->table);
     return file_replace(f) ? DONE : cannot("replace");
 }
 

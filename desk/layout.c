@@ -22,9 +22,21 @@ uint32_t table_standing(const uint8_t *table)
     return word(table, 2);
 }
 
+/* Gives the place of the first word of a job's record. */
+static size_t record_of(const uint8_t *table, uint32_t job)
+{
+    return 4 + (size_t)table_benches(table) + 4 * ((size_t)job - 1);
+}
+
 uint32_t table_holder(const uint8_t *table, uint32_t job)
 {
-    size_t record = 4 + (size_t)table_benches(table) + 4 * ((size_t)job - 1);
+    size_t record = record_of(table, job);
     uint32_t holder = word(table, record + 2);
     return holder == 0 ? 0 : word(table, record + holder - 1);
+}
+
+uint32_t table_other(const uint8_t *table, uint32_t job)
+{
+    size_t record = record_of(table, job);
+    return word(table, record + 2 - word(table, record + 2));
 }

@@ -11,4 +11,7 @@ uint32_t table_standing(const uint8_t *table);
 /* Reads the bench that holds a job of 1 to J, 0 if it is not standing. */
 uint32_t table_holder(const uint8_t *table, uint32_t job);
 
+/* Reads the other bench that a standing job names. */
+uint32_t table_other(const uint8_t *table, uint32_t job);
+
 #endif

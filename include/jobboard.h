@@ -47,6 +47,14 @@
  * jobboard_between, to which the order counts. Questions and refused calls leave its order as it is; the first accepted arrival, closing or
  * levelling puts every chain in order. To do just that, before a comparison or for jobboard_between, and move no job, call
  * jobboard_levelling with allowance 0.
+ *
+ * VERSIONS. JOBBOARD_VERSION is the number of the newest request of document 02 that the calls take in; headers before version 4 have no
+ * such number. The calls keep their names where their arguments change, so a program is to be compiled with the header of the archive
+ * that it is linked with. What a version asks of a program that was written for the one before:
+ *
+ *     4    jobboard_arrival and jobboard_closing take `list` and `list_bytes`, in front of their results, and list there the jobs that
+ *          moved; they may return JOBBOARD_LIST_TOO_SHORT. A program that needs no list lends one of JOBBOARD_MOST_LIST_BYTES all the
+ *          same, since NULL and 0 are refused where a job moves. Nothing else changed: tables, results and the other calls are as before.
  */
 #ifndef JOBBOARD_H
 #define JOBBOARD_H
@@ -58,6 +66,9 @@
 extern "C" {
 #endif
 
+/* The newest request that the calls take in (see VERSIONS). */
+#define JOBBOARD_VERSION 4
+
 /* Benches are numbered from 1 to at most this, and so are jobs. */
 #define JOBBOARD_MOST_BENCHES 500
 #define JOBBOARD_MOST_JOBS 4000
@@ -68,7 +79,7 @@ extern "C" {
 /* The length of the largest table: 33,008 bytes. */
 #define JOBBOARD_MOST_TABLE_BYTES JOBBOARD_TABLE_BYTES(JOBBOARD_MOST_BENCHES, JOBBOARD_MOST_JOBS)
 
-/* A list of this length is long enough for every tight set: 1,000 bytes. */
+/* A list of this length is long enough for every tight set, and for the moved jobs of every arrival and closing: 1,000 bytes. */
 #define JOBBOARD_MOST_LIST_BYTES (2 * (size_t)JOBBOARD_MOST_BENCHES)
 
 /* A line of a wall sheet: 68 characters and a line feed. */
@@ -93,7 +104,7 @@ enum jobboard_refusal {
     JOBBOARD_ALREADY_STANDING = 5, /* arrival of a standing job */
     JOBBOARD_NOT_STANDING = 6,     /* closing of a job not standing */
     JOBBOARD_HEIGHT = 7,           /* height 0, or above the heaviest load */
-    JOBBOARD_LIST_TOO_SHORT = 8,   /* list shorter than the set's words */
+    JOBBOARD_LIST_TOO_SHORT = 8,   /* list shorter than the words of the set, or of the moved jobs */
     JOBBOARD_COUNT_FULL = 9,       /* a tally's count would pass 4,294,967,295; no call here returns it */
     JOBBOARD_UNREADABLE = 10,      /* the counter program's: line not readable; no call here returns it */
     JOBBOARD_PAGE_TOO_SHORT = 11   /* page shorter than the wall sheet */
@@ -118,21 +129,32 @@ uint32_t jobboard_check(const uint8_t *table, size_t table_bytes);
  * Arrival of job `job`, which names the benches `first` and `second`. The lighter of them gets it (the first-named if they are equal),
  * and then jobs are handed along one path of benches, if there is one that leads to a bench with a load lower by two or more.
  *
+ * The jobs that changed holder, the new one left out, are written as words (two bytes, low byte first) at the beginning of `list`, in path
+ * order; the list beyond them is untouched. The first of them leaves *holder, each further one the bench that the one before it came to,
+ * and the last comes to *rose.
+ *
  * Results: *holder is the bench that holds the new job in the end, *rose the bench whose load rose (no other load changes), *moved the
- * number of other jobs that changed holder.
- * Refused: JOBBOARD_SIZES, JOBBOARD_UNSOUND, JOBBOARD_JOB_NUMBER, JOBBOARD_BENCH_NUMBER, JOBBOARD_ALREADY_STANDING.
+ * number of jobs listed. The list must have at least 2 * *moved bytes, else the call is refused before anything is changed; its length
+ * may be odd, and 0 where no job moves. At most B - 1 jobs move, so a list of JOBBOARD_MOST_LIST_BYTES is always long enough.
+ * Refused: JOBBOARD_SIZES, JOBBOARD_UNSOUND, JOBBOARD_JOB_NUMBER, JOBBOARD_BENCH_NUMBER, JOBBOARD_ALREADY_STANDING,
+ * JOBBOARD_LIST_TOO_SHORT.
  */
-uint32_t jobboard_arrival(uint8_t *table, size_t table_bytes, uint32_t job, uint32_t first, uint32_t second, uint32_t *holder,
-                          uint32_t *rose, uint32_t *moved);
+uint32_t jobboard_arrival(uint8_t *table, size_t table_bytes, uint32_t job, uint32_t first, uint32_t second, uint8_t *list,
+                          size_t list_bytes, uint32_t *holder, uint32_t *rose, uint32_t *moved);
 
 /*
  * Closing of the standing job `job`. Its record is emptied, and then jobs are handed along one path to the bench that held it, if there
  * is one from a bench with a load higher by two or more.
  *
- * Results: *fell is the bench whose load fell (no other load changes), *moved the number of jobs that changed holder.
- * Refused: JOBBOARD_SIZES, JOBBOARD_UNSOUND, JOBBOARD_JOB_NUMBER, JOBBOARD_NOT_STANDING.
+ * The jobs that changed holder are written at the beginning of `list` as an arrival writes them, in path order: the first of them leaves
+ * *fell, each further one the bench that the one before it came to, and the last comes to the bench that held the closed job.
+ *
+ * Results: *fell is the bench whose load fell (no other load changes), *moved the number of jobs listed. What length the list must have,
+ * and what is always enough, is as for an arrival.
+ * Refused: JOBBOARD_SIZES, JOBBOARD_UNSOUND, JOBBOARD_JOB_NUMBER, JOBBOARD_NOT_STANDING, JOBBOARD_LIST_TOO_SHORT.
  */
-uint32_t jobboard_closing(uint8_t *table, size_t table_bytes, uint32_t job, uint32_t *fell, uint32_t *moved);
+uint32_t jobboard_closing(uint8_t *table, size_t table_bytes, uint32_t job, uint8_t *list, size_t list_bytes, uint32_t *fell,
+                          uint32_t *moved);
 
 /*
  * Levelling. A path improves if jobs handed along it lead from a bench to one with a load lower by two or more; a table is level if
@@ -141,7 +163,7 @@ uint32_t jobboard_closing(uint8_t *table, size_t table_bytes, uint32_t job, uint
  * ends level.
  *
  * Results: *paths is the number of paths turned, at most the allowance; *level is 1 for "level" (no improving path is left), 0 for
- * "stopped" (the allowance is used up and one is left).
+ * "stopped" (the allowance is used up and one is left). The jobs that moved are not listed.
  * Refused: JOBBOARD_SIZES, JOBBOARD_UNSOUND.
  */
 uint32_t jobboard_levelling(uint8_t *table, size_t table_bytes, uint32_t allowance, uint32_t *paths, uint32_t *level);
@@ -209,8 +231,8 @@ uint32_t jobboard_sheet(const uint8_t *table, size_t table_bytes, uint8_t *page,
 /*
  * Is there a job between these two benches? A quick answer for a table that nobody checked first: the form check is not made, and the
  * call takes as long as the records that it reads, however large J is. The chain of bench `first` is read up to a job that names both
- * benches, the first match, or to its end. Then the chain of bench `second` is read up to such a job, up to a number above the first match (that record is not read), or to
- * its end. The lower of the two jobs is the answer.
+ * benches, the first match, or to its end. Then the chain of bench `second` is read up to such a job, up to a number above the first match
+ * (that record is not read), or to its end. The lower of the two jobs is the answer.
  *
  * Only records to be read are tested: each must have a number of 1 to J above the one before it on its chain, name two different benches
  * of 1 to B, and have the bench whose chain is read as holder. Nothing else of the table is looked at but its first two words and the two

@@ -21,7 +21,7 @@ typed=${desk[1]}
 printf 'B 3 4\n' >&"$typed" && answered 'B 3 4'
 printf 'A 1 1 2\nA 2 2 ' >&"$typed" && answered 'A 1 1 1 0'
 printf '3\n' >&"$typed" && answered 'A 2 2 2 0'
-printf 'A 3 1 2\nS 1\n' >&"$typed" && answered 'A 3 1 3 2' && answered 'S 1 3 3 1 2 3'
+printf 'A 3 1 2\nS 1\n' >&"$typed" && answered 'A 3 1 3 2 1 2' && answered 'S 1 3 3 1 2 3'
 printf 'H' >&"$typed"
 exec {typed}>&-
 answered 'R 10'

@@ -7,6 +7,10 @@
  * benches, jobs and holders alone. Half the boards start with chains in a random order, so that accepted arrivals, closings and levellings
  * meet chains that do not rise; each must have met some.
  *
+ * Arrivals and closings list the jobs that they move. They are lent lists of just the length that they need, of one byte less, of odd
+ * lengths, longer ones and none, on boards in use, on copies with chains in a random order, and on damaged ones; each end must have come
+ * often on chains of either kind. Bytes behind a list or a page are compared too, or there are none.
+ *
  * A pair question reads two chains of a table that it does not check. Between the other calls it is asked of copies: as they are, with
  * chains in a random order, and damaged anywhere or just where it reads. Each of its answers and refusals must have come often.
  *
@@ -30,6 +34,10 @@ static uint32_t handed;           /* arrivals and closings that handed jobs alon
 static uint32_t unordered[KINDS]; /* how often an accepted arrival, closing, levelling or pair question met chains that did not all rise */
 static uint32_t pairs[12];        /* how often a pair question returned each number */
 static uint32_t found;            /* pair questions that were answered with a job */
+
+/* How an arrival or a closing ends by its list: accepted without one, or with one for some jobs; refused. */
+enum list_end { NONE_LENT, EXACT, ODD, LONGER, TOO_SHORT, LIST_ENDS };
+static uint32_t lists[2][2][LIST_ENDS]; /* of arrivals and of closings, on chains that all rise and on others */
 
 /*
  * Picks a number of 1 to `most`, now and then one out of range: 0, the next ones, one that fits after a cut to 16
@@ -101,15 +109,38 @@ static size_t random_page(struct random *r, const struct table *t)
     }
 }
 
-static struct call random_call(struct random *r, const struct table *t)
+/* Picks the length of an arrival's or closing's list: often that of its words, one byte less or more, none, a longer one or any. */
+static size_t random_list(struct random *r, const struct call *call, const struct table *t)
 {
-    /* Arrivals and closings are what boards are for. */
-    static const enum kind often[] = {ARRIVAL, ARRIVAL,  ARRIVAL,   CLOSING,   CLOSING, CLOSING, LEVEL_CHECK,
-                                      LOAD,    HEAVIEST, TIGHT_SET, TIGHT_SET, CHECK,   SHEET};
+    static uint8_t list[JOBBOARD_MOST_LIST_BYTES];
+    static struct table copy;
+    copy = *t;
+    struct call longest = *call;
+    longest.lent = list;
+    longest.lent_bytes = sizeof list;
+    size_t need = bytes_written(call->kind, reference_call(&longest, copy.bytes, copy.length));
+    switch (random_below(r, 9)) {
+    case 0:
+    case 1:
+        return need > 0 ? need - 1 : 1;
+    case 2:
+        return 0;
+    case 3:
+        return need + 1;
+    case 4:
+        return need + random_within(r, 2, 40);
+    case 5:
+        return random_below(r, JOBBOARD_MOST_LIST_BYTES + 1);
+    default:
+        return need;
+    }
+}
+
+/* Picks the numbers of a call, and the length of what it is lent. */
+static struct call random_call(struct random *r, const struct table *t, enum kind kind)
+{
     uint32_t benches = word_at(t->bytes, 0), jobs = word_at(t->bytes, 1);
-    struct call call = {often[random_below(r, 13)], {0, 0, 0}, NULL, 0};
-    if (random_below(r, 20) == 0)
-        call.kind = random_below(r, 4) == 0 ? BLANK : LEVELLING;
+    struct call call = {kind, {0, 0, 0}, NULL, 0};
     if (call.kind == BLANK) {
         call.numbers[0] = random_number(r, benches);
         call.numbers[1] = random_number(r, jobs);
@@ -122,12 +153,23 @@ static struct call random_call(struct random *r, const struct table *t)
         call.lent_bytes = random_below(r, 3) == 0 ? random_below(r, 2 * benches + 2) : 2 * benches + random_below(r, 4);
     } else if (call.kind == SHEET) {
         call.lent_bytes = random_page(r, t);
-    } else if (call.kind == ARRIVAL || call.kind == CLOSING) {
+    } else if (lists_moved(call.kind)) {
         call.numbers[0] = random_job(r, t, call.kind == CLOSING);
         call.numbers[1] = random_bench(r, t);
         call.numbers[2] = random_bench(r, t);
+        call.lent_bytes = random_list(r, &call, t);
     }
     return call;
+}
+
+static enum kind random_kind(struct random *r)
+{
+    /* Arrivals and closings are what boards are for. */
+    static const enum kind often[] = {ARRIVAL, ARRIVAL,  ARRIVAL,   CLOSING,   CLOSING, CLOSING, LEVEL_CHECK,
+                                      LOAD,    HEAVIEST, TIGHT_SET, TIGHT_SET, CHECK,   SHEET};
+    if (random_below(r, 20) == 0)
+        return random_below(r, 4) == 0 ? BLANK : LEVELLING;
+    return often[random_below(r, 13)];
 }
 
 /* Writes into a word of a record a number that just fits there, or just does not. */
@@ -211,7 +253,21 @@ static void stop(const struct call *call, struct answer a, struct answer b, cons
 /* Tells whether a call leaves all chains in order, or reads them in the order they have. */
 static bool order_matters(enum kind kind)
 {
-    return kind == ARRIVAL || kind == CLOSING || kind == LEVELLING || kind == BETWEEN;
+    return lists_moved(kind) || kind == LEVELLING || kind == BETWEEN;
+}
+
+/* Counts how an arrival or a closing ended by its list; `before` is its table as it was. */
+static void count_list(const struct call *call, struct answer a, const uint8_t *before)
+{
+    size_t need = bytes_written(call->kind, a);
+    if (!lists_moved(call->kind) || (a.returned != JOBBOARD_OK && a.returned != JOBBOARD_LIST_TOO_SHORT))
+        return;
+    uint32_t *ends = lists[call->kind == CLOSING][!chains_rise(before)];
+    ends[TOO_SHORT] += a.returned == JOBBOARD_LIST_TOO_SHORT;
+    ends[NONE_LENT] += a.returned == JOBBOARD_OK && call->lent_bytes == 0;
+    ends[EXACT] += need > 0 && call->lent_bytes == need;
+    ends[ODD] += need > 0 && call->lent_bytes % 2 == 1;
+    ends[LONGER] += need > 0 && call->lent_bytes > need;
 }
 
 /* Counts a call; `before` is its table as it was. */
@@ -219,24 +275,28 @@ static void count(const struct call *call, struct answer a, const uint8_t *befor
 {
     returned[a.returned]++;
     pairs[a.returned] += call->kind == BETWEEN;
+    count_list(call, a, before);
     if (a.returned != JOBBOARD_OK)
         return;
     accepted[call->kind]++;
-    handed += (call->kind == ARRIVAL && a.values[2] > 0) || (call->kind == CLOSING && a.values[1] > 0);
+    handed += jobs_moved(call->kind, a) > 0;
     found += call->kind == BETWEEN && a.values[0] != 0;
     if (order_matters(call->kind))
         unordered[call->kind] += !chains_rise(before);
 }
 
-/* Makes one call through both, on copies of exactly the lent length; t is what the archive left. */
+/*
+ * Makes one call through both, on copies of exactly the lent length; t is what the archive left. Every other time there are bytes behind
+ * the list or the page, which must stay as they are; else the sanitizer watches its end.
+ */
 static void compare(struct call call, struct table *t)
 {
+    size_t behind = calls_made++ % 2 == 0 ? 0 : 64, room = call.lent_bytes + behind;
     uint8_t *lent[2], *table = copy_of(t->bytes, t->length), *other = copy_of(t->bytes, t->length);
     for (int i = 0; i < 2; i++) {
-        lent[i] = memory(call.lent_bytes);
-        memset(lent[i], 0xa5, call.lent_bytes);
+        lent[i] = memory(room);
+        memset(lent[i], UNWRITTEN, room);
     }
-    calls_made++;
     call.lent = lent[0];
     struct answer a = make_call(&call, table, t->length);
     call.lent = lent[1];
@@ -245,8 +305,11 @@ static void compare(struct call call, struct table *t)
         stop(&call, a, b, "other answer");
     if (memcmp(table, other, t->length) != 0)
         stop(&call, a, b, "other table");
-    if (memcmp(lent[0], lent[1], call.lent_bytes) != 0)
+    if (memcmp(lent[0], lent[1], room) != 0)
         stop(&call, a, b, call.kind == SHEET ? "other page" : "other list");
+    call.lent = lent[0];
+    if (!rest_unwritten(&call, a, behind))
+        stop(&call, a, b, "the list or the page was written beyond what it may");
     if (call.kind == SHEET && a.returned == JOBBOARD_OK && !sheet_names_holders(lent[0], a.values[0], table))
         stop(&call, a, b, "the page read back has other holders than the table");
     count(&call, a, t->bytes);
@@ -274,7 +337,19 @@ static void compare_pair(struct random *r, const struct table *t)
     compare(call, &copy);
 }
 
-/* Makes calls on a board, one after the other, some on a damaged copy; pair questions between them. */
+/* Takes a job in or closes one on a copy with chains in a random order, sometimes damaged: a board in use is in order from its first change. */
+static void compare_shuffled(struct random *r, const struct table *t)
+{
+    static struct table copy;
+    struct call call = random_call(r, t, random_below(r, 2) == 0 ? ARRIVAL : CLOSING);
+    copy = *t;
+    make_chains(&copy, r);
+    if (random_below(r, 8) == 0)
+        damage(&copy, r);
+    compare(call, &copy);
+}
+
+/* Makes calls on a board, one after the other, some on a damaged copy; pair questions and changes of shuffled copies between them. */
 static void run_board(struct random *r, uint32_t calls)
 {
     static struct table t, damaged;
@@ -283,7 +358,7 @@ static void run_board(struct random *r, uint32_t calls)
     if (random_below(r, 3) == 0 && word_at(t.bytes, 0) < 100)
         compare((struct call){LEVELLING, {UINT32_MAX, 0, 0}, NULL, 0}, &t);
     for (; calls > 0; calls--) {
-        struct call call = random_call(r, &t);
+        struct call call = random_call(r, &t, random_kind(r));
         damaged = t;
         if (random_below(r, 8) == 0) {
             damage(&damaged, r);
@@ -293,6 +368,8 @@ static void run_board(struct random *r, uint32_t calls)
         }
         if (random_below(r, 4) == 0)
             compare_pair(r, &t);
+        if (random_below(r, 4) == 0)
+            compare_shuffled(r, &t);
     }
 }
 
@@ -321,6 +398,24 @@ static void expect_pairs_met(void)
              (unsigned)pairs[JOBBOARD_BENCH_NUMBER], (unsigned)pairs[JOBBOARD_UNSOUND]);
 }
 
+/* Expects enough arrivals and closings that ended each way by their list, on chains of either kind; nothing of few calls. */
+static void expect_lists_met(void)
+{
+    uint32_t least = calls_made < 10000 ? 0 : calls_made / 1000;
+    for (int kind = 0; kind < 2; kind++)
+        for (int order = 0; order < 2; order++)
+            for (int end = 0; end < LIST_ENDS; end++)
+                if (lists[kind][order][end] < least)
+                    fail("against: only %u %s on %s chains ended the way %d by their list", (unsigned)lists[kind][order][end],
+                         kind == 0 ? "arrivals" : "closings", order == 0 ? "rising" : "other", end);
+}
+
+/* Adds up the arrivals and closings that ended so by their list. */
+static unsigned ended(enum list_end end)
+{
+    return lists[0][0][end] + lists[0][1][end] + lists[1][0][end] + lists[1][1][end];
+}
+
 /* Expects that each refusal was met, each call accepted, and each one accepted to which the order matters on chains that did not rise. */
 static void expect_all_met(void)
 {
@@ -338,12 +433,13 @@ static void expect_all_met(void)
 int main(int argc, char **argv)
 {
     seed = seed_of(argc, argv, 20260101);
-    uint32_t calls = argc > 2 ? (uint32_t)strtoul(argv[2], NULL, 10) : 125000;
+    uint32_t calls = argc > 2 ? (uint32_t)strtoul(argv[2], NULL, 10) : 160000;
     struct random r = {seed};
     while (calls_made + 1 < calls)
         run_board(&r, random_within(&r, 5, 60));
     level_largest(&r);
     expect_all_met();
+    expect_lists_met();
     expect_pairs_met();
     printf("against: %u calls, same answers, tables, lists and pages; %u handed jobs along; %u pages read back; ", (unsigned)calls_made,
            (unsigned)handed, (unsigned)accepted[SHEET]);
@@ -352,6 +448,8 @@ int main(int argc, char **argv)
     for (int n = 1; n <= 11; n++)
         if (n != JOBBOARD_COUNT_FULL && n != JOBBOARD_UNREADABLE)
             printf("%s %u with %d", n == 1 ? "" : ",", (unsigned)returned[n], n);
+    printf("\nagainst: lists of moved jobs: %u of just their length, %u longer, %u odd, %u too short, and %u arrivals and closings without one",
+           ended(EXACT), ended(LONGER), ended(ODD), ended(TOO_SHORT), ended(NONE_LENT));
     printf("\nagainst: pair questions among them: %u found a job and %u none, %u of these on chains that did not rise; ", (unsigned)found,
            (unsigned)(accepted[BETWEEN] - found), (unsigned)unordered[BETWEEN]);
     printf("refused %u with 1, %u with 4, %u with 2\n", (unsigned)pairs[JOBBOARD_SIZES], (unsigned)pairs[JOBBOARD_BENCH_NUMBER],

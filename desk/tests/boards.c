@@ -9,12 +9,16 @@
 static const char *board; /* the one being tried */
 static unsigned calls;
 
-/* Makes a call and expects this answer. A refused call and a question must leave every byte of the table. */
+/* The list that arrivals and closings are lent; moved.c looks at what they write into it. */
+static uint8_t moves[JOBBOARD_MOST_LIST_BYTES];
+
+/* Makes a call and expects this answer. A refused call and a question must leave every byte of the table, a refused change of its list. */
 static void expect(struct table *t, struct call call, struct answer want)
 {
     static struct table before;
     char wanted[DESCRIPTION], got[DESCRIPTION], text[DESCRIPTION];
     before = *t;
+    memset(moves, UNWRITTEN, sizeof moves);
     struct answer a = make_call(&call, t->bytes, t->length);
     describe_call(&call, text);
     describe_answer(a, got);
@@ -24,6 +28,8 @@ static void expect(struct table *t, struct call call, struct answer want)
     bool keeps = a.returned != JOBBOARD_OK || !changes_table(call.kind);
     if (keeps && memcmp(before.bytes, t->bytes, sizeof before.bytes) != 0)
         fail("boards: %s: %s gives %s and changed the table", board, text, got);
+    if (lists_moved(call.kind) && !rest_unwritten(&call, a, 0))
+        fail("boards: %s: %s gives %s and wrote more of its list than it may", board, text, got);
     calls++;
 }
 
@@ -59,12 +65,12 @@ static struct call question(enum kind kind, uint32_t number)
 
 static struct call arrival(uint32_t job, uint32_t first, uint32_t second)
 {
-    return (struct call){ARRIVAL, {job, first, second}, NULL, 0};
+    return (struct call){ARRIVAL, {job, first, second}, moves, sizeof moves};
 }
 
 static struct call closing(uint32_t job)
 {
-    return question(CLOSING, job);
+    return (struct call){CLOSING, {job, 0, 0}, moves, sizeof moves};
 }
 
 /* Blanks `length` bytes that held something else; where that is accepted they must be as blanking leaves them. */
@@ -91,17 +97,17 @@ static void blank_fitting(struct table *t, uint32_t benches, uint32_t jobs)
 static void expect_set(struct table *t, uint32_t height, const uint32_t *set, uint32_t benches, uint32_t jobs)
 {
     uint8_t list[JOBBOARD_MOST_LIST_BYTES + 2];
-    memset(list, 0xa5, sizeof list);
+    memset(list, UNWRITTEN, sizeof list);
     struct call call = {TIGHT_SET, {height, 0, 0}, list, 2 * (size_t)benches - 1};
     expect(t, call, refused(JOBBOARD_LIST_TOO_SHORT));
-    if (list[0] != 0xa5)
+    if (!rest_unwritten(&call, refused(JOBBOARD_LIST_TOO_SHORT), 3))
         fail("boards: %s: a refused tight set wrote its list", board);
     call.lent_bytes++;
     expect(t, call, two(benches, jobs));
     for (uint32_t i = 0; i < benches; i++)
         if (word_at(list, i) != set[i])
             fail("boards: %s: bench %u of the tight set is %u", board, (unsigned)i + 1, (unsigned)word_at(list, i));
-    if (word_at(list, benches) != 0xa5a5)
+    if (!rest_unwritten(&call, two(benches, jobs), 2))
         fail("boards: %s: the list beyond the set was written", board);
 }
 
@@ -220,7 +226,7 @@ static void all_pairs(struct table *t, struct random *r)
 {
     const uint32_t loads[] = {2, 2, 2, 2, 2};
     uint32_t pairs[10][2];
-    uint32_t left = 0, holder, rose, moved;
+    uint32_t left = 0;
     board = "one job for each pair of five benches";
     for (uint32_t a = 1; a <= 5; a++)
         for (uint32_t b = a + 1; b <= 5; b++, left++) {
@@ -231,7 +237,8 @@ static void all_pairs(struct table *t, struct random *r)
     blank_fitting(t, 5, 10);
     for (; left > 0; left--) {
         uint32_t i = random_below(r, left);
-        if (jobboard_arrival(t->bytes, t->length, left, pairs[i][0], pairs[i][1], &holder, &rose, &moved) != JOBBOARD_OK)
+        struct call call = arrival(left, pairs[i][0], pairs[i][1]);
+        if (make_call(&call, t->bytes, t->length).returned != JOBBOARD_OK)
             fail("boards: %s: arrival refused", board);
         calls++;
         memcpy(pairs[i], pairs[left - 1], sizeof pairs[i]);

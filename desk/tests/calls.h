@@ -9,12 +9,15 @@
 /* Stands in a result before the call; no call gives it. */
 #define UNSET 0xa5a5a5a5u
 
+/* Stands in every byte of a list or a page before the call. */
+#define UNWRITTEN 0xa5
+
 enum kind { BLANK, CHECK, ARRIVAL, CLOSING, LEVELLING, LEVEL_CHECK, LOAD, HEAVIEST, TIGHT_SET, SHEET, BETWEEN, KINDS };
 
 struct call {
     enum kind kind;
     uint32_t numbers[3]; /* in the order of the call's own */
-    uint8_t *lent;       /* a tight set's list, a sheet's page; else not looked at */
+    uint8_t *lent;       /* the list of a tight set, an arrival or a closing, a sheet's page; else not looked at */
     size_t lent_bytes;
 };
 
@@ -31,8 +34,17 @@ bool same_answer(struct answer a, struct answer b);
 /* Tells whether this call changes tables; the others ask. */
 bool changes_table(enum kind kind);
 
+/* Tells whether this call lists the jobs that it moves: an arrival or a closing. */
+bool lists_moved(enum kind kind);
+
+/* Tells how many jobs an accepted arrival or closing has moved; 0 for a refusal and every other call. */
+uint32_t jobs_moved(enum kind kind, struct answer a);
+
 /* Tells how many bytes of what it was lent the call has written, by its answer. */
 size_t bytes_written(enum kind kind, struct answer a);
+
+/* Tells whether the lent bytes that the call has not written, and so many behind them, are still UNWRITTEN. */
+bool rest_unwritten(const struct call *call, struct answer a, size_t behind);
 
 /* Tells whether this number is among the refusals that the header lists for the call. */
 bool may_refuse(enum kind kind, uint32_t number);

@@ -2,9 +2,10 @@
  * Random sound tables, each twice: with every chain rising, and with at least one that does not rise.
  *
  * No answer here depends on the order: every question but the pair question, which pairs.c tries, gives the same answer and the same list
- * or page on both, and leaves the order as it is, and so does a refused change. The first accepted arrival, closing or levelling puts every
- * chain in order, whether a job moved or not: the two tables are then equal, and equal to one written by hand from benches, jobs and
- * holders alone. A second change keeps the order. Chains are walked here, word by word; whether they rise is asked of no call.
+ * or page on both, and leaves the order as it is, and so does a refused change, also one whose list is a byte too short. The first accepted
+ * arrival, closing or levelling puts every chain in order, whether a job moved or not: the two tables are then equal, and equal to one
+ * written by hand from benches, jobs and holders alone, and the lists of moved jobs are the same. A second change keeps the order. Chains
+ * are walked here, word by word; whether they rise is asked of no call.
  *
  * Arguments: the seed, the number of tables.
  */
@@ -129,15 +130,13 @@ static void draw_pair(struct pair *p, struct random *r, enum change change)
 
 /* ---- Calls that change no byte ---- */
 
-/* Asks both tables the same. Expects this return, the same answer and lent bytes, and both tables as they were. */
-static struct answer ask(struct pair *p, enum kind kind, uint32_t number, size_t lent_bytes, uint32_t returned)
+/* Makes a call on both tables, with a list or a page of its length for each. Expects this return, and the same answer and lent bytes. */
+static struct answer call_both(struct pair *p, struct call call, uint32_t returned)
 {
     static uint8_t lent[2][JOBBOARD_MOST_PAGE_BYTES];
-    static struct pair before;
-    struct call call = {kind, {number, 0, 0}, lent[0], lent_bytes};
-    before = *p;
-    memset(lent[0], 0xa5, lent_bytes);
-    memset(lent[1], 0xa5, lent_bytes);
+    memset(lent[0], UNWRITTEN, call.lent_bytes);
+    memset(lent[1], UNWRITTEN, call.lent_bytes);
+    call.lent = lent[0];
     struct answer a = make_call(&call, p->rising.bytes, p->rising.length);
     call.lent = lent[1];
     struct answer b = make_call(&call, p->shuffled.bytes, p->shuffled.length);
@@ -145,11 +144,25 @@ static struct answer ask(struct pair *p, enum kind kind, uint32_t number, size_t
         stop(&call, "another return than expected");
     if (!same_answer(a, b))
         stop(&call, "another answer where the chains do not rise");
-    if (memcmp(lent[0], lent[1], lent_bytes) != 0)
+    if (memcmp(lent[0], lent[1], call.lent_bytes) != 0)
         stop(&call, "another list or page where the chains do not rise");
-    if (!same_bytes(&p->rising, &before.rising) || !same_bytes(&p->shuffled, &before.shuffled))
-        stop(&call, "a question changed the table");
     return a;
+}
+
+/* Does the same with a question or a change that is refused, and expects both tables as they were. */
+static struct answer call_unchanging(struct pair *p, struct call call, uint32_t returned)
+{
+    static struct pair before;
+    before = *p;
+    struct answer a = call_both(p, call, returned);
+    if (!same_bytes(&p->rising, &before.rising) || !same_bytes(&p->shuffled, &before.shuffled))
+        stop(&call, "a question or a refused change changed the table");
+    return a;
+}
+
+static struct answer ask(struct pair *p, enum kind kind, uint32_t number, size_t lent_bytes, uint32_t returned)
+{
+    return call_unchanging(p, (struct call){kind, {number, 0, 0}, NULL, lent_bytes}, returned);
 }
 
 /* Asks every question but the pair question, of few benches and heights where there are many, and some so that they are refused. */
@@ -219,13 +232,13 @@ static void write_anew(struct table *anew, const struct table *t)
 static struct call call_of(const struct table *t, struct random *r, enum change change)
 {
     static const uint32_t any[] = {0, 1, JOBBOARD_ENOUGH_PATHS, UINT32_MAX};
-    uint32_t standing = pick_job(t, r, true);
-    size_t record = record_of(t->bytes, standing);
+    uint32_t standing = pick_job(t, r, true), first = word_at(t->bytes, record_of(t->bytes, standing));
+    uint32_t second = word_at(t->bytes, record_of(t->bytes, standing) + 1);
     switch (change) {
     case TAKE_IN:
-        return (struct call){ARRIVAL, {pick_job(t, r, false), word_at(t->bytes, record), word_at(t->bytes, record + 1)}, NULL, 0};
+        return (struct call){ARRIVAL, {pick_job(t, r, false), first, second}, NULL, JOBBOARD_MOST_LIST_BYTES};
     case CLOSE:
-        return (struct call){CLOSING, {standing, 0, 0}, NULL, 0};
+        return (struct call){CLOSING, {standing, 0, 0}, NULL, JOBBOARD_MOST_LIST_BYTES};
     case LEVEL_NONE:
         return (struct call){LEVELLING, {0, 0, 0}, NULL, 0};
     case LEVEL_ONE:
@@ -237,15 +250,26 @@ static struct call call_of(const struct table *t, struct random *r, enum change 
     }
 }
 
+/* Lends an arrival or a closing that moves jobs a byte too little: both tables stay in their order. */
+static void refuse_short(struct pair *p, struct call call)
+{
+    static struct pair copy;
+    if (!lists_moved(call.kind))
+        return;
+    copy = *p;
+    size_t need = bytes_written(call.kind, call_both(&copy, call, JOBBOARD_OK));
+    if (need == 0)
+        return;
+    call.lent_bytes = need - 1;
+    call_unchanging(p, call, JOBBOARD_LIST_TOO_SHORT);
+}
+
 /* Makes an accepted change on both tables. They are equal then, and each byte is the one that benches, jobs and holders give. */
 static struct answer change_both(struct pair *p, const struct call *call)
 {
     static struct table before, anew;
     before = p->rising;
-    struct answer a = make_call(call, p->rising.bytes, p->rising.length);
-    struct answer b = make_call(call, p->shuffled.bytes, p->shuffled.length);
-    if (a.returned != JOBBOARD_OK || !same_answer(a, b))
-        stop(call, "refused, or the two tables are answered differently");
+    struct answer a = call_both(p, *call, JOBBOARD_OK);
     if (jobboard_check(p->shuffled.bytes, p->shuffled.length) != JOBBOARD_OK)
         stop(call, "the table is not sound after it");
     if (!chains_rise(p->rising.bytes) || !chains_rise(p->shuffled.bytes))
@@ -268,7 +292,7 @@ static void count(enum change change, const struct call *call, struct answer a)
         (change == LEVEL_ALL && (paths == 0 || level != 1)) || (change == LEVEL_AGAIN && (paths != 0 || level != 1)))
         stop(call, "another number of paths, or another end, than its allowance and the board give");
     made[change]++;
-    handed[change] += (change == TAKE_IN && a.values[2] > 0) || (change == CLOSE && a.values[1] > 0);
+    handed[change] += jobs_moved(call->kind, a) > 0;
 }
 
 /* Chooses a change of another kind than the one before. */
@@ -290,6 +314,7 @@ static void run_table(struct random *r, enum change first)
     ask_all(&p, r);
     refuse_all(&p.shuffled, r);
     struct call call = call_of(&p.rising, r, first);
+    refuse_short(&p, call);
     count(first, &call, change_both(&p, &call));
     call = call_of(&p.rising, r, another(&p.rising, r, first));
     change_both(&p, &call);
@@ -314,7 +339,7 @@ int main(int argc, char **argv)
     while (tables < wanted)
         run_table(&r, turns[tables % TURNS]);
     expect_enough();
-    printf("chains: %u tables with shuffled chains, same answers; every chain in order after %u arrivals (%u handed jobs along), "
+    printf("chains: %u tables with shuffled chains, same answers and lists; every chain in order after %u arrivals (%u handed jobs along), "
            "%u closings (%u) and levellings: %u with allowance 0, %u with 1, %u to the end, %u on level boards\n",
            (unsigned)tables, (unsigned)made[TAKE_IN], (unsigned)handed[TAKE_IN], (unsigned)made[CLOSE], (unsigned)handed[CLOSE],
            (unsigned)made[LEVEL_NONE], (unsigned)made[LEVEL_ONE], (unsigned)made[LEVEL_ALL], (unsigned)made[LEVEL_AGAIN]);

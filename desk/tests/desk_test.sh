@@ -76,7 +76,7 @@ expect_kept 0 "The board is sound: benches 1 to 3, jobs 1 to 4, no jobs standing
 expect_kept 0 "No job stands between benches 1 and 2; no records read." room.board between 1 2
 expect 0 "Job 1 goes to bench 1. Bench 1 has one job more; no other jobs move." room.board take 1 1 2
 expect 0 "Job 2 goes to bench 2. Bench 2 has one job more; no other jobs move." room.board take 2 2 3
-expect 0 "Job 3 goes to bench 1. Bench 3 has one job more; 2 other jobs move.
+expect 0 "Job 3 goes to bench 1. Bench 3 has one job more; jobs 1, 2 move.
 Job 1 moves from bench 1 to bench 2.
 Job 2 moves from bench 2 to bench 3." room.board take 3 1 2
 expect_kept 0 "Tight at height 1: 3 benches with 3 jobs among themselves: 1 2 3
@@ -111,7 +111,10 @@ expect_kept 1 "desk: room.board: refused (7): height 0, or above the heaviest lo
 
 # Not understood: status 2, and every byte stays.
 expect_kept 2 "desk: room.board: no such command: tke (help lists them)" room.board tke 4 1 2
-expect_kept 2 "desk: room.board: take: wrong number of numbers: take JOB BENCH BENCH  a job arrives that either bench can do" room.board take 4 1
+expect_kept 2 "desk: room.board: take: wrong number of numbers: \
+take JOB BENCH BENCH  a job arrives that either bench can do; says which others to carry, and where" room.board take 4 1
+expect_kept 2 "desk: room.board: close: wrong number of numbers: \
+close JOB             a job is done; says which jobs to carry, and where" room.board close
 expect_kept 2 "desk: room.board: check: wrong number of numbers: check                 whether the board is sound" room.board check 1
 expect_kept 2 "desk: room.board: sheet: wrong number of numbers: sheet                 the wall sheet, to print and pin up: bench, load and jobs in columns" room.board sheet 1
 expect_kept 2 "desk: room.board: between: wrong number of numbers: \
@@ -218,13 +221,37 @@ do_all other.board "new 2 4" "take 3 1 2" "take 2 1 2" "take 4 2 1" "take 1 2 1"
 [ "$("$program" one.board show)" = "$("$program" other.board show)" ] || fail "the two files do not hold the same sharing"
 cmp -s one.board other.board || fail "two files with the same sharing differ"
 
+# Jobs to carry: one, and several in the order in which they are handed along, not in that of their numbers.
+expect 0 "Job 2 is closed. Bench 1 has one job less; job 1 moves.
+Job 1 moves from bench 1 to bench 2." one.board close 2
+do_all other.board "renew 4 6" "take 3 1 2" "take 2 2 3" "take 1 3 4" "take 4 4 1" "take 5 1 2"
+expect 0 "Job 4 is closed. Bench 1 has one job less; jobs 3, 2, 1 move.
+Job 3 moves from bench 1 to bench 2.
+Job 2 moves from bench 2 to bench 3.
+Job 1 moves from bench 3 to bench 4." other.board close 4
+
+# Makes the board's file of the words that an awk program gives.
+make_file() { # AWK
+    printf "$(awk 'function word(n) { printf "\\%03o\\%03o", n % 256, int(n / 256) } BEGIN { '"$1"' }')" >room.board
+}
+
+# The most jobs to carry: each of 500 benches but the last holds a job for the next one, and their numbers fall.
+make_file '
+    word(500); word(4000); word(499); word(0)
+    for (b = 1; b <= 500; b++) word(500 - b)
+    for (j = 1; j <= 499; j++) { word(500 - j); word(501 - j); word(1); word(0) }
+    for (i = 1; i <= 4 * 3501; i++) word(0)'
+expect 0 "$(awk 'BEGIN {
+    printf "Job 500 goes to bench 1. Bench 500 has one job more; jobs "
+    for (j = 499; j >= 1; j--) printf "%d%s", j, (j > 1 ? ", " : " move.\n")
+    for (j = 499; j >= 1; j--) printf "Job %d moves from bench %d to bench %d.\n", j, 500 - j, 501 - j
+}')" room.board take 500 1 2
+
 # The longest answers, whole: bench 1 of 500 holds 4,000 jobs, and all but eight of them leave it.
-printf "$(awk 'function word(n) { printf "\\%03o\\%03o", n % 256, int(n / 256) }
-BEGIN {
+make_file '
     word(500); word(4000); word(4000); word(0); word(1)
     for (b = 2; b <= 500; b++) word(0)
-    for (j = 1; j <= 4000; j++) { word(1); word(2 + j % 499); word(1); word(j < 4000 ? j + 1 : 0) }
-}')" >room.board
+    for (j = 1; j <= 4000; j++) { word(1); word(2 + j % 499); word(1); word(j < 4000 ? j + 1 : 0) }'
 expect_long() { # BYTES LAST-LINE WORD
     commands=$((commands + 1))
     "$program" room.board "$3" >printed || fail "$3: status $?"

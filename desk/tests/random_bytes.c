@@ -5,7 +5,8 @@
  * table; nothing was touched beside what was lent.
  *
  * Then as many pair questions, as these read tables that nobody checked: among others tables whose sizes fit, with chains to walk along
- * and with random words.
+ * and with random words. Then half as many arrivals and closings, most on sound boards that are not level, so that jobs move and are
+ * listed, and the list ends at closed memory.
  *
  * Arguments: the seed, the number of calls and of pair questions.
  */
@@ -31,6 +32,7 @@
 static uint64_t seed;
 static volatile uint32_t calls_made;
 static uint32_t accepted;
+static uint32_t listed, too_short; /* arrivals and closings that listed moved jobs, and that were lent too short a list for them */
 static uint32_t pairs[12]; /* how often a pair question returned each number */
 static uint32_t found;     /* pair questions that were answered with a job */
 
@@ -147,6 +149,7 @@ static void choose_sizes(struct random *r, uint32_t *benches, uint32_t *jobs)
 static uint8_t *worn_table(struct random *r, size_t *length)
 {
     uint32_t benches, jobs, holder, rose, moved;
+    uint8_t list[JOBBOARD_MOST_LIST_BYTES];
     choose_sizes(r, &benches, &jobs);
     *length = JOBBOARD_TABLE_BYTES(benches, jobs);
     uint8_t *table = memory(*length);
@@ -154,7 +157,7 @@ static uint8_t *worn_table(struct random *r, size_t *length)
         fail("random_bytes: blanking refused");
     for (uint32_t times = random_below(r, 30); times > 0; times--) {
         uint32_t job = random_within(r, 1, jobs), first = random_within(r, 1, benches), second = random_within(r, 1, benches);
-        jobboard_arrival(table, *length, job, first, second, &holder, &rose, &moved);
+        jobboard_arrival(table, *length, job, first, second, list, sizeof list, &holder, &rose, &moved);
     }
     for (uint32_t times = random_below(r, 2) == 0 ? 0 : random_within(r, 1, 4); times > 0; times--) {
         size_t i = random_below(r, (uint32_t)*length);
@@ -191,13 +194,27 @@ static uint8_t *random_table(struct random *r, size_t *length)
     return cut;
 }
 
-/* Makes a board whose chains rise or do not, and puts random words into it: in every place behind the sizes, in some, few or hardly any. */
+/* Makes a board whose chains rise or do not. */
+static void make_sound(struct table *t, struct random *r)
+{
+    make_board(t, r);
+    make_chains(t, random_below(r, 2) == 0 ? NULL : r);
+}
+
+static uint8_t *sound_table(struct random *r, size_t *length)
+{
+    static struct table t;
+    make_sound(&t, r);
+    *length = t.length;
+    return copy_of(t.bytes, t.length);
+}
+
+/* Makes such a board, and puts random words into it: in every place behind the sizes, in some, few or hardly any. */
 static uint8_t *loose_table(struct random *r, size_t *length)
 {
     static const uint32_t apart[] = {1, 6, 40, 4000};
     static struct table t;
-    make_board(&t, r);
-    make_chains(&t, random_below(r, 2) == 0 ? NULL : r);
+    make_sound(&t, r);
     uint32_t jobs = word_at(t.bytes, 1), step = 2 * apart[random_below(r, 4)] - 1;
     for (size_t i = 1 + random_within(r, 1, step); i < t.length / 2; i += random_within(r, 1, step))
         put_word(t.bytes, i, random_below(r, 4) == 0 ? random_below(r, 65536) : random_below(r, random_below(r, 2) == 0 ? 4 : jobs + 2));
@@ -249,14 +266,17 @@ static void examine(const struct call *call, struct answer a, const struct loan 
     if (!beside_untouched(table) || !beside_untouched(lent))
         stop(call, a, "wrote beside what was lent");
     accepted += !refused;
+    listed += jobs_moved(call->kind, a) > 0;
+    too_short += lists_moved(call->kind) && a.returned == JOBBOARD_LIST_TOO_SHORT;
     pairs[a.returned] += call->kind == BETWEEN;
     found += call->kind == BETWEEN && !refused && a.values[0] != 0;
 }
 
-/* Lends a list, or the page of a sheet. */
+/* Lends a list, or the page of a sheet. An arrival or a closing mostly moves few jobs. */
 static struct loan lend_beside(struct random *r, const struct room *room, enum kind kind, const struct loan *table)
 {
-    size_t length = random_below(r, 3) == 0 ? random_below(r, 8) : random_below(r, LONGEST_LIST + 1);
+    bool few = random_below(r, 3) < (lists_moved(kind) ? 2 : 1);
+    size_t length = few ? random_below(r, 8) : random_below(r, LONGEST_LIST + 1);
     if (kind == SHEET && random_below(r, 8) > 0)
         length = random_page(r, table->bytes, table->length);
     uint8_t *before = memory(length);
@@ -280,28 +300,42 @@ static void choose_numbers(struct random *r, struct call *call, const uint8_t *t
     }
 }
 
+/* Chooses the numbers of an arrival or a closing on a sound table: any job, and the benches that some job names. */
+static void choose_job(struct random *r, struct call *call, const uint8_t *table)
+{
+    uint32_t jobs = word_at(table, 1);
+    size_t record = record_of(table, random_within(r, 1, jobs));
+    call->numbers[0] = random_within(r, 1, jobs);
+    call->numbers[1] = word_at(table, record);
+    call->numbers[2] = word_at(table, record + 1);
+}
+
 static void run_call(struct random *r, const struct room *table_room, const struct room *lent_room, enum kind kind)
 {
     size_t table_bytes;
-    bool loose = kind == BETWEEN && random_below(r, 2) == 0;
-    uint8_t *before = loose ? loose_table(r, &table_bytes) : random_table(r, &table_bytes);
+    bool loose = kind == BETWEEN && random_below(r, 2) == 0, sound = lists_moved(kind) && random_below(r, 4) > 0;
+    uint8_t *before = loose ? loose_table(r, &table_bytes) : sound ? sound_table(r, &table_bytes) : random_table(r, &table_bytes);
     struct call call = {kind, {0, 0, 0}, NULL, 0};
     struct loan table = lend(r, table_room, before, table_bytes);
     struct loan lent = lend_beside(r, lent_room, call.kind, &table);
     call.lent = lent.bytes;
     call.lent_bytes = lent.length;
     choose_numbers(r, &call, table.bytes, table_bytes);
+    if (sound)
+        choose_job(r, &call, table.bytes);
     calls_made++;
     examine(&call, make_call(&call, table.bytes, table_bytes), &table, &lent);
     give_back(&table);
     give_back(&lent);
 }
 
-/* Expects enough calls accepted, and enough pair questions with each end, to say something. */
+/* Expects enough calls accepted, enough pair questions with each end, and enough lists written and too short, to say something. */
 static void expect_enough(uint32_t calls, uint32_t accepted_first)
 {
     if (accepted_first < calls / 10)
         fail("random_bytes: only %u calls were accepted", (unsigned)accepted_first);
+    if (listed < calls / 50 || too_short < calls / 200)
+        fail("random_bytes: only %u lists of moved jobs were written, and %u too short", (unsigned)listed, (unsigned)too_short);
     const uint32_t ends[] = {found, pairs[JOBBOARD_OK] - found, pairs[JOBBOARD_SIZES], pairs[JOBBOARD_BENCH_NUMBER], pairs[JOBBOARD_UNSOUND]};
     for (int i = 0; i < 5; i++)
         if (ends[i] < calls / 20)
@@ -321,11 +355,15 @@ int main(int argc, char **argv)
     uint32_t accepted_first = accepted;
     while (calls_made < 2 * calls)
         run_call(&r, &table_room, &lent_room, BETWEEN);
+    while (calls_made < 2 * calls + calls / 2)
+        run_call(&r, &table_room, &lent_room, random_below(&r, 2) == 0 ? ARRIVAL : CLOSING);
     expect_enough(calls, accepted_first);
     printf("random_bytes: %u calls on random bytes and lengths, %u accepted; only what was lent was touched, and only by accepted changes\n",
            (unsigned)calls, (unsigned)accepted_first);
     printf("random_bytes: %u pair questions besides; of all %u found a job and %u none, refused %u with 1, %u with 4, %u with 2\n",
            (unsigned)calls, (unsigned)found, (unsigned)(pairs[JOBBOARD_OK] - found), (unsigned)pairs[JOBBOARD_SIZES],
            (unsigned)pairs[JOBBOARD_BENCH_NUMBER], (unsigned)pairs[JOBBOARD_UNSOUND]);
+    printf("random_bytes: %u arrivals and closings besides; of all %u listed moved jobs, %u were refused for too short a list\n",
+           (unsigned)(calls / 2), (unsigned)listed, (unsigned)too_short);
     return 0;
 }

@@ -410,9 +410,26 @@ static struct answer blank(const struct call *call, uint8_t *table, size_t bytes
     return refused(0);
 }
 
-static struct answer arrival(struct board *s, const uint32_t *numbers)
+/*
+ * Passes on "those that changed holder, the new job left out", "as words into a lent list" and "in path order", and
+ * counts them; a closing has no new job, 0. False where the list is "too short for the moves"; nothing is written then.
+ */
+static bool list_moves(const struct path *p, uint32_t new_job, const struct call *call, uint32_t *moved)
 {
-    uint32_t job = numbers[0], first = numbers[1], second = numbers[2];
+    *moved = 0;
+    for (uint32_t i = 0; i < p->length; i++)
+        *moved += p->jobs[i] != new_job;
+    if (call->lent_bytes < 2 * (size_t)*moved)
+        return false;
+    for (uint32_t i = 0, place = 0; i < p->length; i++)
+        if (p->jobs[i] != new_job)
+            set_word(call->lent, place++, p->jobs[i]);
+    return true;
+}
+
+static struct answer arrival(struct board *s, const struct call *call)
+{
+    uint32_t job = call->numbers[0], first = call->numbers[1], second = call->numbers[2], moved;
     struct path p;
     if (!is_within(job, s->jobs))
         return refused(3);
@@ -427,17 +444,15 @@ static struct answer arrival(struct board *s, const uint32_t *numbers)
     s->holder[job] = gets;
     s->loads[gets]++;
     choose_from(s, gets, &p);
+    if (!list_moves(&p, job, call, &moved))
+        return refused(8);
     turn(s, &p);
-    /* The new job is not one of the other jobs. */
-    uint32_t moved = p.length;
-    for (uint32_t i = 0; i < p.length; i++)
-        if (p.jobs[i] == job)
-            moved--;
     return (struct answer){0, {s->holder[job], p.length == 0 ? gets : p.last, moved}};
 }
 
-static struct answer closing(struct board *s, uint32_t job)
+static struct answer closing(struct board *s, const struct call *call)
 {
+    uint32_t job = call->numbers[0], moved;
     struct path p;
     if (!is_within(job, s->jobs))
         return refused(3);
@@ -447,8 +462,10 @@ static struct answer closing(struct board *s, uint32_t job)
     s->loads[held]--;
     s->first[job] = s->second[job] = s->holder[job] = 0;
     choose_to(s, held, &p);
+    if (!list_moves(&p, 0, call, &moved))
+        return refused(8);
     turn(s, &p);
-    return (struct answer){0, {p.length == 0 ? held : p.first, p.length, UNSET}};
+    return (struct answer){0, {p.length == 0 ? held : p.first, moved, UNSET}};
 }
 
 static struct answer levelling(struct board *s, uint32_t allowance)
@@ -610,9 +627,9 @@ static struct answer on_board(struct board *s, const struct call *call)
 {
     switch (call->kind) {
     case ARRIVAL:
-        return arrival(s, call->numbers);
+        return arrival(s, call);
     case CLOSING:
-        return closing(s, call->numbers[0]);
+        return closing(s, call);
     case LEVELLING:
         return levelling(s, call->numbers[0]);
     case LEVEL_CHECK:

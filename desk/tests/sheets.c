@@ -14,7 +14,7 @@
 static const char *board; /* the one being tried */
 static unsigned calls;
 
-/* The page that is lent, a5 before each call, with some bytes behind it. */
+/* The page that is lent, with some bytes behind the longest. */
 static uint8_t page[JOBBOARD_MOST_PAGE_BYTES + 100];
 
 /* The sheet that is expected. */
@@ -35,23 +35,23 @@ static void add_line(const char *text)
         fail("sheets: %s: the expected sheet is longer than any", board);
 }
 
-/* Asks for the sheet on a page of this length and expects this answer. Bytes that an accepted call need not write stay a5. */
+/* Asks for the sheet on a page of this length and expects this answer. Bytes that an accepted call need not write stay UNWRITTEN. */
 static void expect(struct table *t, size_t page_bytes, struct answer want)
 {
     static struct table before;
     char got[DESCRIPTION], wanted[DESCRIPTION];
     before = *t;
-    memset(page, 0xa5, sizeof page);
-    struct answer a = make_call(&(struct call){SHEET, {0, 0, 0}, page, page_bytes}, t->bytes, t->length);
+    memset(page, UNWRITTEN, sizeof page);
+    struct call call = {SHEET, {0, 0, 0}, page, page_bytes};
+    struct answer a = make_call(&call, t->bytes, t->length);
     describe_answer(a, got);
     describe_answer(want, wanted);
     if (!same_answer(a, want))
         fail("sheets: %s: a page of %zu bytes gives %s, expected %s", board, page_bytes, got, wanted);
     if (memcmp(before.bytes, t->bytes, sizeof before.bytes) != 0)
         fail("sheets: %s: a page of %zu bytes gives %s and changed the table", board, page_bytes, got);
-    for (size_t i = bytes_written(SHEET, a); i < sizeof page; i++)
-        if (page[i] != 0xa5)
-            fail("sheets: %s: a page of %zu bytes gives %s and wrote byte %zu", board, page_bytes, got, i + 1);
+    if (!rest_unwritten(&call, a, sizeof page - page_bytes))
+        fail("sheets: %s: a page of %zu bytes gives %s and wrote more of it than the sheet", board, page_bytes, got);
     calls++;
 }
 

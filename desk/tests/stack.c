@@ -141,10 +141,8 @@ static void measure(const char *name, struct call call, const struct table *t, u
     struct answer a;
     size_t need = need_of(call, t, stack, &a);
     runs++;
-    if (call.kind == ARRIVAL && a.values[2] > most_moved[0])
-        most_moved[0] = a.values[2];
-    if (call.kind == CLOSING && a.values[1] > most_moved[1])
-        most_moved[1] = a.values[1];
+    uint32_t *most = &most_moved[call.kind == CLOSING], moved = jobs_moved(call.kind, a);
+    *most = moved > *most ? moved : *most;
     if (need >= JOBBOARD_STACK_BYTES)
         fail("stack: %s needs %zu bytes, the header promises less than %d", name, need, JOBBOARD_STACK_BYTES);
     if (need > greatest) {
@@ -161,18 +159,19 @@ static bool stands(const struct table *t, uint32_t job)
 /* Measures closing a few of the standing jobs, and arrival of one that is not, at both ends of the paths. */
 static void measure_changes(const struct table *t, uint8_t *stack)
 {
+    static uint8_t list[JOBBOARD_MOST_LIST_BYTES];
     uint32_t free_job = J;
     for (uint32_t job = 1; job <= J; job += 499)
         if (stands(t, job))
-            measure("closing", (struct call){CLOSING, {job, 0, 0}, NULL, 0}, t, stack);
+            measure("closing", (struct call){CLOSING, {job, 0, 0}, list, sizeof list}, t, stack);
     if (stands(t, B))
-        measure("closing", (struct call){CLOSING, {B, 0, 0}, NULL, 0}, t, stack);
+        measure("closing", (struct call){CLOSING, {B, 0, 0}, list, sizeof list}, t, stack);
     while (free_job > 0 && stands(t, free_job))
         free_job--;
     if (free_job == 0)
         return;
-    measure("arrival", (struct call){ARRIVAL, {free_job, 1, 2}, NULL, 0}, t, stack);
-    measure("arrival", (struct call){ARRIVAL, {free_job, B, B - 1}, NULL, 0}, t, stack);
+    measure("arrival", (struct call){ARRIVAL, {free_job, 1, 2}, list, sizeof list}, t, stack);
+    measure("arrival", (struct call){ARRIVAL, {free_job, B, B - 1}, list, sizeof list}, t, stack);
 }
 
 static void measure_board(const struct table *t, uint8_t *stack)

@@ -91,6 +91,13 @@ size_t record_of(const uint8_t *table, uint32_t job)
     return 4 + word_at(table, 0) + 4 * ((size_t)job - 1);
 }
 
+uint32_t holder_of(const uint8_t *table, uint32_t job)
+{
+    size_t record = record_of(table, job);
+    uint32_t holder = word_at(table, record + 2);
+    return holder == 0 ? 0 : word_at(table, record + holder - 1);
+}
+
 void make_stand(struct table *t, uint32_t job, uint32_t first, uint32_t second, uint32_t holder)
 {
     size_t record = record_of(t->bytes, job);
@@ -234,11 +241,8 @@ bool sheet_names_holders(const uint8_t *page, size_t length, const uint8_t *tabl
     for (size_t line = 0; line < length / 69; line++)
         if (!read_line(page + 69 * line, &bench, holders))
             return false;
-    for (uint32_t job = 1; job <= 4000; job++) {
-        size_t record = record_of(table, job);
-        uint32_t holder = job <= jobs ? word_at(table, record + 2) : 0;
-        if (holders[job] != (holder == 0 ? 0 : word_at(table, record + holder - 1)))
+    for (uint32_t job = 1; job <= 4000; job++)
+        if (holders[job] != (job <= jobs ? holder_of(table, job) : 0))
             return false;
-    }
     return true;
 }

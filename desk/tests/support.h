@@ -64,6 +64,9 @@ void make_board(struct table *t, struct random *r);
 /* Gives the place of the first word of a job's record; the holder is the third word, the next job on the chain the fourth. */
 size_t record_of(const uint8_t *table, uint32_t job);
 
+/* Gives the bench that holds a job of a sound table, 0 for a job that is not standing. */
+uint32_t holder_of(const uint8_t *table, uint32_t job);
+
 /* Picks a job that stands, or one that does not; 0 where there is none. */
 uint32_t pick_job(const struct table *t, struct random *r, bool stands);
 

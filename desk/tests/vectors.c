@@ -7,7 +7,9 @@
  * nothing is put in order here. From request 02 on an accepted arrival, closing or levelling leaves every chain rising, so every byte is
  * compared, in the older files too; a refused call and a load leave the bytes as they were. The second hash is of the same table with
  * chain heads and next words zero, and only says which part differs. For a tight set both are of its list; for a wall sheet they are of
- * the table and of the page; for a pair question there is the first alone. List and page are filled with a5 before.
+ * the table and of the page; for an arrival or a closing of request 04 of the table and of the list of moved jobs; for a pair question
+ * there is the first alone. List and page are filled with a5 before. Arrivals and closings of the older files have no list, and get one
+ * that is long enough.
  *
  * Arguments: the folder of tables and the folder of index and calls; the folder of the newest request, which has all.
  */
@@ -115,40 +117,46 @@ static unsigned run_index(const char *tables, const char *data)
     return rows;
 }
 
+/* What the hashes of a call are of: the table, also without its chains; what is lent; both. */
+enum hashes { TABLE_TWICE, TABLE_ONCE, LENT_TWICE, TABLE_AND_LENT };
+
 /* The words of `calls`, and how many numbers follow. */
-static const struct {
+struct form {
     const char *word;
     enum kind kind;
     int numbers;
     bool lends; /* the last number is the length of a list or a page */
-} forms[] = {
-    {"A", ARRIVAL, 3, false},
-    {"D", CLOSING, 1, false},
-    {"L", LEVELLING, 1, false},
-    {"S", TIGHT_SET, 2, true},
-    {"O", LOAD, 1, false},
-    {"sheet", SHEET, 1, true},
-    {"pair", BETWEEN, 2, false},
+    enum hashes hashes;
 };
 
-/* Reads a call, such as "A 27 19 2". */
-static struct call call_of(const char *text)
+static const struct form forms[] = {
+    {"A", ARRIVAL, 3, false, TABLE_TWICE},
+    {"D", CLOSING, 1, false, TABLE_TWICE},
+    {"arrival", ARRIVAL, 4, true, TABLE_AND_LENT},
+    {"closing", CLOSING, 2, true, TABLE_AND_LENT},
+    {"L", LEVELLING, 1, false, TABLE_TWICE},
+    {"S", TIGHT_SET, 2, true, LENT_TWICE},
+    {"O", LOAD, 1, false, TABLE_TWICE},
+    {"sheet", SHEET, 1, true, TABLE_AND_LENT},
+    {"pair", BETWEEN, 2, false, TABLE_ONCE},
+};
+
+/* Reads a call, such as "A 27 19 2". An arrival or a closing that names no list gets the longest one. */
+static const struct form *read_call(const char *text, struct call *call)
 {
     char word[LINE];
-    unsigned n[3] = {0, 0, 0};
-    int numbers = sscanf(text, "%199s %u %u %u", word, &n[0], &n[1], &n[2]) - 1;
-    size_t i = 0, count = sizeof forms / sizeof forms[0];
-    while (i < count && (strcmp(forms[i].word, word) != 0 || forms[i].numbers != numbers))
-        i++;
-    if (i == count)
+    unsigned n[4] = {0, 0, 0, 0};
+    int numbers = sscanf(text, "%199s %u %u %u %u", word, &n[0], &n[1], &n[2], &n[3]) - 1;
+    const struct form *form = forms, *end = forms + sizeof forms / sizeof forms[0];
+    while (form < end && (strcmp(form->word, word) != 0 || form->numbers != numbers))
+        form++;
+    if (form == end)
         fail("vectors: calls: call not understood: %s", text);
-    struct call call = {forms[i].kind, {n[0], n[1], n[2]}, NULL, 0};
-    if (forms[i].lends) {
-        call.lent_bytes = n[numbers - 1];
-        call.lent = memory(call.lent_bytes);
-        memset(call.lent, 0xa5, call.lent_bytes);
-    }
-    return call;
+    *call = (struct call){form->kind, {n[0], n[1], n[2]}, NULL, 0};
+    call->lent_bytes = form->lends ? n[numbers - 1] : lists_moved(form->kind) ? JOBBOARD_MOST_LIST_BYTES : 0;
+    call->lent = memory(call->lent_bytes);
+    memset(call->lent, UNWRITTEN, call->lent_bytes);
+    return form;
 }
 
 /* Writes the answer in the file's words: "19 19 0", "3 level", "none 21", "R 2". */
@@ -185,18 +193,21 @@ static void forget_chains(uint8_t *table, size_t length)
 static void run_call(const struct file *f, const char *text, char result[2 * LINE])
 {
     char words[LINE];
-    struct call call = call_of(text);
+    struct call call;
+    const struct form *form = read_call(text, &call);
     uint8_t *left;
     struct answer a = on_copy(f, &call, &left);
     if (!changes_table(call.kind) && memcmp(left, f->bytes, f->length) != 0)
         fail("vectors: calls: %s %s changed the table", f->name, text);
+    if (!rest_unwritten(&call, a, 0))
+        fail("vectors: calls: %s %s wrote beyond its list or its page", f->name, text);
     answer_words(call.kind, a, words);
     uint64_t table = hash_of(left, f->length), lent = hash_of(call.lent, call.lent_bytes);
     forget_chains(left, f->length);
-    uint64_t first = call.kind == TIGHT_SET ? lent : table;
-    uint64_t second = call.kind == TIGHT_SET || call.kind == SHEET ? lent : hash_of(left, f->length);
+    uint64_t first = form->hashes == LENT_TWICE ? lent : table;
+    uint64_t second = form->hashes == TABLE_TWICE ? hash_of(left, f->length) : lent;
     int used = snprintf(result, 2 * LINE, "%s %016" PRIx64, words, first);
-    if (call.kind != BETWEEN)
+    if (form->hashes != TABLE_ONCE)
         snprintf(result + used, 2 * LINE - (size_t)used, " %016" PRIx64, second);
     free(left);
     free(call.lent);
@@ -242,6 +253,6 @@ int main(int argc, char **argv)
     if (argc != 4)
         fail("vectors: three arguments: the folder of tables, the folder of index and calls, the folder of the newest request");
     run_all(argv[1], argv[2], 96, 720);
-    run_all(argv[3], argv[3], 60, 900);
+    run_all(argv[3], argv[3], 60, 846);
     return 0;
 }

@@ -10,19 +10,23 @@ use borrow.Author.Tests.{eqb-false}
 use Rattle.spec_lists.specs.Lists.{within}
 use Rattle.spec_table.specs.Board.{Board, stands, namesFit}
 use Rattle.spec_table.specs.Table.{sizesFit, blankTable, decode}
-use Rattle.spec_calls.specs.Answers.{arrived, closed, said, levelled, stopped}
-use Rattle.spec_calls.specs.Calls.{Arriving, MayArrive, arrival, closing, levelling, outcome, blanking, arrivalOutcome, closingOutcome, levellingOutcome}
+use Rattle.spec_sharing.specs.Sharing.{Change}
+use Rattle.spec_calls.specs.Answers.{refused, listTooShort, arrived, closed, said, levelled, stopped}
+use Rattle.spec_calls.specs.Calls.{Arriving, Closing, MayArrive, Call, lentTo, arrival, closing, levelling, outcome, blanking, arrivalOutcome, closingOutcome, levellingOutcome}
 use Rattle.spec_lists.proofs.Tests.{true→T, T→true, false→not, failed, passed}
 use Rattle.spec_table.proofs.Named.{pair-fits}
 use Rattle.spec_calls.proofs.Outcomes.{arrival-accepted, closing-accepted, levelling-accepted}
-use Rattle.spec_calls.proofs.Refused.{arrival-number-refused, arrival-bench-refused, arrival-standing-refused, closing-number-refused, closing-standing-refused, arrival-exact, closing-exact}
+use Rattle.spec_calls.proofs.Refused.{arrival-number-refused, arrival-bench-refused, arrival-standing-refused, arrival-list-refused, closing-number-refused, closing-standing-refused, closing-list-refused, arrival-exact, closing-exact}
 use Rattle.table_size.specs.declared.Size.{Size}
 use Rattle.table_size.specs.Sizes.{JobIn, SoundTable}
 use Rattle.table_size.proofs.Sizes.{job-in, job-of-board, bench-of-board}
 use Rattle.table_board.specs.BoardView.{HoldsBoard}
 use Rattle.table_board.proofs.RecordsAsBoard.{sound-holds-board}
-use Rattle.sharing_paths.specs.declared.FoundPath.{FoundPath}
-use Rattle.sharing_arrival.specs.declared.Arrival.{Arrival}
+use Rattle.table_refusals.specs.declared.Refusal.{Refusal}
+use Rattle.sharing_effects.specs.Effects.{lent, TooShort}
+use Rattle.sharing_effects.specs.declared.Attempt.{Attempt}
+use Rattle.sharing_effects.specs.declared.Attempt.the-variants as attempt
+use Rattle.sharing_effects.specs.declared.Attempt.the-variants.{Made}
 use Rattle.sharing_levelling.specs.declared.Levelling.{Levelling}
 use Rattle.sharing_arrival.specs.ArrivalResult.{ArrivalOf}
 use Rattle.sharing_closing.specs.ClosingResult.{ClosingOf}
@@ -58,8 +62,27 @@ level-told true e = ap (λ (k : ℕ). said (levelled k)) e
 level-told false e = ap (λ (k : ℕ). said (stopped k)) e
 
 -- an arrival with two benches
-abbrev pub arriving : ℕ → ℕ → ℕ → Arriving
-arriving j x y = record { job = j; given = x ∷ y ∷ [] }
+abbrev pub arriving : ℕ → ℕ → ℕ → List ℕ → Arriving
+arriving j x y list = record { job = j; given = x ∷ y ∷ []; list = list }
+
+-- a closing
+abbrev pub closingOf : ℕ → List ℕ → Closing
+closingOf j list = record { job = j; list = list }
+
+-- what an arrival and a closing answer, by what came of them
+abbrev pub arrivedAs : Attempt → Answer
+arrivedAs (attempt.Refused r) = Refused r
+arrivedAs (Made e) = Arrived (e .holder) (e .bench) (e .moved)
+
+abbrev pub closedAs : Attempt → Answer
+closedAs (attempt.Refused r) = Refused r
+closedAs (Made e) = Closed (e .bench) (e .moved)
+
+-- a change that is refused since its list is too short leaves what it was lent
+refused-as : (c : Call) {d : Change} {t u list left : List ℕ} {r : Refusal} → TooShort d (lent t list) (lent u left) r → lentTo c ≡ list → (outcome c t) .answer ≡ refused listTooShort → Leaves (outcome c t) (Refused r) u left
+refused-as c {d} {t} {u} {list} {left} {r} a same e =
+    let q = refused-leaves r c t (e ∙ ap refused (sym (a .why))) in
+    record { answer = q .answer; bytes = ap (λ l. l .table) (a .left) ∙ q .bytes; lent = ap (λ l. l .list) (a .left) ∙ sym same ∙ q .lent }
 
 -- an arrival whose numbers are not refused
 pub record Numbered (b : Board) (j x y : ℕ) : Type 0 where
@@ -67,28 +90,14 @@ pub record Numbered (b : Board) (j x y : ℕ) : Type 0 where
   pub fit : T (namesFit (b .benches) (x ∷ y ∷ []))
 
 -- an arrival may go through where its numbers passed and no such job stands
-pub may-arrive : {b : Board} {j x y : ℕ} {h : Bool} → Numbered b j x y → h ≡ stands b j → h ≡ false → MayArrive b (arriving j x y)
+pub may-arrive : {b : Board} {j x y : ℕ} {h : Bool} → Numbered b j x y → h ≡ stands b j → h ≡ false → MayArrive b j (x ∷ y ∷ [])
 may-arrive {b} {j} n e w =
     record { number = n .number; free = false→not (stands b j) (sym e ∙ w); fit = n .fit }
 
 module _ {t : List ℕ} {s : Size} (z : SoundTable t s) where
-  -- 3
-  pub arrival-number : (j x y : ℕ) {h : Bool} → h ≡ within 1 (s .jobs) j → not h ≡ true → Leaves (outcome (arrival (arriving j x y)) t) (Refused JobNumber) t []
-  arrival-number j x y e n =
-      refused-leaves JobNumber (arrival (arriving j x y)) t (arrival-number-refused t (z .sound) (arriving j x y) (failed (job-of-board z j e) n))
-
-  pub closing-number : (j : ℕ) {h : Bool} → h ≡ within 1 (s .jobs) j → not h ≡ true → Leaves (outcome (closing (record { job = j })) t) (Refused JobNumber) t []
-  closing-number j e n =
-      refused-leaves JobNumber (closing (record { job = j })) t (closing-number-refused t (z .sound) (record { job = j }) (failed (job-of-board z j e) n))
-
   -- bench x is not one of 1 to B
   pub bench-wrong : (x : ℕ) {h : Bool} → h ≡ within 1 (s .benches) x → not h ≡ true → within 1 ((decode t) .benches) x ≡ false
   bench-wrong x e n = failed (bench-of-board z x e) n
-
-  -- 4
-  pub arrival-bench : (j x y : ℕ) {h : Bool} → h ≡ within 1 (s .jobs) j → not h ≡ false → (within 1 ((decode t) .benches) x ≡ false) ⊎ (within 1 ((decode t) .benches) y ≡ false) ⊎ (x ≡ y) → Leaves (outcome (arrival (arriving j x y)) t) (Refused BenchNumber) t []
-  arrival-bench j x y e n w =
-      refused-leaves BenchNumber (arrival (arriving j x y)) t (arrival-bench-refused t (z .sound) j x y (T→true (within 1 (length ((decode t) .named)) j) (passed (job-of-board z j e) n)) w)
 
   -- a job of 1 to J can be read
   pub readable : (j : ℕ) {h : Bool} → h ≡ within 1 (s .jobs) j → not h ≡ false → HoldsBoard t s × JobIn s j
@@ -102,33 +111,52 @@ module _ {t : List ℕ} {s : Size} (z : SoundTable t s) where
         fit = (pair-fits ((decode t) .benches) x y) .1 (passed (bench-of-board z x ex) nx, passed (bench-of-board z y ey) ny, eqb-false x y d);
       }
 
-  -- 5
-  pub arrival-standing : (j x y : ℕ) {h : Bool} → Numbered (decode t) j x y → h ≡ stands (decode t) j → h ≡ true → Leaves (outcome (arrival (arriving j x y)) t) (Refused AlreadyStanding) t []
-  arrival-standing j x y n e w =
-      refused-leaves AlreadyStanding (arrival (arriving j x y)) t (arrival-standing-refused t (z .sound) (arriving j x y) (n .fit) (true→T (stands (decode t) j) (sym e ∙ w)))
-
-  -- 6
-  pub closing-standing : (j : ℕ) {h g : Bool} → h ≡ within 1 (s .jobs) j → not h ≡ false → g ≡ stands (decode t) j → not g ≡ true → Leaves (outcome (closing (record { job = j })) t) (Refused NotStanding) t []
-  closing-standing j e n d w =
-      refused-leaves NotStanding (closing (record { job = j })) t (closing-standing-refused t (z .sound) (record { job = j }) (T→true (within 1 (length ((decode t) .named)) j) (passed (job-of-board z j e) n)) (failed d w))
-
-  -- an accepted arrival
-  pub arrival-left : {u : List ℕ} (j x y : ℕ) {r : Arrival} → MayArrive (decode t) (arriving j x y) → ArrivalOf t u j x y r → Leaves (outcome (arrival (arriving j x y)) t) (Arrived (r .holder) (r .rose) (r .moved)) u []
-  unfolding arrivalOutcome
-  arrival-left j x y m a =
-      let e = (arrival-accepted t (z .sound) (arriving j x y) ((arrival-exact t (z .sound) (arriving j x y)) .1 m)) .is in
-      rw e (record { answer = λ i. arrived (a .holder i) (a .rose i) (a .moved i); bytes = a .bytes; lent = refl })
-
-  -- an accepted closing
-  pub closing-left : {u : List ℕ} (j : ℕ) {r : FoundPath} → T (stands (decode t) j) → ClosingOf t u j r → Leaves (outcome (closing (record { job = j })) t) (Closed (r .bench) (r .jobs)) u []
-  unfolding closingOutcome
-  closing-left j p a =
-      let e = (closing-accepted t (z .sound) (record { job = j }) ((closing-exact t (z .sound) (record { job = j })) .1 p)) .is in
-      rw e (record { answer = λ i. closed (a .fell i) (a .moved i); bytes = a .bytes; lent = refl })
-
   -- a levelling
   pub levelling-left : {u : List ℕ} (allowance : ℕ) {r : Levelling} (v : Bool) → LevellingOf t u allowance r → r .level ≡ v → Leaves (outcome (levelling allowance) t) (levelAnswer v (r .paths)) u []
   unfolding levellingOutcome
   levelling-left allowance v a w =
       let e = (levelling-accepted t (z .sound) allowance) .is in
       rw (e, sym (a .ended) ∙ w) (record { answer = level-told v (a .paths); bytes = a .bytes; lent = refl })
+
+  module _ (list : List ℕ) where
+    -- 3
+    pub arrival-number : (j x y : ℕ) {h : Bool} → h ≡ within 1 (s .jobs) j → not h ≡ true → Leaves (outcome (arrival (arriving j x y list)) t) (Refused JobNumber) t list
+    arrival-number j x y e n =
+        refused-leaves JobNumber (arrival (arriving j x y list)) t (arrival-number-refused t (z .sound) (arriving j x y list) (failed (job-of-board z j e) n))
+
+    pub closing-number : (j : ℕ) {h : Bool} → h ≡ within 1 (s .jobs) j → not h ≡ true → Leaves (outcome (closing (closingOf j list)) t) (Refused JobNumber) t list
+    closing-number j e n =
+        refused-leaves JobNumber (closing (closingOf j list)) t (closing-number-refused t (z .sound) (closingOf j list) (failed (job-of-board z j e) n))
+
+    -- 4
+    pub arrival-bench : (j x y : ℕ) {h : Bool} → h ≡ within 1 (s .jobs) j → not h ≡ false → (within 1 ((decode t) .benches) x ≡ false) ⊎ (within 1 ((decode t) .benches) y ≡ false) ⊎ (x ≡ y) → Leaves (outcome (arrival (arriving j x y list)) t) (Refused BenchNumber) t list
+    arrival-bench j x y e n w =
+        refused-leaves BenchNumber (arrival (arriving j x y list)) t (arrival-bench-refused t (z .sound) j x y list (T→true (within 1 (length ((decode t) .named)) j) (passed (job-of-board z j e) n)) w)
+
+    -- 5
+    pub arrival-standing : (j x y : ℕ) {h : Bool} → Numbered (decode t) j x y → h ≡ stands (decode t) j → h ≡ true → Leaves (outcome (arrival (arriving j x y list)) t) (Refused AlreadyStanding) t list
+    arrival-standing j x y n e w =
+        refused-leaves AlreadyStanding (arrival (arriving j x y list)) t (arrival-standing-refused t (z .sound) (arriving j x y list) (n .fit) (true→T (stands (decode t) j) (sym e ∙ w)))
+
+    -- 6
+    pub closing-standing : (j : ℕ) {h g : Bool} → h ≡ within 1 (s .jobs) j → not h ≡ false → g ≡ stands (decode t) j → not g ≡ true → Leaves (outcome (closing (closingOf j list)) t) (Refused NotStanding) t list
+    closing-standing j e n d w =
+        refused-leaves NotStanding (closing (closingOf j list)) t (closing-standing-refused t (z .sound) (closingOf j list) (T→true (within 1 (length ((decode t) .named)) j) (passed (job-of-board z j e) n)) (failed d w))
+
+    -- 8, or an accepted arrival
+    pub arrival-left : {u left : List ℕ} (j x y : ℕ) (r : Attempt) → MayArrive (decode t) j (x ∷ y ∷ []) → ArrivalOf j x y (lent t list) (lent u left) r → Leaves (outcome (arrival (arriving j x y list)) t) (arrivedAs r) u left
+    unfolding arrivalOutcome
+    arrival-left j x y (attempt.Refused q) m a =
+        refused-as (arrival (arriving j x y list)) a refl (arrival-list-refused t (z .sound) (arriving j x y list) m (a .short))
+    arrival-left j x y (Made f) m a =
+        let e = (arrival-accepted t (z .sound) (arriving j x y list) ((arrival-exact t (z .sound) (arriving j x y list)) .1 (m, a .room))) .is in
+        rw e (record { answer = λ i. arrived (a .holder i) (a .bench i) (a .moved i); bytes = a .table; lent = a .list })
+
+    -- 8, or an accepted closing
+    pub closing-left : {u left : List ℕ} (j : ℕ) (r : Attempt) → T (stands (decode t) j) → ClosingOf j (lent t list) (lent u left) r → Leaves (outcome (closing (closingOf j list)) t) (closedAs r) u left
+    unfolding closingOutcome
+    closing-left j (attempt.Refused q) p a =
+        refused-as (closing (closingOf j list)) a refl (closing-list-refused t (z .sound) (closingOf j list) p (a .short))
+    closing-left j (Made f) p a =
+        let e = (closing-accepted t (z .sound) (closingOf j list) ((closing-exact t (z .sound) (closingOf j list)) .1 (p, a .room))) .is in
+        rw e (record { answer = λ i. closed (a .bench i) (a .moved i); bytes = a .table; lent = a .list })

@@ -12,19 +12,19 @@ use Rattle.board_changes.proofs.arrival.Reads as arrive
 use Rattle.board_changes.proofs.closing.Reads as close
 use Rattle.board_changes.proofs.levelling.Reads as level
 
+pub arrival-meets : (κs : Lfts 2) (a : _) (r : _) (s : _) → arrive.Post κs a r s → AsDefined (arrival (record { job = a .1 .0; given = a .1 .1 .0 ∷ a .1 .1 .1 .0 ∷ []; list = a .1 .1 .1 .1 .0 .now })) (a .0 .now) (leftBy r (s .0 .now) (s .1 .1 .1 .1 .0 .now))
+arrival-meets κs a r s p = leaves-outcome p
+
+pub closing-meets : (κs : Lfts 2) (a : _) (r : _) (s : _) → close.Post κs a r s → AsDefined (closing (record { job = a .1 .0; list = a .1 .1 .0 .now })) (a .0 .now) (leftBy r (s .0 .now) (s .1 .1 .0 .now))
+closing-meets κs a r s p = leaves-outcome p
+
 module _ (κs : Lfts 1) where
   pub blank-meets : (a : _) (r : _) (s : _) → blank.Post κs a r s → leftBy r (s .0 .now) [] ≡ blanking (a .1 .0) (a .1 .1 .0) (a .0 .now)
   blank-meets a r s p = leaves-outcome p
 
-  pub arrival-meets : (a : _) (r : _) (s : _) → arrive.Post κs a r s → AsDefined (arrival (record { job = a .1 .0; given = a .1 .1 .0 ∷ a .1 .1 .1 .0 ∷ [] })) (a .0 .now) (leftBy r (s .0 .now) [])
-  arrival-meets a r s p = leaves-outcome p
-
-  pub closing-meets : (a : _) (r : _) (s : _) → close.Post κs a r s → AsDefined (closing (record { job = a .1 .0 })) (a .0 .now) (leftBy r (s .0 .now) [])
-  closing-meets a r s p = leaves-outcome p
-
   pub levelling-meets : (a : _) (r : _) (s : _) → level.Post κs a r s → AsDefined (levelling (a .1 .0)) (a .0 .now) (leftBy r (s .0 .now) [])
   levelling-meets a r s p = leaves-outcome p
 
-  -- "Callers test nothing beforehand": no change asks for anything
-  pub changes-ask-nothing : ((a : _) → blank.Pre κs a) × ((a : _) → arrive.Pre κs a) × ((a : _) → close.Pre κs a) × ((a : _) → level.Pre κs a)
-  changes-ask-nothing = (λ a. tt, λ a. tt, λ a. tt, λ a. tt)
+-- "Callers test nothing beforehand": no change asks for anything
+pub changes-ask-nothing : (κ1 : Lfts 1) (κ2 : Lfts 2) → ((a : _) → blank.Pre κ1 a) × ((a : _) → arrive.Pre κ2 a) × ((a : _) → close.Pre κ2 a) × ((a : _) → level.Pre κ1 a)
+changes-ask-nothing κ1 κ2 = (λ a. tt, λ a. tt, λ a. tt, λ a. tt)

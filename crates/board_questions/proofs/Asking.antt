@@ -5,11 +5,11 @@ use native.Mathlib.Decide.{decLe}
 use mathlib.Core.Path.{_≡_, sym, ap, _∙_}
 use mathlib.Core.Logic.{inl, inr, _≢_}
 use mathlib.Core.Bool.{Bool, true, false, cond}
-use mathlib.Core.List.{List, [], _∷_, _++_}
-use lib.ListN.{length, drop}
+use mathlib.Core.List.{List, [], _∷_}
+use lib.ListN.{length}
 use Rattle.spec_lists.specs.Lists.{within, In}
 use Rattle.spec_table.specs.Board.{Board, Valid, load, heaviest}
-use Rattle.spec_table.specs.Table.{mostBenches, inList, decode}
+use Rattle.spec_table.specs.Table.{inList, mostBenches, decode}
 use Rattle.spec_sharing.specs.Paths.{steps}
 use Rattle.spec_sharing.specs.Sharing.{level, tightSet}
 use Rattle.spec_calls.specs.Calls.{ask, loadOf, heaviestLoad, tightSetOf, formCheck, levelCheck, questionConditions, asked, accepted, outcome, tightSetTold}

@@ -22,10 +22,10 @@ blank-reports κs a r s p = p
 pub check-reports : (κs : Lfts 1) (a : _) (r : _) (s : _) → c-check.Post κs a r s → Reported (outcome (ask formCheck []) (a .0 .now)) r (a .0 .now) [] [] []
 check-reports κs a r s p = p
 
-pub arrival-reports : (κs : Lfts 4) (a : _) (r : _) (s : _) → c-arrival.Post κs a r s → Reported (outcome (arrival (record { job = a .1 .0; given = a .1 .1 .0 ∷ a .1 .1 .1 .0 ∷ [] })) (a .0 .now)) r (s .0 .now) [] (a .1 .1 .1 .1 .0 .now ∷ a .1 .1 .1 .1 .1 .0 .now ∷ a .1 .1 .1 .1 .1 .1 .0 .now ∷ []) (s .1 .1 .1 .1 .0 .now ∷ s .1 .1 .1 .1 .1 .0 .now ∷ s .1 .1 .1 .1 .1 .1 .0 .now ∷ [])
+pub arrival-reports : (κs : Lfts 5) (a : _) (r : _) (s : _) → c-arrival.Post κs a r s → Reported (outcome (arrival (record { job = a .1 .0; given = a .1 .1 .0 ∷ a .1 .1 .1 .0 ∷ []; list = a .1 .1 .1 .1 .0 .now })) (a .0 .now)) r (s .0 .now) (s .1 .1 .1 .1 .0 .now) (a .1 .1 .1 .1 .1 .0 .now ∷ a .1 .1 .1 .1 .1 .1 .0 .now ∷ a .1 .1 .1 .1 .1 .1 .1 .0 .now ∷ []) (s .1 .1 .1 .1 .1 .0 .now ∷ s .1 .1 .1 .1 .1 .1 .0 .now ∷ s .1 .1 .1 .1 .1 .1 .1 .0 .now ∷ [])
 arrival-reports κs a r s p = p
 
-pub closing-reports : (κs : Lfts 3) (a : _) (r : _) (s : _) → c-closing.Post κs a r s → Reported (outcome (closing (record { job = a .1 .0 })) (a .0 .now)) r (s .0 .now) [] (a .1 .1 .0 .now ∷ a .1 .1 .1 .0 .now ∷ []) (s .1 .1 .0 .now ∷ s .1 .1 .1 .0 .now ∷ [])
+pub closing-reports : (κs : Lfts 4) (a : _) (r : _) (s : _) → c-closing.Post κs a r s → Reported (outcome (closing (record { job = a .1 .0; list = a .1 .1 .0 .now })) (a .0 .now)) r (s .0 .now) (s .1 .1 .0 .now) (a .1 .1 .1 .0 .now ∷ a .1 .1 .1 .1 .0 .now ∷ []) (s .1 .1 .1 .0 .now ∷ s .1 .1 .1 .1 .0 .now ∷ [])
 closing-reports κs a r s p = p
 
 pub levelling-reports : (κs : Lfts 3) (a : _) (r : _) (s : _) → c-levelling.Post κs a r s → Reported (outcome (levelling (a .1 .0)) (a .0 .now)) r (s .0 .now) [] (a .1 .1 .0 .now ∷ a .1 .1 .1 .0 .now ∷ []) (s .1 .1 .0 .now ∷ s .1 .1 .1 .0 .now ∷ [])
@@ -50,5 +50,5 @@ pub between-reports : (κs : Lfts 3) (a : _) (r : _) (s : _) → c-between.Post 
 between-reports κs a r s p = p
 
 -- "Callers test nothing beforehand": no C call asks for anything
-pub calls-ask-nothing : (κ1 : Lfts 1) (κ2 : Lfts 2) (κ3 : Lfts 3) (κ4 : Lfts 4) → ((a : _) → c-blank.Pre κ1 a) × ((a : _) → c-check.Pre κ1 a) × ((a : _) → c-arrival.Pre κ4 a) × ((a : _) → c-closing.Pre κ3 a) × ((a : _) → c-levelling.Pre κ3 a) × ((a : _) → c-level-check.Pre κ2 a) × ((a : _) → c-load.Pre κ2 a) × ((a : _) → c-heaviest.Pre κ2 a) × ((a : _) → c-tight-set.Pre κ4 a) × ((a : _) → c-sheet.Pre κ3 a) × ((a : _) → c-between.Pre κ3 a)
-calls-ask-nothing κ1 κ2 κ3 κ4 = (λ a. tt, λ a. tt, λ a. tt, λ a. tt, λ a. tt, λ a. tt, λ a. tt, λ a. tt, λ a. tt, λ a. tt, λ a. tt)
+pub calls-ask-nothing : (κ1 : Lfts 1) (κ2 : Lfts 2) (κ3 : Lfts 3) (κ4 : Lfts 4) (κ5 : Lfts 5) → ((a : _) → c-blank.Pre κ1 a) × ((a : _) → c-check.Pre κ1 a) × ((a : _) → c-arrival.Pre κ5 a) × ((a : _) → c-closing.Pre κ4 a) × ((a : _) → c-levelling.Pre κ3 a) × ((a : _) → c-level-check.Pre κ2 a) × ((a : _) → c-load.Pre κ2 a) × ((a : _) → c-heaviest.Pre κ2 a) × ((a : _) → c-tight-set.Pre κ4 a) × ((a : _) → c-sheet.Pre κ3 a) × ((a : _) → c-between.Pre κ3 a)
+calls-ask-nothing κ1 κ2 κ3 κ4 κ5 = (λ a. tt, λ a. tt, λ a. tt, λ a. tt, λ a. tt, λ a. tt, λ a. tt, λ a. tt, λ a. tt, λ a. tt, λ a. tt)

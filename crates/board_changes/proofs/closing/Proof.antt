@@ -22,8 +22,8 @@ enum-known-s c = search needs
 
 closing-on-requires : tie.Need-closing-on-requires
 closing-on-requires c κs =
-    let checked = c .before .before .before .before .before .before .check-with .ensures in
-    (rw (c .before .before .before .before .s .given .1) at (checked .1 .says), checked .0)
+    let checked = c .before .before .before .before .before .before .before .check-with .ensures in
+    (rw (c .before .before .before .before .before .s .given .1) at (checked .1 .says), checked .0)
 
 same-length : tie.Need-same-length
 same-length c = search needs
@@ -34,8 +34,11 @@ returns c = form-refused _ (closing _) tt _ (rw (c .before .r .given .1) at (c .
 same-length-2 : tie.Need-same-length-2
 same-length-2 c = search needs
 
+same-length-3 : tie.Need-same-length-3
+same-length-3 c = search needs
+
 returns-2 : tie.Need-returns-2
-returns-2 c = c .before .before .closing-on .ensures
+returns-2 c = c .before .before .before .before .closing-on .ensures
 
 pub closing-spec : {M : Type 1} → statement M
 closing-spec =
@@ -50,4 +53,5 @@ closing-spec =
     same-length
     returns
     same-length-2
+    same-length-3
     returns-2)

@@ -13,8 +13,11 @@ three-requires c κs = search needs
 same-length : tie.Need-same-length
 same-length c = search needs
 
+same-length-2 : tie.Need-same-length-2
+same-length-2 c = search needs
+
 returns : tie.Need-returns
-returns c = reported-values _ _ (c .before .before .before .before .before .before .arrival .ensures) tt (c .three .ensures)
+returns c = reported-values _ _ (c .before .before .before .before .before .before .before .before .arrival .ensures) tt (c .three .ensures)
 
 pub jobboard-arrival-spec : {M : Type 1} → statement M
-jobboard-arrival-spec = tie.close (tie.spec arrival-requires three-requires same-length returns)
+jobboard-arrival-spec = tie.close (tie.spec arrival-requires three-requires same-length same-length-2 returns)

@@ -13,8 +13,11 @@ two-requires c κs = search needs
 same-length : tie.Need-same-length
 same-length c = search needs
 
+same-length-2 : tie.Need-same-length-2
+same-length-2 c = search needs
+
 returns : tie.Need-returns
-returns c = reported-values _ _ (c .before .before .before .before .before .closing .ensures) tt (c .two .ensures)
+returns c = reported-values _ _ (c .before .before .before .before .before .before .before .closing .ensures) tt (c .two .ensures)
 
 pub jobboard-closing-spec : {M : Type 1} → statement M
-jobboard-closing-spec = tie.close (tie.spec closing-requires two-requires same-length returns)
+jobboard-closing-spec = tie.close (tie.spec closing-requires two-requires same-length same-length-2 returns)

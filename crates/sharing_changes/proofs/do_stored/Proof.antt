@@ -5,7 +5,7 @@ use Rattle.sharing_changes.proofs.do_stored.Statement.{statement}
 use Rattle.sharing_changes.proofs.do_stored.Tie as tie
 
 bytes-requires : tie.Need-bytes-requires
-bytes-requires c κs = c .before .pre .0 .size .limits
+bytes-requires c κs = c .before .before .pre .0 .size .limits
 
 sub-do-in-copy : tie.Need-sub-do-in-copy
 sub-do-in-copy c = search needs
@@ -18,16 +18,27 @@ part-copy-end c = search needs
 
 do-in-copy-requires : tie.Need-do-in-copy-requires
 do-in-copy-requires c κs =
-    let (z, (m, (l, long))) = c .before .before .before .before .before .before .pre in
-    (z, (m, (l, (long, room-long (z .size) (c .before .before .before .before .bytes .ensures)))))
+    let (z, (m, (l, long))) = c .before .before .before .before .before .before .before .before .pre in
+    (z, (m, (l, (long, room-long (z .size) (c .before .before .before .before .before .bytes .ensures)))))
 
 same-length : tie.Need-same-length
 same-length c = search needs
 
+same-length-2 : tie.Need-same-length-2
+same-length-2 c = search needs
+
 returns : tie.Need-returns
-returns c = c .before .before .before .do-in-copy .ensures
+returns c = c .before .before .before .before .before .do-in-copy .ensures
 
 pub do-stored-spec : {M : Type 1} → statement M
 do-stored-spec =
     tie.close
-    (tie.spec bytes-requires sub-do-in-copy part-copy-start part-copy-end do-in-copy-requires same-length returns)
+    (tie.spec
+    bytes-requires
+    sub-do-in-copy
+    part-copy-start
+    part-copy-end
+    do-in-copy-requires
+    same-length
+    same-length-2
+    returns)
