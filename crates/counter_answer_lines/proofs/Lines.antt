@@ -1,5 +1,5 @@
 -- An answer's line, from the pieces that are written of it.
-use Prim.Native.Nat.{ℕ, _≤_}
+use Prim.Native.Nat.{ℕ, zero, suc, _≤_}
 use native.Mathlib.Omega.{arith}
 use mathlib.Core.Path.{_≡_, refl, sym, ap, subst, _∙_}
 use mathlib.Core.Bool.{true, false}
@@ -60,7 +60,8 @@ wrote-accepted {b} {c} {d} {e} {i} {j} {k} {l} {n} {letter} repeated a listed f 
     let ns = repeated ++ drop 1 (inNumbers a) in
     subst (Wrote b e i l) (accepted-text letter repeated a listed (sym f ∙ h)) (wrote-line (ns ++ listed) (wrote-numbers ns listed u v) w)
 
--- an answer's first value is the second of its numbers
-pub first-value : (vs ns : List ℕ) → vs ≡ drop 1 ns → nth vs 1 0 ≡ nth ns 2 0
-first-value vs [] e = ap (λ l. nth l 1 0) e
-first-value vs (n ∷ ns) e = ap (λ l. nth l 1 0) e
+-- an answer's value k is number k + 1 of it: the number that is returned stands before its values
+pub value-number : (vs ns : List ℕ) (k : ℕ) → 1 ≤ k → vs ≡ drop 1 ns → nth vs k 0 ≡ nth ns (suc k) 0
+value-number vs ns zero p e = absurd (omega arith)
+value-number vs [] (suc k) p e = ap (λ l. nth l (suc k) 0) e
+value-number vs (n ∷ ns) (suc k) p e = ap (λ l. nth l (suc k) 0) e

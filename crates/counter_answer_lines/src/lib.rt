@@ -1,13 +1,13 @@
 // The lines that the counter program prints for answers, written into a lent buffer behind its first `at` bytes.
 ghost use mathlib.Core.List.{[], _∷_, _++_};
 ghost use Prim.Native.Nat.{suc, _+_, _*_, _≤_};
-ghost use lib.ListN.{length, take, drop};
+ghost use lib.ListN.{length, drop};
 ghost use Rattle.spec_lists.specs.Lists.{nth};
-ghost use Rattle.spec_table.specs.Table.{words, mostBenches};
+ghost use Rattle.spec_table.specs.Table.{mostBenches};
 ghost use Rattle.spec_calls.specs.Answers.{inNumbers};
 ghost use Rattle.board_answers.specs.Answered.{answerOf, valuesOf};
 ghost use Rattle.counter_printing.specs.Wrote.{Wrote, fieldMost, spaced};
-ghost use Rattle.counter_answer_lines.specs.AnswerLines.{lineMost, refusalText, answerText};
+ghost use Rattle.counter_answer_lines.specs.AnswerLines.{lineMost, refusalText, answerText, listingText};
 use board_answers::Answer;
 use board_answers::Values;
 
@@ -68,8 +68,7 @@ pub fn listing(
     requires { ⌜ 2 * nth (inNumbers (answerOf a)) (suc k) 0 ≤ length (now list) ⌝ }
     requires { ⌜ length (now list) ≤ 2 * mostBenches ⌝ }
     ensures { λ r. ⌜ Wrote (now (out .entry)) (now (out .exit)) at r
-        (answerText letter (valuesOf repeated) (answerOf a) (take (nth (inNumbers (answerOf a)) (suc k) 0) (words (now (list .entry)))))
-        ⌝ }
+        (listingText letter (valuesOf repeated) k (answerOf a) (now (list .entry))) ⌝ }
     ensures short { λ r. ⌜ r ≤ at + lineMost ⌝ }
 {
     if a.number() != 0 {

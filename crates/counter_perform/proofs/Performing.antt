@@ -1,5 +1,5 @@
 -- The program's table as a part of its bytes, and the replies to commands.
-use Prim.Native.Nat.{ℕ, _+_, _*_, _≤_}
+use Prim.Native.Nat.{ℕ, suc, _+_, _*_, _≤_}
 use Prim.Native.Char.{code}
 use native.Mathlib.Omega.{arith}
 use mathlib.Core.Path.{_≡_, refl, sym, ap, subst, _∙_}
@@ -9,10 +9,10 @@ use mathlib.Core.Option.{Option, none, some}
 use lib.ListN.{length, take, drop, length-append}
 use lib.Seq.{take-at, length-take-le, length-front}
 use Rattle.spec_lists.specs.Lists.{nth}
-use Rattle.spec_table.specs.Table.{words, bytesOf, lengthFor, sizesFit, decode, blankTable, mostBenches}
-use Rattle.spec_sharing.specs.Sharing.{tightSet}
+use Rattle.spec_table.specs.Table.{bytesOf, inList, lengthFor, sizesFit, decode, blankTable, mostBenches}
+use Rattle.spec_sharing.specs.Sharing.{arrive, close, tightSet}
 use Rattle.spec_calls.specs.Answers.{Outcome, Refusal, inNumbers, refusedOr, firstHolding, sizes, said, blanked, refusalNumber}
-use Rattle.spec_calls.specs.Calls.{outcome, blanking, arrival, closing, ask, heaviestLoad, tightSetOf, telling, answering, asked, accepted, tightSetTold, refusals}
+use Rattle.spec_calls.specs.Calls.{Call, Arriving, Closing, outcome, blanking, arrival, closing, ask, heaviestLoad, tightSetOf, lentTo, arrivalOutcome, closingOutcome, telling, answering, asked, accepted, tightSetTold, refusals}
 use Rattle.spec_calls.specs.Tally.{Tally, zeroTally, noted}
 use Rattle.spec_calls.proofs.Blanking.{blanking-refused}
 use Rattle.spec_table.proofs.Words.{length-bytesOf}
@@ -28,11 +28,10 @@ use Rattle.board_answers.specs.Answered.{answerOf, Leaves}
 use Rattle.board_answers.specs.declared.Answer.{Answer}
 use Rattle.board_tally.specs.Counts.{tallyOf}
 use Rattle.counter_printing.specs.Wrote.{Wrote}
-use Rattle.counter_answer_lines.specs.AnswerLines.{lineMost, refusalText, answerText}
+use Rattle.counter_answer_lines.specs.AnswerLines.{lineMost, refusalText, answerText, listingText}
 use Rattle.counter_state.specs.State.{tableMost, counterOf, Room, AnswerPrinted}
 use Rattle.counter_state.specs.declared.Counter.{Counter}
 use Rattle.counter_state.specs.declared.Reply.{Reply}
-use Rattle.counter_state.proofs.Answering.{printed-as}
 use Rattle.counter_perform.specs.Performed.{Replies, Performs}
 
 -- a part of a list at its beginning, written anew in its length
@@ -49,14 +48,38 @@ replied {next} {n} {tally} {text} {text'} {bytes} {out} {out'} {at} {r} l h t y 
       short = told .short;
     }
 
--- a tight set's benches are in the list that is left; a refusal has none
-pub listed-fits : (t list : List ℕ) (h : ℕ) {u l : List ℕ} {a : Answer} → Leaves (outcome (ask (tightSetOf h) list) t) a u l → 2 * nth (inNumbers (answerOf a)) 2 0 ≤ length l
-unfolding outcome asked accepted tightSetTold
-listed-fits t list h v = rw (v .answer, v .lent) (go (firstHolding (refusals (ask (tightSetOf h) list) t)))
-  where
-    go : (f : Option Refusal) → let o = refusedOr f t list (accepted (ask (tightSetOf h) list) t (decode t)) in 2 * nth (inNumbers (o .answer)) 2 0 ≤ length (o .lent)
-    go none = let set = tightSet (decode t) h in omega (arith, length-append (bytesOf set) (drop (2 * length set) list), length-bytesOf set)
-    go (some r) = omega arith
+-- words that are written into a list are in it
+in-lent : (ws list : List ℕ) → 2 * length ws ≤ length (inList ws list)
+in-lent ws list = omega (arith, length-append (bytesOf ws) (drop (2 * length ws) list), length-bytesOf ws)
+
+module _ (t : List ℕ) {u l : List ℕ} {a : Answer} where
+  -- the words that a call lists, as many as its value k + 1 says, are in the list that it leaves; a refusal lists none
+  listed-fits : (c : Call) (k : ℕ) (ws : List ℕ) → let o = accepted c t (decode t) in nth (inNumbers (o .answer)) (suc (suc k)) 0 ≡ length ws → o .lent ≡ inList ws (lentTo c) → Leaves (outcome c t) a u l → 2 * nth (inNumbers (answerOf a)) (suc (suc k)) 0 ≤ length l
+  unfolding outcome
+  listed-fits c k ws n e v = rw (v .answer, v .lent) (go (firstHolding (refusals c t)))
+    where
+      go : (f : Option Refusal) → let o = refusedOr f t (lentTo c) (accepted c t (decode t)) in 2 * nth (inNumbers (o .answer)) (suc (suc k)) 0 ≤ length (o .lent)
+      go none = rw (n, e) (in-lent ws (lentTo c))
+      go (some r) = omega arith
+
+  -- so the jobs that an arrival moves ..
+  pub arrival-fits : (x : Arriving) → Leaves (outcome (arrival x) t) a u l → 2 * nth (inNumbers (answerOf a)) 4 0 ≤ length l
+  unfolding accepted arrivalOutcome
+  arrival-fits x v = listed-fits (arrival x) 2 ((arrive (decode t) (x .job) (x .given)) .moved) refl refl v
+
+  -- .. and a closing, ..
+  pub closing-fits : (x : Closing) → Leaves (outcome (closing x) t) a u l → 2 * nth (inNumbers (answerOf a)) 3 0 ≤ length l
+  unfolding accepted closingOutcome
+  closing-fits x v = listed-fits (closing x) 1 ((close (decode t) (x .job)) .moved) refl refl v
+
+  -- .. and a tight set's benches
+  pub tight-fits : (h : ℕ) (list : List ℕ) → Leaves (outcome (ask (tightSetOf h) list) t) a u l → 2 * nth (inNumbers (answerOf a)) 2 0 ≤ length l
+  unfolding accepted asked tightSetTold
+  tight-fits h list v = listed-fits (ask (tightSetOf h) list) 0 (tightSet (decode t) h) refl refl v
+
+  -- what a call leaves that was lent the program's list
+  lent-own : (call : List ℕ → Call) {list : List ℕ} → list ≡ counterList → Leaves (outcome (call list) t) a u l → Leaves (outcome (call counterList) t) a u l
+  lent-own call e v = subst (λ (k : List ℕ). Leaves (outcome (call k) t) a u l) e v
 
 -- the list has no more words than there are benches
 pub list-short : (l : List ℕ) {list : List ℕ} → list ≡ counterList → length l ≡ length list → length l ≤ 2 * mostBenches
@@ -98,25 +121,33 @@ module _ {c : Counter} {d : List ℕ} (room : Room c d) where
       unfolding lineFor done after
       heaviest-replies v e told = stays (λ i. answerText (code "H") (e i) (v .answer i) []) told
 
-      module _ {n : ℕ} {t : Tally} (same : n ≡ c .length) (counts : t ≡ (noted (tallyOf (c .tally)) (answerOf a)) .tally) where
-        -- an arrival or a closing: its answer is noted
-        changes : (letter : ℕ) {o : Outcome} {ms : List ℕ} → Leaves o a u [] → length u ≡ length (take (c .length) d) → ns ≡ ms → AnswerPrinted n t (answerText letter ns (answerOf a) []) out out' at r → Replies (record { table = o .table; tally = (noted (tallyOf (c .tally)) (o .answer)) .tally }) (answerText letter ms (o .answer) []) (u ++ drop (c .length) d) out out' at r
-        changes letter {o} v kept e told =
-            let k = part-kept (c .length) d u (omega arith) kept in
-            replied (k .1 ∙ room .long) (subst (λ (m : ℕ). m ≤ tableMost) (sym same) (room .within))
-            (ap (λ (m : ℕ). take m (u ++ drop (c .length) d)) same ∙ k .0 ∙ v .bytes)
-            (counts ∙ (λ i. (noted (tallyOf (c .tally)) (v .answer i)) .tally))
-            (λ i. answerText letter (e i) (v .answer i) []) told
-
-        -- "A job, holder, bench that rose, moved"
-        pub arrival-replies : (j x y : ℕ) → Leaves (outcome (arrival (record { job = j; given = x ∷ y ∷ [] })) (take (c .length) d)) a u [] → length u ≡ length (take (c .length) d) → ns ≡ j ∷ [] → AnswerPrinted n t (answerText (code "A") ns (answerOf a) []) out out' at r → Performs (takeIn j x y) (counterOf c d) (u ++ drop (c .length) d) out out' at r
+      module _ {list l : List ℕ} (own : list ≡ counterList) where
+        -- "S height, benches, inside jobs, then the benches"
+        pub tight-replies : (h : ℕ) → Leaves (outcome (ask (tightSetOf h) list) (take (c .length) d)) a u l → ns ≡ h ∷ [] → AnswerPrinted (c .length) (tallyOf (c .tally)) (listingText (code "S") ns 1 (answerOf a) l) out out' at r → Performs (askTightSet h) (counterOf c d) d out out' at r
         unfolding lineFor done after
-        arrival-replies j x y v kept e told = changes (code "A") v kept e told
+        tight-replies h w e told =
+            let v = lent-own (take (c .length) d) (ask (tightSetOf h)) own w in
+            stays (λ i. listingText (code "S") (e i) 1 (v .answer i) (v .lent i)) told
 
-        -- "D job, bench that fell, moved"
-        pub closing-replies : (j : ℕ) → Leaves (outcome (closing (record { job = j })) (take (c .length) d)) a u [] → length u ≡ length (take (c .length) d) → ns ≡ j ∷ [] → AnswerPrinted n t (answerText (code "D") ns (answerOf a) []) out out' at r → Performs (closeJob j) (counterOf c d) (u ++ drop (c .length) d) out out' at r
-        unfolding lineFor done after
-        closing-replies j v kept e told = changes (code "D") v kept e told
+        module _ {n : ℕ} {t : Tally} (same : n ≡ c .length) (counts : t ≡ (noted (tallyOf (c .tally)) (answerOf a)) .tally) (kept : length u ≡ length (take (c .length) d)) where
+          -- an arrival or a closing: its answer is noted, and the jobs that it moved are listed
+          changes : (letter k : ℕ) {o : Outcome} {ms : List ℕ} → Leaves o a u l → ns ≡ ms → AnswerPrinted n t (listingText letter ns k (answerOf a) l) out out' at r → Replies (record { table = o .table; tally = (noted (tallyOf (c .tally)) (o .answer)) .tally }) (listingText letter ms k (o .answer) (o .lent)) (u ++ drop (c .length) d) out out' at r
+          changes letter k {o} v e told =
+              let w = part-kept (c .length) d u (omega arith) kept in
+              replied (w .1 ∙ room .long) (subst (λ (m : ℕ). m ≤ tableMost) (sym same) (room .within))
+              (ap (λ (m : ℕ). take m (u ++ drop (c .length) d)) same ∙ w .0 ∙ v .bytes)
+              (counts ∙ (λ i. (noted (tallyOf (c .tally)) (v .answer i)) .tally))
+              (λ i. listingText letter (e i) k (v .answer i) (v .lent i)) told
+
+          -- "A job, holder, bench that rose, moved", then the moved jobs
+          pub arrival-replies : (j x y : ℕ) → Leaves (outcome (arrival (record { job = j; given = x ∷ y ∷ []; list = list })) (take (c .length) d)) a u l → ns ≡ j ∷ [] → AnswerPrinted n t (listingText (code "A") ns 3 (answerOf a) l) out out' at r → Performs (takeIn j x y) (counterOf c d) (u ++ drop (c .length) d) out out' at r
+          unfolding lineFor done after
+          arrival-replies j x y v e told = changes (code "A") 3 (lent-own (take (c .length) d) (λ k. arrival (record { job = j; given = x ∷ y ∷ []; list = k })) own v) e told
+
+          -- "D job, bench that fell, moved", then the moved jobs
+          pub closing-replies : (j : ℕ) → Leaves (outcome (closing (record { job = j; list = list })) (take (c .length) d)) a u l → ns ≡ j ∷ [] → AnswerPrinted n t (listingText (code "D") ns 2 (answerOf a) l) out out' at r → Performs (closeJob j) (counterOf c d) (u ++ drop (c .length) d) out out' at r
+          unfolding lineFor done after
+          closing-replies j v e told = changes (code "D") 2 (lent-own (take (c .length) d) (λ k. closing (record { job = j; list = k })) own v) e told
 
       -- "B benches jobs": the table is blank and the tally zero, whatever was before
       pub table-replies : (benches jobs : ℕ) {s : Size} {n : ℕ} {t : Tally} → sizing benches jobs ≡ Fit s → n ≡ lengthFor (s .benches) (s .jobs) → Leaves (blanking benches jobs (take n d)) a u [] → length u ≡ length (take n d) → t ≡ zeroTally → ns ≡ benches ∷ jobs ∷ [] → AnswerPrinted n t (answerText (code "B") ns (answerOf a) []) out out' at r → Performs (setTable benches jobs) (counterOf c d) (u ++ drop n d) out out' at r
@@ -131,10 +162,3 @@ module _ {c : Counter} {d : List ℕ} (room : Room c d) where
           let w : answerOf a ≡ said blanked = v .answer ∙ ap (λ (o : Outcome). o .answer) own in
           rw theirs
           (replied (k .1 ∙ room .long) within (k .0 ∙ v .bytes ∙ ap (λ (o : Outcome). o .table) own) z (λ i. answerText (code "B") (f i) (w i) []) told)
-
-  -- "S height, benches, inside jobs, then the benches"
-  pub tight-replies : (h : ℕ) {list l u ns out out' : List ℕ} {at next : ℕ} {a : Answer} → list ≡ counterList → Leaves (outcome (ask (tightSetOf h) list) (take (c .length) d)) a u l → ns ≡ h ∷ [] → Wrote out out' at next (answerText (code "S") ns (answerOf a) (take (nth (inNumbers (answerOf a)) 2 0) (words l))) → next ≤ at + lineMost → Performs (askTightSet h) (counterOf c d) d out out' at (record { counter = c; at = next })
-  unfolding lineFor done after
-  tight-replies h {list} {l} {u} {ns} {out} {out'} {at} {next} {a} f w e wrote short =
-      let v = subst (λ (k : List ℕ). Leaves (outcome (ask (tightSetOf h) k) (take (c .length) d)) a u l) f w in
-      stays refl (printed-as c (λ i. answerText (code "S") (e i) (v .answer i) (take (nth (inNumbers (v .answer i)) 2 0) (words (v .lent i)))) wrote short)

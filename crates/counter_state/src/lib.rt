@@ -2,16 +2,16 @@
 ghost use mathlib.Core.Path.{_≡_};
 ghost use mathlib.Core.List.{List, []};
 ghost use Prim.Native.Nat.{ℕ, suc, _+_, _*_, _≤_};
-ghost use lib.ListN.{length, take};
+ghost use lib.ListN.{length};
 ghost use Rattle.spec_lists.specs.Lists.{nth};
-ghost use Rattle.spec_table.specs.Table.{words, mostBenches};
+ghost use Rattle.spec_table.specs.Table.{mostBenches};
 ghost use Rattle.spec_calls.specs.Answers.{refusalNumber, inNumbers};
 ghost use Rattle.spec_calls.specs.Tally.{noted};
 ghost use Rattle.table_refusals.specs.Refusals.{refusalOf};
 ghost use Rattle.board_answers.specs.Answered.{answerOf, valuesOf};
 ghost use Rattle.board_tally.specs.Counts.{tallyOf};
 ghost use Rattle.spec_counter.specs.Counter.{atFirst, counterList};
-ghost use Rattle.counter_answer_lines.specs.AnswerLines.{lineMost, refusalText, answerText};
+ghost use Rattle.counter_answer_lines.specs.AnswerLines.{lineMost, refusalText, answerText, listingText};
 ghost use Rattle.counter_state.specs.State.{counterOf, AnswerPrinted};
 use board_answers::Answer;
 use board_answers::Values;
@@ -111,9 +111,7 @@ pub fn write_listing(
     requires { ⌜ 2 * nth (inNumbers (answerOf a)) (suc k) 0 ≤ length (now list) ⌝ }
     requires { ⌜ length (now list) ≤ 2 * mostBenches ⌝ }
     ensures { λ r. ⌜ AnswerPrinted (c .length) (tallyOf (c .tally))
-        (answerText letter (valuesOf repeated) (answerOf a)
-        (take (nth (inNumbers (answerOf a)) (suc k) 0) (words (now (list .entry)))))
-        (now (out .entry)) (now (out .exit)) at r ⌝ }
+        (listingText letter (valuesOf repeated) k (answerOf a) (now (list .entry))) (now (out .entry)) (now (out .exit)) at r ⌝ }
 {
     let next = counter_answer_lines::listing(out, at, letter, repeated, a, k, list);
     Reply {

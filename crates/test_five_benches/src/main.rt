@@ -18,6 +18,9 @@ const TABLE: usize = 98;
 
 const TABLES: usize = 1078;
 
+// Bytes for the jobs that an arrival moves: one less than there are benches, at most.
+const LIST: usize = 8;
+
 // More than there are orders.
 const MANY: u64 = 4000000;
 
@@ -58,8 +61,9 @@ fn keep_table(tables: &mut [u8; TABLES], jobs: usize, t: &[u8; TABLE])
 }
 
 fn arrives(t: &mut [u8], job: usize) -> bool {
+    let mut list = [0; LIST];
     if job <= JOBS {
-        match board_changes::arrival(t, job, wide(FIRST[job]), wide(SECOND[job])) {
+        match board_changes::arrival(t, job, wide(FIRST[job]), wide(SECOND[job]), &mut list) {
             Answer::Arrived(_, _, _) => true,
             _ => false,
         }

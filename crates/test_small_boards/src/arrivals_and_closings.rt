@@ -1,40 +1,25 @@
 // Arrivals and closings, each held against what the book foretells and against the loads and holders before and
 // after; and the load of a bench.
 use crate::board::Board;
-use crate::board::MOST_JOBS;
 use crate::board_faults::loads;
 use crate::board_faults::same_loads;
 use crate::calls::Call;
 use crate::calls::Reply;
+use crate::calls::only_returned;
 use crate::calls::perform;
 use crate::counts;
+use crate::moved_jobs;
+use crate::moved_jobs::moved;
 use crate::outcomes::Outcome;
 use crate::random;
 use test_solver::MOST_BENCHES;
-use test_solver::bit;
-use test_solver::bytes;
 use test_solver::give;
 use test_solver::job_book;
 
-// Counts the jobs but this one that have another holder.
-fn moved(before: Board, after: Board, but: usize) -> usize {
-    let mut n: usize = 0;
-    let mut job = 1;
-    while job <= MOST_JOBS {
-        let is_other = before.holder(job) != after.holder(job);
-        n = std::num::wrapping_add_usize(n, bit(is_other & (job != but)));
-        job += 1;
-    }
-    n
-}
-
 // Holds a call that is refused, or a question, against the number that is due: it leaves all bytes.
 fn refused(before: Board, reply: Reply, due: u32) -> Outcome {
-    let after = reply.board;
-    let was = before.table;
-    let is = after.table;
-    let right = (reply.number == due) & bytes::same(was, is);
-    Outcome::refused(after, reply.number, right, counts::BAD_REFUSAL)
+    let right = only_returned(before, reply, due);
+    Outcome::refused(reply.board, reply.number, right, counts::BAD_REFUSAL)
 }
 
 // Tells whether one more job stands on exactly this bench of the upper board, and so many jobs but this one have
@@ -46,11 +31,12 @@ fn one_more(lower: Board, upper: Board, bench: usize, job: usize, n: usize) -> b
         & (moved(lower, upper, job) == n)
 }
 
-// Makes an arrival. If it is accepted, the load of the bench that rose is one more, and the new job's holder and the
-// number of jobs moved are true.
+// Makes an arrival. If it is accepted, the load of the bench that rose is one more, the new job's holder and the
+// number of jobs moved are true, and the moved jobs lead from that holder to the bench that rose.
 fn arrive(board: Board, job: usize, first: usize, second: usize, due: u32) -> Outcome {
     let book = board.book;
-    let reply = perform(board, Call::Arrival(job, first, second));
+    let call = Call::Arrival(job, first, second);
+    let reply = perform(board, call);
     if reply.number != 0 {
         return refused(board, reply, due);
     }
@@ -61,7 +47,9 @@ fn arrive(board: Board, job: usize, first: usize, second: usize, due: u32) -> Ou
         & (0 < reply.first)
         & (reply.first <= MOST_BENCHES)
         & (after.holder(job) == reply.first)
-        & one_more(board, after, reply.second, job, reply.third);
+        & one_more(board, after, reply.second, job, reply.third)
+        & moved_jobs::are_listed(board, reply, job, reply.first, reply.second, reply.third)
+        & moved_jobs::short_list_refused(board, call, reply.third);
     Outcome::new(
         after,
         counts::ARRIVALS,
@@ -81,8 +69,8 @@ pub fn arrival(board: Board, seed: u64) -> Outcome {
     arrive(board, job, first, second, due)
 }
 
-// Makes a drawn closing. If it is accepted, the load of the bench that fell is one less, and the number of jobs moved
-// is true.
+// Makes a drawn closing. If it is accepted, the load of the bench that fell is one less, the number of jobs moved is
+// true, and the moved jobs lead from the bench that fell to the one that held the closed job.
 pub fn closing(board: Board, seed: u64) -> Outcome {
     let book = board.book;
     let job = random::number(seed, 2, board.jobs);
@@ -94,7 +82,17 @@ pub fn closing(board: Board, seed: u64) -> Outcome {
     let struck = job_book::write(book, job, 0, 0);
     let mut after = reply.board;
     after.book = struck;
-    let right = (due == 0) & one_more(after, board, reply.first, job, reply.second);
+    let right = (due == 0)
+        & one_more(after, board, reply.first, job, reply.second)
+        & moved_jobs::are_listed(
+            board,
+            reply,
+            job,
+            reply.first,
+            board.holder(job),
+            reply.second,
+        )
+        & moved_jobs::short_list_refused(board, Call::Closing(job), reply.second);
     Outcome::new(
         after,
         counts::CLOSINGS,

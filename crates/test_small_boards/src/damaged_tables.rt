@@ -2,6 +2,7 @@
 // and leaves all bytes.
 use crate::board::Board;
 use crate::calls::Call;
+use crate::calls::only_returned;
 use crate::calls::perform;
 use crate::counts;
 use crate::outcomes::Outcome;
@@ -112,11 +113,7 @@ fn damage(board: Board, way: usize, seed: u64) -> Board {
 
 // Tells whether a call is refused with the number that is due and leaves all bytes.
 fn is_refused(board: Board, due: u32, call: Call) -> bool {
-    let reply = perform(board, call);
-    let left = reply.board;
-    let was = board.table;
-    let is = left.table;
-    (reply.number == due) & bytes::same(was, is)
+    only_returned(board, perform(board, call), due)
 }
 
 // Tells whether the calls that change a table are refused.

@@ -19,6 +19,7 @@ mod calls;
 mod counts;
 mod damaged_tables;
 mod levellings;
+mod moved_jobs;
 mod outcomes;
 mod random;
 mod starts;

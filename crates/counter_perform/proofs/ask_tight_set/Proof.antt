@@ -1,6 +1,7 @@
 -- The tight set's line with the benches that are in the list; the state stays.
 use borrow.Author.Needs.{needs}
-use Rattle.counter_perform.proofs.Performing.{table-long, listed-fits, list-short, tight-replies}
+use native.Mathlib.Omega.{arith}
+use Rattle.counter_perform.proofs.Performing.{table-long, tight-fits, list-short, tight-replies}
 use Rattle.counter_perform.proofs.ask_tight_set.Statement.{statement}
 use Rattle.counter_perform.proofs.ask_tight_set.Tie as tie
 
@@ -19,19 +20,14 @@ tight-set-requires c κs = search needs
 one-requires : tie.Need-one-requires
 one-requires c κs = search needs
 
-slice-aggregate-listing : tie.Need-slice-aggregate-listing
-slice-aggregate-listing c = search needs
+slice-aggregate-write-listing : tie.Need-slice-aggregate-write-listing
+slice-aggregate-write-listing c = search needs
 
-listing-requires : tie.Need-listing-requires
-listing-requires c κs =
+write-listing-requires : tie.Need-write-listing-requires
+write-listing-requires c κs =
     let called = c .before .before .before .before in
-    let list = called .before .before .before in (
-      search needs,
-      (
-        listed-fits _ _ _ (called .tight-set .ensures),
-        list-short (called .tight-set .last .1 .1 .0) (list .zero-list .ensures) (called .tight-set .kept .1 .1 .0),
-      ),
-    )
+    let list = called .before .before .before in
+    (search needs, (omega arith, (tight-fits _ _ _ (called .tight-set .ensures), list-short (called .tight-set .last .1 .1 .0) (list .zero-list .ensures) (called .tight-set .kept .1 .1 .0))))
 
 same-length : tie.Need-same-length
 same-length c = search needs
@@ -39,11 +35,11 @@ same-length c = search needs
 returns : tie.Need-returns
 returns c =
     let told = c .before .before in
-    let number = told .before .before in
-    let called = number .before .before .before in
+    let number = told .before .before .before in
+    let called = number .before .before in
     let list = called .before .before .before in
     let start = list .before .before .before in
-    tight-replies (start .pre .0) (start .args .height) (list .zero-list .ensures) (called .tight-set .ensures) (number .one .ensures) (told .listing .ensures .0) (told .listing .ensures .1)
+    tight-replies (start .pre .0) (list .zero-list .ensures) (start .args .height) (called .tight-set .ensures) (number .one .ensures) (told .write-listing .ensures)
 
 pub ask-tight-set-spec : {M : Type 1} → statement M
 ask-tight-set-spec =
@@ -54,7 +50,7 @@ ask-tight-set-spec =
     slice-aggregate-tight-set-2
     tight-set-requires
     one-requires
-    slice-aggregate-listing
-    listing-requires
+    slice-aggregate-write-listing
+    write-listing-requires
     same-length
     returns)

@@ -1,8 +1,8 @@
 -- The measure is how many jobs are left.
 use Prim.Native.Nat.{_≤_, _-_}
 use borrow.Author.Needs.{needs}
-use Rattle.test_small_boards.proofs.arrivals_and_closings.moved.Statement.{statement}
-use Rattle.test_small_boards.proofs.arrivals_and_closings.moved.Tie as tie
+use Rattle.test_small_boards.proofs.moved_jobs.moved.Statement.{statement}
+use Rattle.test_small_boards.proofs.moved_jobs.moved.Tie as tie
 
 abbrev Inv-loop : tie.InvT-loop
 Inv-loop before after but n₀ job₀ n job = job ≤ 9
