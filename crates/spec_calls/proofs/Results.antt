@@ -1,5 +1,5 @@
 -- The results of arrival, closing and levelling in 01's words: what the numbers of an answer say of the boards before and after.
-use Prim.Native.Nat.{ℕ, _<_}
+use Prim.Native.Nat.{ℕ, suc, _≤_, _<_}
 use native.Mathlib.Omega.{arith}
 use native.Mathlib.Decide.{decLt}
 use mathlib.Core.Path.{_≡_, sym, ap, subst, subst₂, _∙_}
@@ -21,8 +21,9 @@ use Rattle.spec_table.proofs.Words.{ListLeft, in-list}
 use Rattle.spec_table.proofs.Sound.{sound-storable}
 use Rattle.spec_sharing.proofs.Paths.{level-exact, unlevel-improves}
 use Rattle.spec_sharing.proofs.Changes.{Changed, moved-stands}
+use Rattle.spec_sharing.proofs.Moves.{arrival-few, closing-few}
 use Rattle.spec_calls.proofs.Stops.{says-level, says-stopped}
-use Rattle.spec_calls.proofs.Outcomes.{arriveOn, arrival-accepted, closing-accepted, levelling-accepted}
+use Rattle.spec_calls.proofs.Outcomes.{namable-some, namable-fit, arriveOn, AcceptedArrival, arrival-accepted, AcceptedClosing, closing-accepted, levelling-accepted}
 
 module _ (t : List ℕ) (s : T (sound t)) where
   -- moved jobs have numbers of 1 to J, which fit a word
@@ -32,59 +33,74 @@ module _ (t : List ℕ) (s : T (sound t)) where
       in-each (λ (w : ℕ). w < 65536) (c .moved)
       (λ i k. omega (arith, within-high 1 (length ((decode t) .named)) i (stands-within (decode t) i (moved-stands (decode t) (st .valid) j names c d i k)), within-high 1 mostJobs (length ((decode t) .named)) (st .jobs)))
 
-  -- 02: "They go as words into a lent list; the remainder is untouched": so many jobs as the answer says, in path order
-  pub arrival-list : (a : Arriving) (holder rose moved : ℕ) → (outcome (arrival a) t) .answer ≡ arrived holder rose moved → ListLeft ((arriveOn t a) .moved) moved (a .list) ((outcome (arrival a) t) .lent)
+  -- an accepted arrival's answer has the numbers of its change ..
+  arrival-numbers : (k : Arriving) (holder rose moved : ℕ) → (outcome (arrival k) t) .answer ≡ arrived holder rose moved → let c = arriveOn t k in AcceptedArrival t k c × (holderOf (c .board) (k .job) ≡ holder) × (c .bench ≡ rose) × (length (c .moved) ≡ moved)
   unfolding arrivalOutcome
-  arrival-list k holder rose moved e =
+  arrival-numbers k holder rose moved e =
       let a = arrival-accepted t s k (ap isRefused e) in
       let c = arriveOn t k in
       let d : arrived (holderOf (c .board) (k .job)) (c .bench) (length (c .moved)) ≡ arrived holder rose moved = ap (λ o. o .answer) (sym (a .is)) ∙ e in
-      let m : length (c .moved) ≡ moved = cc in
-      rw (sym m, ap (λ o. o .lent) (a .is)) (in-list (c .moved) (k .list) (moved-small (a .does)) (a .room))
+      (a, cc, cc, cc)
+
+  -- .. and so has a closing's
+  closing-numbers : (k : Closing) (fell moved : ℕ) → (outcome (closing k) t) .answer ≡ closed fell moved → let c = close (decode t) (k .job) in AcceptedClosing t k c × (c .bench ≡ fell) × (length (c .moved) ≡ moved)
+  unfolding closingOutcome
+  closing-numbers k fell moved e =
+      let a = closing-accepted t s k (ap isRefused e) in
+      let c = close (decode t) (k .job) in
+      let d : closed (c .bench) (length (c .moved)) ≡ closed fell moved = ap (λ o. o .answer) (sym (a .is)) ∙ e in
+      (a, cc, cc)
+
+  -- 02: "They go as words into a lent list; the remainder is untouched": so many jobs as the answer says, in path order
+  pub arrival-list : (k : Arriving) (holder rose moved : ℕ) → (outcome (arrival k) t) .answer ≡ arrived holder rose moved → ListLeft ((arriveOn t k) .moved) moved (k .list) ((outcome (arrival k) t) .lent)
+  unfolding arrivalOutcome
+  arrival-list k holder rose moved e =
+      let (a, h, b, m) = arrival-numbers k holder rose moved e in
+      rw (sym m, ap (λ o. o .lent) (a .is)) (in-list ((arriveOn t k) .moved) (k .list) (moved-small (a .does)) (a .room))
 
   pub closing-list : (k : Closing) (fell moved : ℕ) → (outcome (closing k) t) .answer ≡ closed fell moved → ListLeft ((close (decode t) (k .job)) .moved) moved (k .list) ((outcome (closing k) t) .lent)
   unfolding closingOutcome
   closing-list k fell moved e =
-      let a = closing-accepted t s k (ap isRefused e) in
-      let c = close (decode t) (k .job) in
-      let d : closed (c .bench) (length (c .moved)) ≡ closed fell moved = ap (λ o. o .answer) (sym (a .is)) ∙ e in
-      let m : length (c .moved) ≡ moved = cc in
-      rw (sym m, ap (λ o. o .lent) (a .is)) (in-list (c .moved) (k .list) (moved-small (a .does)) (a .room))
+      let (a, b, m) = closing-numbers k fell moved e in
+      rw (sym m, ap (λ o. o .lent) (a .is)) (in-list ((close (decode t) (k .job)) .moved) (k .list) (moved-small (a .does)) (a .room))
+
+  -- at most B − 1 jobs are moved, by whatever arrival ..
+  pub arrival-most : (k : Arriving) (holder rose moved : ℕ) → (outcome (arrival k) t) .answer ≡ arrived holder rose moved → suc moved ≤ (decode t) .benches
+  arrival-most k holder rose moved e =
+      let (a, h, b, m) = arrival-numbers k holder rose moved e in
+      let given = namable-some (decode t) (k .given) (a .may .fit) in
+      rw (sym m) (arrival-few (decode t) ((sound-storable t s) .valid) (k .job) (k .given) given (namable-fit (decode t) (k .given) (a .may .fit)))
+
+  -- .. or closing
+  pub closing-most : (k : Closing) (fell moved : ℕ) → (outcome (closing k) t) .answer ≡ closed fell moved → suc moved ≤ (decode t) .benches
+  closing-most k fell moved e =
+      let (a, b, m) = closing-numbers k fell moved e in
+      rw (sym m) (closing-few (decode t) ((sound-storable t s) .valid) (k .job) (a .stood))
 
   -- an arrival's answer, and what is listed
-  pub arrival-result : (a : Arriving) (holder rose moved : ℕ) → (outcome (arrival a) t) .answer ≡ arrived holder rose moved → let o = outcome (arrival a) t in ArrivalReport (decode t) (decode (o .table)) (a .job) (a .given) holder rose moved (take moved (words (o .lent)))
-  unfolding arrivalOutcome
+  pub arrival-result : (k : Arriving) (holder rose moved : ℕ) → (outcome (arrival k) t) .answer ≡ arrived holder rose moved → let o = outcome (arrival k) t in ArrivalReport (decode t) (decode (o .table)) (k .job) (k .given) holder rose moved (take moved (words (o .lent)))
   arrival-result k holder rose moved e =
-      let a = arrival-accepted t s k (ap isRefused e) in
-      let c = arriveOn t k in
-      let d : arrived (holderOf (c .board) (k .job)) (c .bench) (length (c .moved)) ≡ arrived holder rose moved = ap (λ o. o .answer) (sym (a .is)) ∙ e in
-      let bench : c .bench ≡ rose = cc in
-      let m : length (c .moved) ≡ moved = cc in
+      let (a, h, b, m) = arrival-numbers k holder rose moved e in
       subst₂ (λ (u : Board) (l : List ℕ). ArrivalReport (decode t) u (k .job) (k .given) holder rose moved l) (sym (a .writes .board)) (sym ((arrival-list k holder rose moved e) .read))
       (record {
         benches = a .does .benches;
         jobs = a .does .named;
-        inTheEnd = cc;
-        oneRose = subst (OneMore ((decode t) .benches) ((decode t) .holders) ((c .board) .holders)) bench (a .rose);
+        inTheEnd = h;
+        oneRose = subst (OneMore ((decode t) .benches) ((decode t) .holders) (((arriveOn t k) .board) .holders)) b (a .rose);
         others = sym (a .does .number) ∙ m;
         listed = a .does .moved;
         number = m;
       })
 
   -- a closing's answer, and what is listed
-  pub closing-result : (c : Closing) (fell moved : ℕ) → (outcome (closing c) t) .answer ≡ closed fell moved → let o = outcome (closing c) t in ClosingReport (decode t) (decode (o .table)) (c .job) fell moved (take moved (words (o .lent)))
-  unfolding closingOutcome
+  pub closing-result : (k : Closing) (fell moved : ℕ) → (outcome (closing k) t) .answer ≡ closed fell moved → let o = outcome (closing k) t in ClosingReport (decode t) (decode (o .table)) (k .job) fell moved (take moved (words (o .lent)))
   closing-result k fell moved e =
-      let a = closing-accepted t s k (ap isRefused e) in
-      let c = close (decode t) (k .job) in
-      let d : closed (c .bench) (length (c .moved)) ≡ closed fell moved = ap (λ o. o .answer) (sym (a .is)) ∙ e in
-      let bench : c .bench ≡ fell = cc in
-      let m : length (c .moved) ≡ moved = cc in
+      let (a, b, m) = closing-numbers k fell moved e in
       subst₂ (λ (u : Board) (l : List ℕ). ClosingReport (decode t) u (k .job) fell moved l) (sym (a .writes .board)) (sym ((closing-list k fell moved e) .read))
       (record {
         benches = a .does .benches;
         jobs = a .does .named;
-        oneFell = subst (OneMore ((decode t) .benches) ((c .board) .holders) ((decode t) .holders)) bench (a .fell);
+        oneFell = subst (OneMore ((decode t) .benches) (((close (decode t) (k .job)) .board) .holders) ((decode t) .holders)) b (a .fell);
         others = sym (a .does .number) ∙ m;
         listed = a .does .moved;
         number = m;
