@@ -196,7 +196,7 @@ uint32_t jobboard_heaviest(const uint8_t *table, size_t table_bytes, uint32_t *l
  * holds `height` jobs or more.
  *
  * Results: *benches is the number of benches in the set, *jobs the number of jobs with both benches inside. The list must have at least
- * 2 * *benches bytes; its length may be odd or 0.
+ * 2 * *benches bytes; its length may be odd.
  * Refused: JOBBOARD_SIZES, JOBBOARD_UNSOUND, JOBBOARD_HEIGHT, JOBBOARD_LIST_TOO_SHORT.
  */
 uint32_t jobboard_tight_set(const uint8_t *table, size_t table_bytes, uint32_t height, uint8_t *list, size_t list_bytes,

@@ -62,19 +62,19 @@ level-told true e = ap (λ (k : ℕ). said (levelled k)) e
 level-told false e = ap (λ (k : ℕ). said (stopped k)) e
 
 -- an arrival with two benches
-abbrev pub arriving : ℕ → ℕ → ℕ → List ℕ → Arriving
+abbrev arriving : ℕ → ℕ → ℕ → List ℕ → Arriving
 arriving j x y list = record { job = j; given = x ∷ y ∷ []; list = list }
 
 -- a closing
-abbrev pub closingOf : ℕ → List ℕ → Closing
+abbrev closingOf : ℕ → List ℕ → Closing
 closingOf j list = record { job = j; list = list }
 
 -- what an arrival and a closing answer, by what came of them
-abbrev pub arrivedAs : Attempt → Answer
+abbrev arrivedAs : Attempt → Answer
 arrivedAs (attempt.Refused r) = Refused r
 arrivedAs (Made e) = Arrived (e .holder) (e .bench) (e .moved)
 
-abbrev pub closedAs : Attempt → Answer
+abbrev closedAs : Attempt → Answer
 closedAs (attempt.Refused r) = Refused r
 closedAs (Made e) = Closed (e .bench) (e .moved)
 

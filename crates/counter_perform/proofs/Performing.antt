@@ -9,13 +9,13 @@ use mathlib.Core.Option.{Option, none, some}
 use lib.ListN.{length, take, drop, length-append}
 use lib.Seq.{take-at, length-take-le, length-front}
 use Rattle.spec_lists.specs.Lists.{nth}
-use Rattle.spec_table.specs.Table.{bytesOf, inList, lengthFor, sizesFit, decode, blankTable, mostBenches}
+use Rattle.spec_table.specs.Table.{inList, lengthFor, sizesFit, decode, blankTable, mostBenches}
 use Rattle.spec_sharing.specs.Sharing.{arrive, close, tightSet}
 use Rattle.spec_calls.specs.Answers.{Outcome, Refusal, inNumbers, refusedOr, firstHolding, sizes, said, blanked, refusalNumber}
 use Rattle.spec_calls.specs.Calls.{Call, Arriving, Closing, outcome, blanking, arrival, closing, ask, heaviestLoad, tightSetOf, lentTo, arrivalOutcome, closingOutcome, telling, answering, asked, accepted, tightSetTold, refusals}
 use Rattle.spec_calls.specs.Tally.{Tally, zeroTally, noted}
 use Rattle.spec_calls.proofs.Blanking.{blanking-refused}
-use Rattle.spec_table.proofs.Words.{length-bytesOf}
+use Rattle.spec_table.proofs.Words.{in-list-long}
 use Rattle.spec_counter.specs.Counter as paper
 use Rattle.spec_counter.specs.Counter.{takeIn, closeJob, setTable, askTightSet, askHeaviest, counterList, lineFor, done, after}
 use Rattle.spec_counter.proofs.Counter.{list-holds-all}
@@ -28,7 +28,7 @@ use Rattle.board_answers.specs.Answered.{answerOf, Leaves}
 use Rattle.board_answers.specs.declared.Answer.{Answer}
 use Rattle.board_tally.specs.Counts.{tallyOf}
 use Rattle.counter_printing.specs.Wrote.{Wrote}
-use Rattle.counter_answer_lines.specs.AnswerLines.{lineMost, refusalText, answerText, listingText}
+use Rattle.counter_answer_lines.specs.AnswerLines.{refusalText, answerText, listingText}
 use Rattle.counter_state.specs.State.{tableMost, counterOf, Room, AnswerPrinted}
 use Rattle.counter_state.specs.declared.Counter.{Counter}
 use Rattle.counter_state.specs.declared.Reply.{Reply}
@@ -48,10 +48,6 @@ replied {next} {n} {tally} {text} {text'} {bytes} {out} {out'} {at} {r} l h t y 
       short = told .short;
     }
 
--- words that are written into a list are in it
-in-lent : (ws list : List ℕ) → 2 * length ws ≤ length (inList ws list)
-in-lent ws list = omega (arith, length-append (bytesOf ws) (drop (2 * length ws) list), length-bytesOf ws)
-
 module _ (t : List ℕ) {u l : List ℕ} {a : Answer} where
   -- the words that a call lists, as many as its value k + 1 says, are in the list that it leaves; a refusal lists none
   listed-fits : (c : Call) (k : ℕ) (ws : List ℕ) → let o = accepted c t (decode t) in nth (inNumbers (o .answer)) (suc (suc k)) 0 ≡ length ws → o .lent ≡ inList ws (lentTo c) → Leaves (outcome c t) a u l → 2 * nth (inNumbers (answerOf a)) (suc (suc k)) 0 ≤ length l
@@ -59,7 +55,7 @@ module _ (t : List ℕ) {u l : List ℕ} {a : Answer} where
   listed-fits c k ws n e v = rw (v .answer, v .lent) (go (firstHolding (refusals c t)))
     where
       go : (f : Option Refusal) → let o = refusedOr f t (lentTo c) (accepted c t (decode t)) in 2 * nth (inNumbers (o .answer)) (suc (suc k)) 0 ≤ length (o .lent)
-      go none = rw (n, e) (in-lent ws (lentTo c))
+      go none = rw (n, e) (omega (arith, in-list-long ws (lentTo c)))
       go (some r) = omega arith
 
   -- so the jobs that an arrival moves ..

@@ -1,5 +1,5 @@
 -- A job taken in, and the path handed along: a job that is the path's first goes at once where it leads. What is left then gives the
--- arrival's board, and its numbers.
+-- arrival's board, its numbers and its list.
 use Prim.Native.Nat.{ℕ, _+_, _-_, _*_, _≤_, _<_}
 use native.Mathlib.Omega.{arith}
 use mathlib.Core.Path.{_≡_, refl, sym, ap, subst, subst₂, _∙_}
@@ -196,7 +196,7 @@ module _ {t : List ℕ} {s : Size} {j first second x : ℕ} {path : List ℕ} {r
 
 module _ {b : Board} {j : ℕ} {names path : List ℕ} {d : Change} {r : FoundPath} {holder place : ℕ} (n : Entered b j names path d r holder place) where
   -- from its place on the path has the jobs that moved ..
-  pub entered-list : take (r .jobs - place) (drop place path) ≡ d .moved
+  entered-list : take (r .jobs - place) (drop place path) ≡ d .moved
   entered-list = sym (n .route .listed) ∙ n .moved
 
   -- .. and so many

@@ -140,8 +140,8 @@ pub fn arrive_in_order(
     if list.len() < 2 * moved {
         return Attempt::Refused(Refusal::ListTooShort);
     }
-    let jobs = &path[..];
-    table_words::write_list(list, &jobs[place..end]);
+    let whole = &path[..];
+    table_words::write_list(list, &whole[place..end]);
     apply_arrival(t, s, j, first, second, intake, found, path);
     Attempt::Made(Effect {
         holder: intake.holder,

@@ -79,8 +79,8 @@ pub fn close_in_order(
     if list.len() < 2 * moved {
         return Attempt::Refused(Refusal::ListTooShort);
     }
-    let jobs = &path[..];
-    table_words::write_list(list, &jobs[..moved]);
+    let whole = &path[..];
+    table_words::write_list(list, &whole[..moved]);
     apply_closing(t, s, j, found, path);
     Attempt::Made(Effect {
         holder: 0,

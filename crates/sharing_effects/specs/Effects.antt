@@ -18,7 +18,7 @@ pub record Lent : Type 0 where
   pub table : List ℕ
   pub list : List ℕ
 
--- the table's bytes, and the list's
+-- these bytes of a table and of a list
 abbrev pub lent : List ℕ → List ℕ → Lent
 lent table list = record { table = table; list = list }
 

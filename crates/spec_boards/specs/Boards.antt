@@ -50,7 +50,7 @@ result (calls t cs) =
     }
 result (program input) = record { answers = []; bytes = counter input; holders = [] }
 
--- an entry: what is tried, and what 01 says comes out
+-- an entry: what is tried, and what 01, with 02's lists, says comes out
 pub record Case : Type 0 where
   pub trial : Trial
   pub expected : Result

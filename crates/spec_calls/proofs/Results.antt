@@ -1,4 +1,5 @@
--- The results of arrival, closing and levelling in 01's words: what the numbers of an answer say of the boards before and after.
+-- The results of arrival, closing and levelling in 01's words: what the numbers of an answer say of the boards before and after,
+-- and what is listed.
 use Prim.Native.Nat.{ℕ, suc, _≤_, _<_}
 use native.Mathlib.Omega.{arith}
 use native.Mathlib.Decide.{decLt}

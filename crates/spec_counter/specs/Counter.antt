@@ -92,7 +92,7 @@ repeated (askTightSet h) = h ∷ []
 repeated askHeaviest = []
 
 -- "then the benches": the words that a tight set left in the list, as many as its answer says; 02: "A and D lines gain
--- them at the end": so the jobs that an arrival or a closing moved
+-- them at the end": likewise the jobs that an arrival or a closing moved
 abbrev pub listed : Command → Outcome → List ℕ
 listed (setTable benches jobs) o = []
 listed (takeIn j x y) o = take (nth (inNumbers (o .answer)) 4 0) (words (o .lent))

@@ -2,7 +2,7 @@
 -- path, is its first step. No arrival and no closing moves as many jobs as there are benches.
 use Prim.Native.Nat.{ℕ, suc, _≤_}
 use native.Mathlib.Omega.{arith}
-use mathlib.Core.Path.{_≡_, refl, sym, ap, subst, _∙_}
+use mathlib.Core.Path.{_≡_, refl, sym, subst, _∙_}
 use mathlib.Core.Logic.{_⊎_, inl, inr}
 use mathlib.Core.Bool.{Bool, not}
 use mathlib.Core.List.{List, [], _∷_}
@@ -63,7 +63,7 @@ module _ (b : Board) (v : Valid b) (j : ℕ) (names : List ℕ) (t : T (within 1
       let only = improvingFrom-only c x p (((arrival-choice c x p) .0 q) .listed-is) in
       rw q (path-but c (p .start) j (put-holder b v j names x t ∙ sym (only .1)) (p .route) (only .0))
 
-  -- where there is no such path, none is
+  -- where the rule names no path, no job moves
   pub arrival-rests : let x = lightestNamed (b .holders) names in arrivalChoice (put b j names x) x ≡ none → (arrive b j names) .moved ≡ []
   unfolding arrive
   arrival-rests q = rw q
@@ -73,6 +73,7 @@ pub closing-moves : (b : Board) (j : ℕ) (p : BenchPath) → closingChoice (put
 unfolding close
 closing-moves b j p q = rw q
 
+-- .. and none where there is no path
 pub closing-rests : (b : Board) (j : ℕ) → closingChoice (put b j [] 0) (holderOf b j) ≡ none → (close b j) .moved ≡ []
 unfolding close
 closing-rests b j q = rw q

@@ -1,5 +1,5 @@
 -- Words and bytes: what is written reads back, a board's words fit its table, and a blanked table is the board without jobs.
-use Prim.Native.Nat.{ℕ, zero, suc, _+_, _*_, _/_, _%_, _≤_, _<_}
+use Prim.Native.Nat.{ℕ, zero, suc, _+_, _-_, _*_, _/_, _%_, _≤_, _<_}
 use native.Mathlib.Omega.{arith}
 use native.Mathlib.Nat.{mod-eq-of-lt}
 use mathlib.Core.Path.{_≡_, refl, sym, ap, _∙_}
@@ -39,6 +39,11 @@ pub record ListLeft (ws : List ℕ) (n : ℕ) (list left : List ℕ) : Type 0 wh
   pub beyond : drop (2 * n) left ≡ drop (2 * n) list
   pub long : length left ≡ length list
 
+-- the list is as long as it was, or as the words
+pub in-list-long : (ws list : List ℕ) → length (inList ws list) ≡ 2 * length ws + (length list - 2 * length ws)
+in-list-long ws list =
+    length-append (bytesOf ws) (drop (2 * length ws) list) ∙ omega (arith, length-bytesOf ws, length-drop (2 * length ws) list)
+
 -- so it is with words in a list that is long enough for them
 pub in-list : (ws list : List ℕ) → Each (λ w. w < 65536) ws → 2 * length ws ≤ length list → ListLeft ws (length ws) list (inList ws list)
 in-list ws list s l =
@@ -46,7 +51,7 @@ in-list ws list s l =
     record {
       read = ap (take (length ws)) (words-append ws rest s) ∙ take-at ws (words rest) (length ws) refl;
       beyond = drop-at (bytesOf ws) rest (2 * length ws) (length-bytesOf ws);
-      long = length-append (bytesOf ws) rest ∙ omega (arith, length-bytesOf ws, length-drop (2 * length ws) list);
+      long = omega (arith, in-list-long ws list);
     }
 
 -- every byte that is written is a byte

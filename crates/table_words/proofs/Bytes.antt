@@ -1,4 +1,4 @@
--- Words and bytes: what a written word does to the words, and the bytes that words stand for.
+-- Words and bytes: what a written word does to the words, the bytes that words stand for, and words in a lent list.
 use Prim.Native.Nat.{ℕ, zero, suc, _+_, _*_, _/_, _%_, _≤_, _<_}
 use native.Mathlib.Omega.{arith}
 use native.Mathlib.Numerals.{add-one}

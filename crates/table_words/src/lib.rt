@@ -30,7 +30,7 @@ pub fn write(bytes: &mut [u8], i: usize, word: usize)
     bytes[2 * i + 1] = (word / 256 % 256) as u8;
 }
 
-// Widens a word, for the same reason.
+// Widens a word; the contract spares callers the proof that it fits.
 fn wide_word(word: u16) -> usize
     ensures { λ r. ⌜ (r ≡ word) × (r < 65536) ⌝ }
 {
