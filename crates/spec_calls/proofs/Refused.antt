@@ -11,8 +11,8 @@ use Rattle.spec_lists.specs.Lists.{within}
 use Rattle.spec_table.specs.Board.{stands}
 use Rattle.spec_table.specs.Table.{sound, decode}
 use Rattle.spec_sharing.specs.Sharing.{close}
-use Rattle.spec_calls.specs.Answers.{isRefused, refused, jobNumber, benchNumber, alreadyStanding, notStanding, listTooShort}
-use Rattle.spec_calls.specs.Calls.{Arriving, Closing, namable, MayArrive, arrival, closing, arrivalConditions, closingConditions, accepted, outcome, arrivalOutcome, closingOutcome}
+use Rattle.spec_calls.specs.Answers.{isRefused, refuse, unless, refused, jobNumber, benchNumber, alreadyStanding, notStanding, listTooShort}
+use Rattle.spec_calls.specs.Calls.{Arriving, Closing, namable, MayArrive, tooShort, arrival, closing, arrivalConditions, closingConditions, accepted, outcome, arrivalOutcome, closingOutcome}
 use Rattle.spec_lists.proofs.Tests.{T→true, not→false}
 use Rattle.spec_table.proofs.Named.{pair-misfits, stands-within}
 use Rattle.spec_calls.proofs.ChainOrder.{sound-outcome}
@@ -47,36 +47,37 @@ module _ (t : List ℕ) (s : T (sound t)) where
   unfolding arrivalConditions closingConditions accepted
   closing-standing-refused c w n = ap (λ o. o .answer) (sound-outcome (closing c) tt t s) ∙ rw (w, n)
 
-  -- 8, 02: "a list too short for the moves"; nothing before it refused the call
-  pub arrival-list-refused : (a : Arriving) → MayArrive (decode t) (a .job) (a .given) → length (a .list) < 2 * length ((arriveOn t a) .moved) → (outcome (arrival a) t) .answer ≡ refused listTooShort
-  unfolding arrivalConditions closingConditions accepted
-  arrival-list-refused a m l =
+  -- past 3, 4 and 5, and past 3 and 6, the list alone decides
+  arrival-tested : (a : Arriving) → MayArrive (decode t) (a .job) (a .given) → outcome (arrival a) t ≡ unless (refuse listTooShort (tooShort (a .list) ((arriveOn t a) .moved)) ∷ []) t (a .list) (arrivalOutcome a (arriveOn t a))
+  unfolding arrivalConditions accepted
+  arrival-tested a m =
       let b = decode t in
-      ap (λ o. o .answer) (sound-outcome (arrival a) tt t s) ∙ rw (T→true (within 1 (length (b .named)) (a .job)) (m .number), T→true (namable b (a .given)) (m .fit), not→false (stands b (a .job)) (m .free), lt-ltb (length (a .list)) (2 * length ((arriveOn t a) .moved)) l)
+      sound-outcome (arrival a) tt t s ∙ rw (T→true (within 1 (length (b .named)) (a .job)) (m .number), T→true (namable b (a .given)) (m .fit), not→false (stands b (a .job)) (m .free))
+
+  closing-tested : (c : Closing) → T (stands (decode t) (c .job)) → outcome (closing c) t ≡ unless (refuse listTooShort (tooShort (c .list) ((close (decode t) (c .job)) .moved)) ∷ []) t (c .list) (closingOutcome c (close (decode t) (c .job)))
+  unfolding closingConditions accepted
+  closing-tested c n =
+      let b = decode t in
+      sound-outcome (closing c) tt t s ∙ rw (T→true (within 1 (length (b .named)) (c .job)) (stands-within b (c .job) n), T→true (stands b (c .job)) n)
+
+  -- 8, 02: "a list too short for the moves"
+  pub arrival-list-refused : (a : Arriving) → MayArrive (decode t) (a .job) (a .given) → length (a .list) < 2 * length ((arriveOn t a) .moved) → (outcome (arrival a) t) .answer ≡ refused listTooShort
+  arrival-list-refused a m l =
+      ap (λ o. o .answer) (arrival-tested a m) ∙ rw (lt-ltb (length (a .list)) (2 * length ((arriveOn t a) .moved)) l)
 
   pub closing-list-refused : (c : Closing) → T (stands (decode t) (c .job)) → length (c .list) < 2 * length ((close (decode t) (c .job)) .moved) → (outcome (closing c) t) .answer ≡ refused listTooShort
-  unfolding arrivalConditions closingConditions accepted
   closing-list-refused c n l =
-      let b = decode t in
-      ap (λ o. o .answer) (sound-outcome (closing c) tt t s) ∙ rw (T→true (within 1 (length (b .named)) (c .job)) (stands-within b (c .job) n), T→true (stands b (c .job)) n, lt-ltb (length (c .list)) (2 * length ((close b (c .job)) .moved)) l)
+      ap (λ o. o .answer) (closing-tested c n) ∙ rw (lt-ltb (length (c .list)) (2 * length ((close (decode t) (c .job)) .moved)) l)
 
   -- an arrival is accepted exactly if its number is one of 1 to J, no such job stands, its benches are two different ones of
   -- 1 to B, and its list is long enough for the moves
   pub arrival-exact : (a : Arriving) → (isRefused ((outcome (arrival a) t) .answer) ≡ false) ↔ (MayArrive (decode t) (a .job) (a .given) × (2 * length ((arriveOn t a) .moved) ≤ length (a .list)))
-  unfolding arrivalConditions closingConditions accepted arrivalOutcome
-  arrival-exact a = (λ e. let r = arrival-accepted t s a e in (r .may, r .room), λ p. goes (p .0) (p .1))
-    where
-      goes : MayArrive (decode t) (a .job) (a .given) → 2 * length ((arriveOn t a) .moved) ≤ length (a .list) → isRefused ((outcome (arrival a) t) .answer) ≡ false
-      goes m l =
-          let b = decode t in
-          ap (λ o. isRefused (o .answer)) (sound-outcome (arrival a) tt t s) ∙ rw (T→true (within 1 (length (b .named)) (a .job)) (m .number), T→true (namable b (a .given)) (m .fit), not→false (stands b (a .job)) (m .free), le-ltb (length (a .list)) (2 * length ((arriveOn t a) .moved)) l)
+  unfolding arrivalOutcome
+  arrival-exact a =
+      (λ e. let r = arrival-accepted t s a e in (r .may, r .room), λ p. ap (λ o. isRefused (o .answer)) (arrival-tested a (p .0)) ∙ rw (le-ltb (length (a .list)) (2 * length ((arriveOn t a) .moved)) (p .1)))
 
   -- a closing is accepted exactly if its job stands and its list is long enough
   pub closing-exact : (c : Closing) → (isRefused ((outcome (closing c) t) .answer) ≡ false) ↔ (T (stands (decode t) (c .job)) × (2 * length ((close (decode t) (c .job)) .moved) ≤ length (c .list)))
-  unfolding arrivalConditions closingConditions accepted closingOutcome
-  closing-exact c = (λ e. let r = closing-accepted t s c e in (r .stood, r .room), λ p. goes (p .0) (p .1))
-    where
-      goes : T (stands (decode t) (c .job)) → 2 * length ((close (decode t) (c .job)) .moved) ≤ length (c .list) → isRefused ((outcome (closing c) t) .answer) ≡ false
-      goes n l =
-          let b = decode t in
-          ap (λ o. isRefused (o .answer)) (sound-outcome (closing c) tt t s) ∙ rw (T→true (within 1 (length (b .named)) (c .job)) (stands-within b (c .job) n), T→true (stands b (c .job)) n, le-ltb (length (c .list)) (2 * length ((close b (c .job)) .moved)) l)
+  unfolding closingOutcome
+  closing-exact c =
+      (λ e. let r = closing-accepted t s c e in (r .stood, r .room), λ p. ap (λ o. isRefused (o .answer)) (closing-tested c (p .0)) ∙ rw (le-ltb (length (c .list)) (2 * length ((close (decode t) (c .job)) .moved)) (p .1)))

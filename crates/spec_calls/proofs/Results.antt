@@ -22,9 +22,8 @@ use Rattle.spec_table.proofs.Words.{ListLeft, in-list}
 use Rattle.spec_table.proofs.Sound.{sound-storable}
 use Rattle.spec_sharing.proofs.Paths.{level-exact, unlevel-improves}
 use Rattle.spec_sharing.proofs.Changes.{Changed, moved-stands}
-use Rattle.spec_sharing.proofs.Moves.{arrival-few, closing-few}
 use Rattle.spec_calls.proofs.Stops.{says-level, says-stopped}
-use Rattle.spec_calls.proofs.Outcomes.{namable-some, namable-fit, arriveOn, AcceptedArrival, arrival-accepted, AcceptedClosing, closing-accepted, levelling-accepted}
+use Rattle.spec_calls.proofs.Outcomes.{arriveOn, AcceptedArrival, arrival-accepted, AcceptedClosing, closing-accepted, levelling-accepted}
 
 module _ (t : List ℕ) (s : T (sound t)) where
   -- moved jobs have numbers of 1 to J, which fit a word
@@ -69,14 +68,13 @@ module _ (t : List ℕ) (s : T (sound t)) where
   pub arrival-most : (k : Arriving) (holder rose moved : ℕ) → (outcome (arrival k) t) .answer ≡ arrived holder rose moved → suc moved ≤ (decode t) .benches
   arrival-most k holder rose moved e =
       let (a, h, b, m) = arrival-numbers k holder rose moved e in
-      let given = namable-some (decode t) (k .given) (a .may .fit) in
-      rw (sym m) (arrival-few (decode t) ((sound-storable t s) .valid) (k .job) (k .given) given (namable-fit (decode t) (k .given) (a .may .fit)))
+      rw (sym m) (a .does .few)
 
   -- .. or closing
   pub closing-most : (k : Closing) (fell moved : ℕ) → (outcome (closing k) t) .answer ≡ closed fell moved → suc moved ≤ (decode t) .benches
   closing-most k fell moved e =
       let (a, b, m) = closing-numbers k fell moved e in
-      rw (sym m) (closing-few (decode t) ((sound-storable t s) .valid) (k .job) (a .stood))
+      rw (sym m) (a .does .few)
 
   -- an arrival's answer, and what is listed
   pub arrival-result : (k : Arriving) (holder rose moved : ℕ) → (outcome (arrival k) t) .answer ≡ arrived holder rose moved → let o = outcome (arrival k) t in ArrivalReport (decode t) (decode (o .table)) (k .job) (k .given) holder rose moved (take moved (words (o .lent)))

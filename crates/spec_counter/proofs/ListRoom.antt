@@ -9,15 +9,16 @@ use mathlib.Core.List.{List, [], _∷_, _++_}
 use lib.Dec.{T}
 use lib.ListN.{length, getD}
 use borrow.Author.Tests.{ltb-true}
+use Rattle.spec_lists.specs.Lists.{within}
 use Rattle.spec_table.specs.Board.{stands}
 use Rattle.spec_table.specs.Table.{mostBenches, sizesFit, sound, decode, blankTable}
 use Rattle.spec_sharing.specs.Sharing.{arrive, close, tightSet}
 use Rattle.spec_calls.specs.Answers.{Refusal, refusalNumber, inNumbers, firstHolding, refusedOr, refuse, refused, sizes, listTooShort, blanked}
 use Rattle.spec_calls.specs.Calls.{Call, Arriving, Closing, namable, tooShort, arrival, closing, ask, heaviestLoad, tightSetOf, formConditions, arrivalConditions, closingConditions, questionConditions, telling, answering, outcome, blanking}
 use Rattle.spec_counter.specs.Counter.{Command, setTable, takeIn, closeJob, askTightSet, askHeaviest, counterList, room, done}
-use Rattle.spec_lists.proofs.Tests.{not-false, within-high}
+use Rattle.spec_lists.proofs.Tests.{not-false, false→not, within-high}
 use Rattle.spec_table.proofs.Sound.{sound-storable}
-use Rattle.spec_sharing.proofs.Moves.{arrival-few, closing-few}
+use Rattle.spec_sharing.proofs.Changes.{arrival-does, closing-does}
 use Rattle.spec_sharing.proofs.TightSet.{tight-most}
 use Rattle.spec_calls.proofs.Refusals.{FirstIs, onSound, conditions, formed-first, refused-by}
 use Rattle.spec_calls.proofs.Outcomes.{namable-some, namable-fit}
@@ -50,8 +51,9 @@ module _ (t : List ℕ) (s : T (sound t)) where
   arrival-never a l (inr (n, inr (f, inr (u, inl (h, d))))) =
       let b = decode t in
       let m = not-false (namable b (a .given)) f in
-      let few = arrival-few b ((sound-storable t s) .valid) (a .job) (a .given) (namable-some b (a .given) m) (namable-fit b (a .given) m) in
-      enough t s ((arrive b (a .job) (a .given)) .moved) (omega (arith, few)) (rw l at h)
+      let number = not-false (within 1 (length (b .named)) (a .job)) n in
+      let d = (arrival-does b ((sound-storable t s) .valid) (a .job) (a .given) number (false→not (stands b (a .job)) u) (namable-some b (a .given) m) (namable-fit b (a .given) m)) .0 in
+      enough t s ((arrive b (a .job) (a .given)) .moved) (omega (arith, d .few)) (rw l at h)
   arrival-never a l (inr (n, inr (f, inr (u, inr (r, k))))) = k
 
   closing-never : (c : Closing) → c .list ≡ counterList → FirstIs listTooShort (closingConditions c (decode t)) → ⊥
@@ -60,8 +62,8 @@ module _ (t : List ℕ) (s : T (sound t)) where
   closing-never c l (inr (n, inl (h, d))) = not-eight _ (λ q. omega arith) d
   closing-never c l (inr (n, inr (u, inl (h, d)))) =
       let b = decode t in
-      let few = closing-few b ((sound-storable t s) .valid) (c .job) (not-false (stands b (c .job)) u) in
-      enough t s ((close b (c .job)) .moved) (omega (arith, few)) (rw l at h)
+      let d = (closing-does b ((sound-storable t s) .valid) (c .job) (not-false (stands b (c .job)) u)) .0 in
+      enough t s ((close b (c .job)) .moved) (omega (arith, d .few)) (rw l at h)
   closing-never c l (inr (n, inr (u, inr (r, k)))) = k
 
   tight-never : (h : ℕ) → FirstIs listTooShort (questionConditions (tightSetOf h) counterList (decode t)) → ⊥

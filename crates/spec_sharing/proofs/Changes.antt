@@ -1,5 +1,5 @@
 -- What an arrival and a closing do to any valid board.
-use Prim.Native.Nat.{ℕ, _≤_, _<_}
+use Prim.Native.Nat.{ℕ, suc, _≤_, _<_}
 use native.Mathlib.Omega.{arith}
 use mathlib.Core.Path.{_≡_, refl, sym, ap, subst, _∙_}
 use mathlib.Core.Logic.{_≢_, _↔_}
@@ -15,11 +15,11 @@ use Rattle.spec_sharing.specs.Paths.{BenchPath, last, jobs, IsPath, flip
 use Rattle.spec_sharing.specs.Sharing.{Change, lightestNamed, arrivalChoice, closingChoice, afterArrival, afterClosing, arrive, close}
 use Rattle.spec_sharing.specs.Demand2.{OneMore, handed, Moved}
 use Rattle.spec_lists.proofs.Tests.{both, left, right, differ, within-low, within-high, within-both}
-use Rattle.spec_lists.proofs.Elements.{not-empty, is-empty, nth-update-same, nth-update-other}
+use Rattle.spec_lists.proofs.Elements.{not-empty, is-empty, length-filter, nth-update-same, nth-update-other}
 use Rattle.spec_lists.proofs.NumberLists.{Member, is-in, not-in, membered, filter-distinct, others-in}
 use Rattle.spec_table.proofs.Named.{length-shares, fit-bench, stands-within, named-may, holder-bench, holder-none}
 use Rattle.spec_lists.proofs.Counting.{total-tested}
-use Rattle.spec_sharing.proofs.Paths.{improvingFrom-only, improvingTo-only}
+use Rattle.spec_sharing.proofs.Paths.{path-few, improvingFrom-only, improvingTo-only}
 use Rattle.spec_sharing.proofs.Choice.{arrival-choice, closing-choice}
 use Rattle.spec_sharing.proofs.Sets.{lightestNamed-in}
 use Rattle.spec_sharing.proofs.Walks.{path-reach, reach-bench}
@@ -48,8 +48,9 @@ pub record Changed (b : Board) (j : ℕ) (names : List ℕ) (c : Change) : Type 
   pub named : (c .board) .named ≡ update (b .named) j names
   -- the moved jobs are the others whose holder changed, each once ..
   pub moved : Moved j b (c .board) (c .moved)
-  -- .. and so many
+  -- .. and so many, fewer than there are benches
   pub number : length (c .moved) ≡ handed j b (c .board)
+  pub few : suc (length (c .moved)) ≤ b .benches
 
 -- a job whose holder changed stands, but for the one that came or went
 moved-stood : (b : Board) → Valid b → (j : ℕ) (names : List ℕ) (after : Board) → Valid after → after .named ≡ update (b .named) j names → (i : ℕ) → (i ≢ j) × (holderOf after i ≢ holderOf b i) → T (stands b i)
@@ -61,10 +62,10 @@ pub moved-stands : (b : Board) → Valid b → (j : ℕ) (names : List ℕ) (c :
 moved-stands b v j names c d i k = moved-stood b v j names (c .board) (d .valid) (d .named) i ((d .moved .exact i) .0 k)
 
 -- the number follows from the rest
-does : (b : Board) → Valid b → (j : ℕ) (names : List ℕ) (c : Change) → Valid (c .board) → (c .board) .benches ≡ b .benches → (c .board) .named ≡ update (b .named) j names → ((i : ℕ) → In i (c .moved) ↔ ((i ≢ j) × (holderOf (c .board) i ≢ holderOf b i))) → T (distinct (c .moved)) → Changed b j names c
-does b v j names c vc eb en m o =
+does : (b : Board) → Valid b → (j : ℕ) (names : List ℕ) (c : Change) → Valid (c .board) → (c .board) .benches ≡ b .benches → (c .board) .named ≡ update (b .named) j names → ((i : ℕ) → In i (c .moved) ↔ ((i ≢ j) × (holderOf (c .board) i ≢ holderOf b i))) → T (distinct (c .moved)) → suc (length (c .moved)) ≤ b .benches → Changed b j names c
+does b v j names c vc eb en m o few =
     let number = total-tested (length (b .named)) (c .moved) (λ i. not (eqb i j) && not (eqb (holderOf after i) (holderOf b i))) o (λ i k. stands-within b i (moved-stood b v j names after vc en i ((m i) .0 k))) test in
-    record { valid = vc; benches = eb; named = en; moved = record { exact = m; once = o }; number = number }
+    record { valid = vc; benches = eb; named = en; moved = record { exact = m; once = o }; number = number; few = few }
   where
     after : Board
     after = c .board
@@ -80,14 +81,14 @@ does b v j names c vc eb en m o =
 -- job j written anew
 module _ (b : Board) (v : Valid b) (j : ℕ) (names : List ℕ) (x : ℕ) (w : Valid (put b j names x)) where
   -- no path is flipped: no other job moves
-  does-put : (y : ℕ) → Changed b j names (record { board = put b j names x; bench = y; moved = [] })
-  does-put y =
-      does b v j names (record { board = put b j names x; bench = y; moved = [] }) w refl refl (λ i. (λ k. absurd k, λ d. d .1 (nth-update-other (b .holders) j i x 0 (d .0)))) tt
+  does-put : (y : ℕ) → 1 ≤ b .benches → Changed b j names (record { board = put b j names x; bench = y; moved = [] })
+  does-put y k =
+      does b v j names (record { board = put b j names x; bench = y; moved = [] }) w refl refl (λ i. (λ m. absurd m, λ d. d .1 (nth-update-other (b .holders) j i x 0 (d .0)))) tt k
 
   -- a path is flipped: its jobs move, but for j
-  does-flip : (p : BenchPath) → IsPath (put b j names x) p → (y : ℕ) (m : List ℕ) → ((i : ℕ) → In i m ↔ ((i ≢ j) × In i (jobs p))) → T (distinct m) → Changed b j names (record { board = flip (put b j names x) p; bench = y; moved = m })
+  does-flip : (p : BenchPath) → IsPath (put b j names x) p → T (within 1 (b .benches) (p .start)) → (y : ℕ) (m : List ℕ) → length m ≤ length (jobs p) → ((i : ℕ) → In i m ↔ ((i ≢ j) × In i (jobs p))) → T (distinct m) → Changed b j names (record { board = flip (put b j names x) p; bench = y; moved = m })
   unfolding flip
-  does-flip p h y m g o = does b v j names (record { board = flip c p; bench = y; moved = m }) (flip-valid c w p h) refl refl (λ i. (there i, back i)) o
+  does-flip p h s y m l g o = does b v j names (record { board = flip c p; bench = y; moved = m }) (flip-valid c w p h) refl refl (λ i. (there i, back i)) o (omega (arith, l, path-few c w p h s))
     where
       c : Board
       c = put b j names x
@@ -155,11 +156,11 @@ arrival-does b v j names w n e f = go (arrivalChoice c x) refl
     one = put-rises b v j names x w n (fit-bench (b .benches) names x f i)
 
     go : (o : Option BenchPath) → arrivalChoice c x ≡ o → Changed b j names (afterArrival c j x o) × OneMore (b .benches) (b .holders) (((afterArrival c j x o) .board) .holders) ((afterArrival c j x o) .bench)
-    go none q = (does-put b v j names x vc x, one)
+    go none q = (does-put b v j names x vc x (omega (arith, one .positive, one .bench)), one)
     go (some p) q =
         let only = improvingFrom-only c x p (((arrival-choice c x p) .0 q) .listed-is) in
         let rest : ℕ → Bool = λ k. not (eqb k j) in
-        (does-flip b v j names x vc p (only .0) (last p) (filter rest (jobs p)) (others-in j (jobs p)) (filter-distinct rest (jobs p) (path-jobs c vc p (only .0))), more-flipped c vc p (only .0) (b .holders) (subst (OneMore (b .benches) (b .holders) (c .holders)) (sym (only .1)) one))
+        (does-flip b v j names x vc p (only .0) (rw (only .1) (within-both 1 (b .benches) x (one .positive) (one .bench))) (last p) (filter rest (jobs p)) (length-filter rest (jobs p)) (others-in j (jobs p)) (filter-distinct rest (jobs p) (path-jobs c vc p (only .0))), more-flipped c vc p (only .0) (b .holders) (subst (OneMore (b .benches) (b .holders) (c .holders)) (sym (only .1)) one))
 
 -- a job that was taken away names nothing
 pub taken-names : (b : Board) (j : ℕ) → T (stands b j) → namesOf (put b j [] 0) j ≡ []
@@ -188,10 +189,10 @@ closing-does b v j s = go (closingChoice c x) refl
         subst (λ (l : List ℕ). T (not (empty l))) e (path-stands c vc p h k m)
 
     go : (o : Option BenchPath) → closingChoice c x ≡ o → Changed b j [] (afterClosing c x o) × OneMore (b .benches) (((afterClosing c x o) .board) .holders) (b .holders) ((afterClosing c x o) .bench)
-    go none q = (does-put b v j [] 0 vc x, put-falls b v j s)
+    go none q = let one = put-falls b v j s in (does-put b v j [] 0 vc x (omega (arith, one .positive, one .bench)), one)
     go (some p) q =
         let only = improvingTo-only c x p (((closing-choice c x p) .0 q) .listed-is) in
-        (does-flip b v j [] 0 vc p (only .0) (p .start) (jobs p) (λ k. (λ m. (gone p (only .0) k m, m), λ d. d .1)) (path-jobs c vc p (only .0)), less-flipped c vc p (only .0) (b .holders) (only .1) (subst (OneMore (b .benches) (c .holders) (b .holders)) (sym (only .2)) (put-falls b v j s)))
+        (does-flip b v j [] 0 vc p (only .0) (only .1) (p .start) (jobs p) (omega arith) (λ k. (λ m. (gone p (only .0) k m, m), λ d. d .1)) (path-jobs c vc p (only .0)), less-flipped c vc p (only .0) (b .holders) (only .1) (subst (OneMore (b .benches) (c .holders) (b .holders)) (sym (only .2)) (put-falls b v j s)))
 
 -- afterwards no bench holds the job
 pub closed-holder : (b : Board) → Valid b → (j : ℕ) → T (stands b j) → holderOf ((close b j) .board) j ≡ 0

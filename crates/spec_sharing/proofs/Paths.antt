@@ -10,7 +10,7 @@ use lib.ListN.{length, getD, length-map}
 use borrow.Author.Tests.{eq-eqb}
 use Rattle.spec_lists.specs.Lists.{within, member, distinct, range, filter, Each, In}
 use Rattle.spec_table.specs.Board.{Board, Valid, namesOf, holderOf, stands, load}
-use Rattle.spec_sharing.specs.Paths.{Step, stepBy, stepsFrom, steps, BenchPath, pathBy, endOf, last, Walk, IsPath, routes, pathsFrom, improves, improvingFrom, improving, improvingTo}
+use Rattle.spec_sharing.specs.Paths.{Step, stepBy, stepsFrom, steps, BenchPath, pathBy, endOf, last, jobs, Walk, IsPath, routes, pathsFrom, improves, improvingFrom, improving, improvingTo}
 use Rattle.spec_sharing.specs.Sharing.{level}
 use Rattle.spec_lists.proofs.Tests.{true→T, T→true, both, Compared, same, other, compared, T-eqb, eqb-T, T-leb, leb-T}
 use Rattle.spec_lists.proofs.Elements.{in-left, in-right, in-either, in-filter, filter-in, empty-in, in-empty, some-in, in-map, map-in, in-flatMap, flatMap-in}
@@ -163,6 +163,13 @@ listed-is-path b x p i =
 pub walk-benches : (b : Board) → Valid b → (x : ℕ) (r : List Step) → Walk (steps b) x r → Each (λ y. T (within 1 (b .benches) y)) (benchesOf r)
 walk-benches b v x [] w = tt
 walk-benches b v x (s ∷ r) w = (step-bench b v x s (w .0), walk-benches b v (s .to) r (w .1))
+
+-- a path comes to no bench twice, so it has fewer jobs than there are benches
+pub path-few : (b : Board) → Valid b → (p : BenchPath) → IsPath b p → T (within 1 (b .benches) (p .start)) → suc (length (jobs p)) ≤ b .benches
+path-few b v p h s =
+    let l = p .start ∷ benchesOf (p .route) in
+    let n = few (b .benches) l (distinct-count l (true→T (distinct l) (h .once))) (s, walk-benches b v (p .start) (p .route) (h .walk)) in
+    omega (arith, n, length-map (p .route) (λ (s : Step). s .to), length-map (p .route) (λ (s : Step). s .job))
 
 -- .. and every path from x
 pub path-is-listed : (b : Board) → Valid b → (p : BenchPath) → IsPath b p → In p (pathsFrom b (p .start))
