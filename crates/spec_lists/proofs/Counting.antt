@@ -99,6 +99,19 @@ total-at (suc n) f y l h = go (λ d. total-at n f y l (omega arith)) (compared y
     go ih (same e) = omega (arith, ap f e)
     go ih (other d) = omega (arith, ih d)
 
+-- with more numbers a total does not fall ..
+pub total-rises : (m n : ℕ) (f : ℕ → ℕ) → m ≤ n → total m f ≤ total n f
+total-rises m zero f l = let e : m ≡ 0 = omega arith in rw e (omega arith)
+total-rises m (suc n) f l = elim (decLe m n) [
+  | yes k ↦ omega (arith, total-rises m n f k)
+  | no k ↦ let e : m ≡ suc n = omega (arith, k) in rw e (omega arith)
+]
+
+-- .. and a value beyond m is part of what comes with them
+pub total-beyond : (m n : ℕ) (f : ℕ → ℕ) (x : ℕ) → m < x → x ≤ n → total m f + f x ≤ total n f
+total-beyond m n f zero l u = absurd (omega arith)
+total-beyond m n f (suc x) l u = omega (arith, total-rises m x f (omega arith), total-rises (suc x) n f u)
+
 pub total-most : (n : ℕ) (f : ℕ → ℕ) → ((x : ℕ) → f x ≤ 1) → total n f ≤ n
 total-most zero f h = omega arith
 total-most (suc n) f h = omega (arith, total-most n f h, h (suc n))
@@ -258,6 +271,22 @@ greatest-above (suc n) f x l h = go (decLt x (suc n)) (λ i. greatest-above n f 
 pub greatest-most : (n : ℕ) (f : ℕ → ℕ) (m : ℕ) → ((x : ℕ) → 1 ≤ x → x ≤ n → f x ≤ m) → greatest n f ≤ m
 greatest-most zero f m h = omega arith
 greatest-most (suc n) f m h = omega (arith, greatest-most n f m (λ x l u. h x l (omega arith)), h (suc n) (omega arith) (omega arith))
+
+-- with more numbers a greatest value does not fall ..
+pub greatest-rises : (m n : ℕ) (f : ℕ → ℕ) → m ≤ n → greatest m f ≤ greatest n f
+greatest-rises m n f l = greatest-most m f (greatest n f) (λ x i u. greatest-above n f x i (omega arith))
+
+-- .. nor rise, if what comes with them is no more than it
+pub greatest-early : (m n : ℕ) (f : ℕ → ℕ) → m ≤ n → total n f ≤ total m f + greatest m f → greatest m f ≡ greatest n f
+greatest-early m n f l e = omega (arith, greatest-rises m n f l, greatest-most n f (greatest m f) no-more)
+  where
+    no-more : (x : ℕ) → 1 ≤ x → x ≤ n → f x ≤ greatest m f
+    no-more x i u = elim (decLe x m) [ yes k ↦ greatest-above m f x i k | no k ↦ omega (arith, e, total-beyond m n f x (omega (arith, k)) u) ]
+
+-- functions that agree on 1 to n have the same greatest value
+pub greatest-same : (n : ℕ) (f g : ℕ → ℕ) → ((x : ℕ) → 1 ≤ x → x ≤ n → f x ≡ g x) → greatest n f ≡ greatest n g
+greatest-same zero f g e = refl
+greatest-same (suc n) f g e = omega (arith, greatest-same n f g (λ x l u. e x l (omega arith)), e (suc n) (omega arith) (omega arith))
 
 -- a greatest value above 0 is the value somewhere
 pub greatest-reached : (n : ℕ) (f : ℕ → ℕ) → 1 ≤ greatest n f → (x : ℕ) × (1 ≤ x) × (x ≤ n) × (f x ≡ greatest n f)

@@ -1,23 +1,23 @@
 -- Demand 2: level boards are those whose excess is least above every height, and the tight set proves the heaviest load.
 use Prim.Native.Nat.{ℕ, suc, _+_, _-_, _*_, _≤_}
 use native.Mathlib.Omega.{arith}
+use native.Mathlib.Decide.{decLe}
 use mathlib.Core.Path.{_≡_, refl, sym, ap}
 use mathlib.Core.Logic.{_≢_}
-use mathlib.Core.Bool.{Bool, not}
-use mathlib.Core.List.{List, [], _∷_}
+use mathlib.Core.Bool.{Bool}
+use mathlib.Core.List.{List}
 use lib.Dec.{T, leb, eqb}
 use lib.ListN.{length}
-use Rattle.spec_lists.specs.Lists.{bit, within, greatest, filter, Each, empty}
-use Rattle.spec_table.specs.Board.{Board, Valid, standing, load, heaviest, excess, Shares, heldBy, namesFit}
+use Rattle.spec_lists.specs.Lists.{bit, total, greatest}
+use Rattle.spec_table.specs.Board.{Board, Valid, standing, load, heaviest, excess, Shares, heldBy}
 use Rattle.spec_sharing.specs.Paths.{BenchPath, last, IsPath, improves, flip}
 use Rattle.spec_sharing.specs.Sharing.{level, tightSet, inside, density}
 use Rattle.spec_sharing.specs.Demand2.{LeastExcess, Demand2}
 use Rattle.spec_lists.proofs.Tests.{Compared, same, other, compared, T-leb, leb-T, within-low, within-high, within-both}
-use Rattle.spec_lists.proofs.NumberLists.{member-in}
-use Rattle.spec_table.proofs.Named.{fit-bench}
-use Rattle.spec_lists.proofs.Counting.{bit-same, bit-other, total-but-one, greatest-above, greatest-most, greatest-reached}
+use Rattle.spec_lists.proofs.Counting.{bit-same, bit-other, total-each, total-le, total-but-one, greatest-above, greatest-most, greatest-reached}
 use Rattle.spec_sharing.proofs.Paths.{improves-loads, improves-start, level-exact}
 use Rattle.spec_table.proofs.Loads.{load-heaviest, excess-none, excess-load}
+use Rattle.spec_table.proofs.CountedBenches.{loads-standing}
 use Rattle.spec_sharing.proofs.Sets.{density-between}
 use Rattle.spec_sharing.proofs.Walks.{level-reach}
 use Rattle.spec_sharing.proofs.Certificate.{Proves, attained, proved-least, certificate}
@@ -84,18 +84,13 @@ least-level b v m = (level-exact b v) .1 none
 
 -- the heaviest load
 
--- where jobs stand, some bench of 1 to B holds one ..
-standing-held : (n : ℕ) (named : List (List ℕ)) (holders : List ℕ) → Each (λ names. T (namesFit n names)) named → Shares named holders → 1 ≤ length (filter (λ names. not (empty names)) named) → (x : ℕ) × T (within 1 n x) × (1 ≤ load holders x)
-standing-held n [] holders f s l = absurd (omega arith)
-standing-held n (names ∷ named) [] f s l = absurd s
-standing-held n ([] ∷ named) (h ∷ holders) f s l = let r = standing-held n named holders (f .1) (s .1) l in (r .0, r .1, omega (arith, r .2))
-standing-held n ((y ∷ names) ∷ named) (h ∷ holders) f s l = (h, fit-bench n (y ∷ names) h (f .0) (member-in h (y ∷ names) (s .0)), omega (arith, bit-same h h refl))
-
--- .. so the heaviest load is not 0
+-- where jobs stand, it is not 0: else all loads together would be 0
 standing-load : (b : Board) → Valid b → 1 ≤ standing b → 1 ≤ heaviest b
-standing-load b v l =
-    let r = standing-held (b .benches) (b .named) (b .holders) (v .names) (v .shares) l in
-    omega (arith, r .2, load-heaviest b (r .0) (r .1))
+standing-load b v l = elim (decLe 1 (heaviest b)) [ yes k ↦ k | no k ↦ absurd (omega (arith, k, loads-standing b v, none k, total-each (b .benches) 0)) ]
+  where
+    none : (1 ≤ heaviest b → ⊥) → total (b .benches) (load (b .holders)) ≤ total (b .benches) (λ x. 0)
+    none k =
+        total-le (b .benches) (load (b .holders)) (λ x. 0) (λ x i u. omega (arith, k, load-heaviest b x (within-both 1 (b .benches) x i u)))
 
 -- above one less than the heaviest load there is excess
 heaviest-excess : (b : Board) (k : ℕ) → heaviest b ≡ suc k → 1 ≤ excess (b .benches) (b .holders) k

@@ -1,6 +1,7 @@
 -- What is proved of boards and their tables.
 pub mod Named
 pub mod Loads
+pub mod CountedBenches
 pub mod Held
 pub mod Limits
 pub mod Words
