@@ -65,7 +65,7 @@ pub fn heaviest(t: &[u8]) -> Answer
     let mut loads = scratch::benches();
     match table_form::check(t, &mut loads) {
         Form::Refused(r) => Answer::Refused(r),
-        Form::Sound(s, _) => Answer::Heaviest(sharing_loads::heaviest(s, &loads)),
+        Form::Sound(s, _) => Answer::Heaviest(sharing_loads::find_heaviest(t, s, &loads).load),
     }
 }
 

@@ -34,7 +34,7 @@ pub fn find_closing(
 {
     let x = jobs::holder(t, s, j);
     // Reads the heaviest load before it may fall: a word just written would hold up the reading of all.
-    let top = sharing_loads::heaviest(s, loads);
+    let top = sharing_loads::find_heaviest(t, s, loads).load;
     loads[x] -= 1;
     sharing_paths_to::find_to(t, s, loads, x, top, path)
 }

@@ -1,4 +1,5 @@
--- The greatest of several loads, loads in falling order, and the lightest of several benches.
+-- The heaviest load, loads in falling order, and the lightest of several benches.
 pub mod Greatest
+pub mod CountingLoads
 pub mod Lower
 pub mod LowestLoad

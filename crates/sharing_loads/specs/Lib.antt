@@ -1,2 +1,3 @@
 -- What is asked of loads.
+pub mod HeaviestLoad
 pub mod LoadRanks

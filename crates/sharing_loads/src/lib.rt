@@ -1,28 +1,98 @@
 // Loads: the heaviest, the lightest bench, the next lower load.
 ghost use mathlib.Core.Path.{_≡_};
-ghost use Rattle.spec_lists.specs.Lists.{greatest};
-ghost use Rattle.table_size.specs.Sizes.{Limits};
-ghost use Rattle.graph_lists.specs.Arrays.{at, LoadsIn};
+ghost use Prim.Native.Nat.{_+_, _≤_};
+ghost use Rattle.spec_table.specs.Table.{decode};
+ghost use Rattle.table_size.specs.Sizes.{Limits, SoundTable};
+ghost use Rattle.table_board.specs.BoardView.{Loaded};
+ghost use Rattle.graph_lists.specs.Arrays.{LoadsIn};
+ghost use Rattle.sharing_loads.specs.HeaviestLoad.{HeaviestOf, CountOf, NotBefore};
 ghost use Rattle.sharing_loads.specs.LoadRanks.{Lightest, NextLower};
+use table_board::jobs;
 use table_size::Size;
 
-// Finds the heaviest load, from bench 1 up.
-pub fn heaviest(s: Size, loads: &[u16; Size::MOST_BENCHES + 1]) -> usize
+// The heaviest load, and how many benches were counted, from bench 1 up, until it was known.
+pub struct Heaviest {
+    pub load: usize,
+    pub benches: usize,
+}
+
+// How far the count has come: the benches counted, the best load so far, and the standing jobs not yet counted.
+struct Count {
+    benches: usize,
+    best: u16,
+    left: u16,
+}
+
+// The benches that are counted in one stretch. A loop of fixed length without an exit of its own reads eight at once.
+const STRETCH: usize = 16;
+
+// Counts so many benches more.
+fn count_on(s: Size, loads: &[u16; Size::MOST_BENCHES + 1], c: Count, more: usize) -> Count
     requires { ⌜ Limits s ⌝ }
-    requires { ⌜ LoadsIn s (now loads) ⌝ }
-    ensures { λ r. ⌜ r ≡ greatest (s .benches) (at (now (loads .entry))) ⌝ }
+    requires { ⌜ CountOf s (now loads) c ⌝ }
+    requires { ⌜ c .benches + more ≤ s .benches ⌝ }
+    ensures { λ r. ⌜ CountOf s (now (loads .entry)) r ⌝ }
+    ensures { λ r. ⌜ r .benches ≡ c .benches + more ⌝ }
 {
-    let benches = s.benches();
-    let mut most = 0;
+    let benches = c.benches;
+    let mut best = c.best;
+    let mut left = c.left;
     let mut done = 0;
-    while done < benches {
+    while done < more {
         done += 1;
-        let n = loads[done];
-        if most < n {
-            most = n;
+        let n = loads[benches + done];
+        left -= n;
+        if best < n {
+            best = n;
         }
     }
-    most as usize
+    Count {
+        benches: benches + more,
+        best,
+        left,
+    }
+}
+
+// Counts stretches, as long as the count does not end in the next one.
+fn count_stretches(s: Size, loads: &[u16; Size::MOST_BENCHES + 1], start: Count) -> Count
+    requires { ⌜ Limits s ⌝ }
+    requires { ⌜ CountOf s (now loads) start ⌝ }
+    requires { ⌜ NotBefore s (now loads) start ⌝ }
+    ensures { λ r. ⌜ CountOf s (now (loads .entry)) r ⌝ }
+    ensures { λ r. ⌜ NotBefore s (now (loads .entry)) r ⌝ }
+{
+    let benches = s.benches();
+    let mut c = start;
+    while c.benches + STRETCH <= benches {
+        let next = count_on(s, loads, c, STRETCH);
+        if next.left <= next.best {
+            return c;
+        }
+        c = next;
+    }
+    c
+}
+
+// Finds the heaviest load, from bench 1 up, until the standing jobs not yet counted are no more than the best load so
+// far: stretch by stretch, and in the one where that comes to hold bench by bench.
+pub fn find_heaviest(t: &[u8], s: Size, loads: &[u16; Size::MOST_BENCHES + 1]) -> Heaviest
+    requires { ⌜ SoundTable (now t) s ⌝ }
+    requires { ⌜ Loaded (decode (now t)) (now loads) ⌝ }
+    ensures { λ r. ⌜ HeaviestOf (decode (now (t .entry))) r ⌝ }
+{
+    let start = Count {
+        benches: 0,
+        best: 0,
+        left: jobs::standing(t, s) as u16,
+    };
+    let mut c = count_stretches(s, loads, start);
+    while c.best < c.left {
+        c = count_on(s, loads, c, 1);
+    }
+    Heaviest {
+        load: c.best as usize,
+        benches: c.benches,
+    }
 }
 
 // Finds the bench with the lowest load, then the lowest number.

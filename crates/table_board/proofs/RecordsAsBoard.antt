@@ -9,15 +9,15 @@ use lib.Dec.{T, eqb}
 use lib.ListN.{length, getD, length-map}
 use borrow.Author.Tests.{ne-eqb}
 use Rattle.spec_lists.specs.Lists.{In, empty, nth}
-use Rattle.spec_table.specs.Board.{Board, namesOf, holderOf, stands, put, load, mayHold, namesFit}
+use Rattle.spec_table.specs.Board.{Board, namesOf, holderOf, stands, standing, put, load, mayHold, namesFit}
 use Rattle.spec_table.specs.Table.{Entry, vacant, filled, holderIn, boardOf, decode, paired, Storable}
 use Rattle.spec_lists.proofs.Tests.{cond-le, T-eqb, within-high}
-use Rattle.spec_lists.proofs.Elements.{each-nth, in-getD, in-nth, in-enumerate, enumerate-nth}
+use Rattle.spec_lists.proofs.Elements.{each-nth, in-getD, in-nth}
 use Rattle.spec_lists.proofs.NumberLists.{member-in}
-use Rattle.spec_lists.proofs.Counting.{count-none}
 use Rattle.spec_table.proofs.Named.{fit-bench, changed-storable, named-may, stands-within, named-stands, named-bench}
 use Rattle.spec_sharing.proofs.Flip.{put-valid}
-use Rattle.spec_table.proofs.Sound.{namesIn, two-paired, holder-within, holder-record, names-record, Standing, stored-record}
+use Rattle.spec_table.proofs.CountedBenches.{load-outside}
+use Rattle.spec_table.proofs.Sound.{namesIn, two-paired, holder-within, holder-record, names-record, Standing, stored-record, standing-word}
 use Rattle.table_words.specs.Bytes.{layoutIn}
 use Rattle.table_size.specs.Sizes.{Limits, JobIn, SoundTable, SizeOf}
 use Rattle.table_size.specs.Written.{recordIn}
@@ -80,13 +80,11 @@ holders-long {t} {s} z = length-map ((layoutIn t) .entries) holderIn ∙ entries
 
 -- a bench beyond the last has no load
 pub load-beyond : (t : List ℕ) (s : Size) (x : ℕ) → HoldsBoard t s → s .benches < x → load ((decode t) .holders) x ≡ 0
-load-beyond t s x k l = count-none x ((decode t) .holders) never
-  where
-    never : In x ((decode t) .holders) → ⊥
-    never i =
-        let n = in-enumerate 1 x ((decode t) .holders) i in
-        let r = enumerate-nth (n .0, x) ((decode t) .holders) 0 (n .1) in
-        omega (arith, r .2, holder-most t s (n .0) k)
+load-beyond t s x k l = load-outside (decode t) (k .storable .valid) x (omega (arith, k .size .board-benches))
+
+-- word 2 of a sound table is the number of its board's standing jobs
+pub standing-read : (t : List ℕ) (s : Size) (n : ℕ) → SoundTable t s → n ≡ (layoutIn t) .standing → n ≡ standing (decode t)
+standing-read t s n z e = e ∙ standing-word t (z .sound)
 
 -- a job stands exactly if it has a holder
 pub stands-held : (t : List ℕ) (s : Size) (j : ℕ) → HoldsBoard t s → stands (decode t) j ≡ not (eqb (holderOf (decode t) j) 0)

@@ -1,8 +1,8 @@
-// The jobs of a board, read from their records. table_splices changes them.
+// The jobs of a board, read from their records, and how many they are. table_splices changes them.
 ghost use mathlib.Core.Path.{_≡_};
-ghost use Rattle.spec_table.specs.Board.{namesOf, stands};
+ghost use Rattle.spec_table.specs.Board.{namesOf, stands, standing};
 ghost use Rattle.spec_table.specs.Table.{decode};
-ghost use Rattle.table_size.specs.Sizes.{JobIn};
+ghost use Rattle.table_size.specs.Sizes.{JobIn, SoundTable};
 ghost use Rattle.table_board.specs.BoardView.{HoldsBoard, Position, NameOf, HolderOf};
 use table_size::Size;
 
@@ -14,6 +14,14 @@ pub fn stands(t: &[u8], s: Size, j: usize) -> bool
 {
     let r = table_records::read_record(t, s, j);
     r.first != 0
+}
+
+// Reads the number of standing jobs, which a sound table tells.
+pub fn standing(t: &[u8], s: Size) -> usize
+    requires { ⌜ SoundTable (now t) s ⌝ }
+    ensures { λ r. ⌜ r ≡ standing (decode (now (t .entry))) ⌝ }
+{
+    table_header::standing_word(t, s)
 }
 
 // Reads the k-th bench that job j names, counted from 1.

@@ -2,9 +2,6 @@
 use mathlib.Core.List.{[]}
 use Rattle.spec_calls.specs.Calls.{ask, heaviestLoad}
 use Rattle.table_form.specs.FormCheck.{FoundSound}
-use Rattle.table_board.proofs.RecordsAsBoard.{sound-holds-board}
-use Rattle.sharing_steps.proofs.AsSteps.{loads-in}
-use Rattle.sharing_loads.proofs.Greatest.{heaviest-loaded}
 use Rattle.board_answers.proofs.Formal.{form-refused}
 use Rattle.board_questions.proofs.Asking.{heaviest-told}
 use borrow.Author.Needs.{needs}
@@ -27,20 +24,16 @@ enum-known-s c = search needs
 found : (c : tie.After-known-told2) → FoundSound (c .before .before .before .before .before .before .before .args .t .now) (c .before .before .before .check .last .1 .0) (c .before .s .given .0 .0) (c .before .s .given .0 .1 .0)
 found c = rw (c .before .s .given .1) at (c .before .before .before .check .ensures .says)
 
-heaviest-requires : tie.Need-heaviest-requires
-heaviest-requires c κs =
-    let f = found (c .before) in
-    (f .sound .size .limits, loads-in (sound-holds-board _ _ (f .sound)) (f .loaded))
+find-heaviest-requires : tie.Need-find-heaviest-requires
+find-heaviest-requires c κs = let f = found (c .before) in (f .sound, f .loaded)
 
 returns : tie.Need-returns
 returns c = form-refused _ (ask heaviestLoad []) tt _ (rw (c .before .r .given .1) at (c .before .before .before .check .ensures .says))
 
 returns-2 : tie.Need-returns-2
-returns-2 c =
-    let f = found (c .before .before) in
-    heaviest-told (f .sound) (c .heaviest .result) (heaviest-loaded (sound-holds-board _ _ (f .sound)) (f .loaded) (c .heaviest .ensures))
+returns-2 c = heaviest-told ((found (c .before .before)) .sound) (c .find-heaviest .result .load) (c .find-heaviest .ensures .load)
 
 pub heaviest-spec : {M : Type 1} → statement M
 heaviest-spec =
     tie.close
-    (tie.spec benches-requires check-requires enum-known-r enum-known-s heaviest-requires returns returns-2)
+    (tie.spec benches-requires check-requires enum-known-r enum-known-s find-heaviest-requires returns returns-2)

@@ -8,6 +8,7 @@ use borrow.Author.Needs.{needs}
 use Rattle.spec_table.specs.Table.{mostBenches, mostJobs, decode}
 use Rattle.graph_lists.specs.Arrays.{at}
 use Rattle.sharing_search.proofs.OnBoard.{order-holds}
+use Rattle.sharing_loads.proofs.Greatest.{heaviest-loaded}
 use Rattle.sharing_start.specs.PathStart.{Searched}
 use Rattle.sharing_start.proofs.Starting.{start-some, falling-start, falling-turn, falling-end}
 use Rattle.sharing_start.proofs.first_start.Statement.{statement}
@@ -41,17 +42,18 @@ element-copy-out-low c = small c
 cast-low : tie.Need-cast-low Inv-loop μ-loop
 cast-low c = omega (arith, light (c .before))
 
-heaviest-requires : tie.Need-heaviest-requires Inv-loop μ-loop
-heaviest-requires c κs = let pre = c .before .before .before .pre in (pre .0 .sound .size .limits, pre .1 .0)
+find-heaviest-requires : tie.Need-find-heaviest-requires Inv-loop μ-loop
+find-heaviest-requires c κs = let pre = c .before .before .before .pre in (pre .0 .sound, pre .1 .1 .0)
 
 add-if1 : tie.Need-add-if1 Inv-loop μ-loop
 add-if1 c = omega (arith, light (c .before .before))
 
 -- nothing was searched from yet
-begun : (c : tie.After-heaviest Inv-loop μ-loop) {came : List ℕ} → let a = c .before .before .before .before .args in came ≡ replicate (mostBenches + 1) 0 → Searched (decode (a .t .now)) (a .s) (c .heaviest .result) 1 0 (a .queue .now) came
+begun : (c : tie.After-find-heaviest Inv-loop μ-loop) {came : List ℕ} → let a = c .before .before .before .before .args in came ≡ replicate (mostBenches + 1) 0 → Searched (decode (a .t .now)) (a .s) (c .find-heaviest .result .load) 1 0 (a .queue .now) came
 begun c e =
     let pre = c .before .before .before .before .pre in
-    falling-start (order-holds (pre .0)) (pre .1 .1 .0) (c .heaviest .ensures) (pre .1 .1 .1) e
+    let holds = order-holds (pre .0) in
+    falling-start holds (pre .1 .1 .0) (heaviest-loaded holds (pre .1 .1 .0) (c .find-heaviest .ensures .load)) (pre .1 .1 .1) e
 
 returns : tie.Need-returns Inv-loop μ-loop
 returns c =
@@ -101,7 +103,7 @@ first-start-spec =
     mul-low
     element-copy-out-low
     cast-low
-    heaviest-requires
+    find-heaviest-requires
     add-if1
     returns
     benches-requires
