@@ -4,8 +4,8 @@
 #include <cstdio>
 #include <vector>
 
-#if JOBBOARD_VERSION != 4
-#error "these calls are those of version 4"
+#if JOBBOARD_VERSION != 5
+#error "these calls are those of version 5"
 #endif
 
 int main()

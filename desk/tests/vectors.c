@@ -1,6 +1,7 @@
 /*
- * Tables, and what another implementation of the papers answered on them: those of crates/test_table_files/data with data/index and
- * data/calls, from before the change requests, and those of data/requests, from the newest request.
+ * Tables, and what another implementation of the papers answered on them: those of crates/test_table_files/data/base with data/index and
+ * data/calls, from before the change requests, and those of crates/test_table_files/data/requests with data/requests/index and
+ * data/requests/calls, from the newest request.
  *
  * `index` has for each table its form check, level check, heaviest load and a hash of its loads; `calls` has calls, each on a fresh copy,
  * with the answer and hashes. The first is of the whole table, and it is compared with that of the bytes as the call leaves them:
@@ -8,10 +9,11 @@
  * compared, in the older files too; a refused call and a load leave the bytes as they were. The second hash is of the same table with
  * chain heads and next words zero, and only says which part differs. For a tight set both are of its list; for a wall sheet they are of
  * the table and of the page; for an arrival or a closing of request 04 of the table and of the list of moved jobs; for a pair question
- * there is the first alone. List and page are filled with a5 before. Arrivals and closings of the older files have no list, and get one
- * that is long enough.
+ * and for a heaviest load of request 05 there is the first alone. List and page are filled with a5 before. Arrivals and closings of the
+ * older files have no list, and get one that is long enough. The heaviest load of request 05 comes with the number of benches counted,
+ * which the C call does not tell: here it is left out, and crates/test_table_files compares it.
  *
- * Arguments: the folder of tables and the folder of index and calls; the folder of the newest request, which has all.
+ * Arguments: the folder of tables and the folder of index and calls, from before the change requests; the same two of the newest request.
  */
 #include "calls.h"
 #include "jobboard.h"
@@ -125,20 +127,22 @@ struct form {
     const char *word;
     enum kind kind;
     int numbers;
-    bool lends; /* the last number is the length of a list or a page */
+    bool lends;        /* the last number is the length of a list or a page */
+    bool count_untold; /* the answer ends with a count that the C call does not tell */
     enum hashes hashes;
 };
 
 static const struct form forms[] = {
-    {"A", ARRIVAL, 3, false, TABLE_TWICE},
-    {"D", CLOSING, 1, false, TABLE_TWICE},
-    {"arrival", ARRIVAL, 4, true, TABLE_AND_LENT},
-    {"closing", CLOSING, 2, true, TABLE_AND_LENT},
-    {"L", LEVELLING, 1, false, TABLE_TWICE},
-    {"S", TIGHT_SET, 2, true, LENT_TWICE},
-    {"O", LOAD, 1, false, TABLE_TWICE},
-    {"sheet", SHEET, 1, true, TABLE_AND_LENT},
-    {"pair", BETWEEN, 2, false, TABLE_ONCE},
+    {"A", ARRIVAL, 3, false, false, TABLE_TWICE},
+    {"D", CLOSING, 1, false, false, TABLE_TWICE},
+    {"arrival", ARRIVAL, 4, true, false, TABLE_AND_LENT},
+    {"closing", CLOSING, 2, true, false, TABLE_AND_LENT},
+    {"L", LEVELLING, 1, false, false, TABLE_TWICE},
+    {"S", TIGHT_SET, 2, true, false, LENT_TWICE},
+    {"O", LOAD, 1, false, false, TABLE_TWICE},
+    {"sheet", SHEET, 1, true, false, TABLE_AND_LENT},
+    {"pair", BETWEEN, 2, false, false, TABLE_ONCE},
+    {"counted", HEAVIEST, 0, false, true, TABLE_ONCE},
 };
 
 /* Reads a call, such as "A 27 19 2". An arrival or a closing that names no list gets the longest one. */
@@ -169,7 +173,7 @@ static void answer_words(enum kind kind, struct answer a, char text[LINE])
         snprintf(text, LINE, "%u %u %u", (unsigned)v[0], (unsigned)v[1], (unsigned)v[2]);
     else if (kind == LEVELLING)
         snprintf(text, LINE, "%u %s", (unsigned)v[0], v[1] == 1 ? "level" : "stopped");
-    else if (kind == LOAD || kind == SHEET)
+    else if (kind == LOAD || kind == HEAVIEST || kind == SHEET)
         snprintf(text, LINE, "%u", (unsigned)v[0]);
     else if (kind == BETWEEN && v[0] == 0)
         snprintf(text, LINE, "none %u", (unsigned)v[1]);
@@ -189,8 +193,8 @@ static void forget_chains(uint8_t *table, size_t length)
         put_word(table, 4 + benches + 4 * (size_t)j + 3, 0);
 }
 
-/* Writes what the call gives, in the words of `calls`: answer and hashes. */
-static void run_call(const struct file *f, const char *text, char result[2 * LINE])
+/* Writes what the call gives, in the words of `calls`: answer and hashes. Gives the call's form. */
+static const struct form *run_call(const struct file *f, const char *text, char result[2 * LINE])
 {
     char words[LINE];
     struct call call;
@@ -211,12 +215,36 @@ static void run_call(const struct file *f, const char *text, char result[2 * LIN
         snprintf(result + used, 2 * LINE - (size_t)used, " %016" PRIx64, second);
     free(left);
     free(call.lent);
+    return form;
+}
+
+/* Takes the count out of an expected answer, such as "9 47" and the hash; a refusal, "R 2" and the hash, has none. */
+static void leave_out_count(char *want)
+{
+    if (want[0] == 'R')
+        return;
+    char *count = strchr(want, ' ');
+    char *hash = count == NULL ? NULL : strchr(count + 1, ' ');
+    if (hash == NULL)
+        fail("vectors: calls: expected answer without a count: %s", want);
+    memmove(count, hash, strlen(hash) + 1);
+}
+
+/* Compares what the call gives with what is expected of C. */
+static void compare_call(const struct file *f, const char *text, char *want)
+{
+    char result[2 * LINE];
+    const struct form *form = run_call(f, text, result);
+    if (form->count_untold)
+        leave_out_count(want);
+    if (strcmp(result, want) != 0)
+        fail("vectors: calls: %s %s gives \"%s\", expected \"%s\"", f->name, text, result, want);
 }
 
 static unsigned run_calls(const char *tables, const char *data)
 {
     static struct file f;
-    char line[LINE], result[2 * LINE];
+    char line[LINE];
     unsigned calls = 0;
     FILE *list = open_in(data, "calls");
     while (fgets(line, sizeof line, list) != NULL) {
@@ -230,9 +258,7 @@ static unsigned run_calls(const char *tables, const char *data)
         want += strlen(" = ");
         if (strcmp(f.name, line) != 0)
             read_table(&f, tables, line);
-        run_call(&f, call, result);
-        if (strcmp(result, want) != 0)
-            fail("vectors: calls: %s %s gives \"%s\", expected \"%s\"", line, call, result, want);
+        compare_call(&f, call, want);
         calls++;
     }
     fclose(list);
@@ -250,9 +276,9 @@ static void run_all(const char *tables, const char *data, unsigned want_tables, 
 
 int main(int argc, char **argv)
 {
-    if (argc != 4)
-        fail("vectors: three arguments: the folder of tables, the folder of index and calls, the folder of the newest request");
+    if (argc != 5)
+        fail("vectors: four arguments: the folder of tables, the folder of index and calls, and the same two of the newest request");
     run_all(argv[1], argv[2], 96, 720);
-    run_all(argv[3], argv[3], 60, 846);
+    run_all(argv[3], argv[4], 60, 882);
     return 0;
 }

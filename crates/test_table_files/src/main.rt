@@ -1,27 +1,20 @@
-// Prints, for each table file that its arguments name, what the form check answers (sound, 1 or 2), and the heaviest
-// load or the same refusal. The files and the expected answers were made by another implementation of document 01. A
-// file's name tells what damage was tried; where that changed nothing, the table is sound.
+// Prints, for each table file that its arguments name, what the form check answers (sound, 1 or 2), then the heaviest
+// load and how many benches were counted to find it, or the same refusal. The C call does not tell that number, so it
+// is compared here. The files and the expected answers were made by another implementation of the papers: `base` is
+// from before the change requests, `requests` from the newest one. `base` came without numbers of benches; they were
+// made by a program apart, which follows the words of request 05 on a table's bytes and gives all those of `requests`.
+// A file's name tells what damage was tried; where that changed nothing, the table is sound.
 use libc::STDOUT_FILENO;
+use sharing_loads::Heaviest;
 use table_form::Form;
 use table_refusals::Refusal;
 use table_size::Size;
 
-fn heaviest(loads: &[u16; Size::MOST_BENCHES + 1]) -> u16 {
-    let mut most = 0;
-    let mut x = 1;
-    while x <= Size::MOST_BENCHES {
-        let load = loads[x];
-        if most < load {
-            most = load;
-        }
-        x += 1;
-    }
-    most
-}
-
-fn print_sound(loads: &[u16; Size::MOST_BENCHES + 1]) {
+fn print_sound(h: Heaviest) {
     io::write_all(STDOUT_FILENO, b" sound H");
-    io::print_decimal(STDOUT_FILENO, heaviest(loads) as u64);
+    io::print_decimal(STDOUT_FILENO, h.load as u64);
+    io::write_all(STDOUT_FILENO, b" ");
+    io::print_decimal(STDOUT_FILENO, h.benches as u64);
     io::write_all(STDOUT_FILENO, b"\n");
 }
 
@@ -39,7 +32,7 @@ fn print_table(t: &[u8]) {
     let mut loads = [0u16; Size::MOST_BENCHES + 1];
     match table_form::check(t, &mut loads) {
         Form::Refused(r) => print_refused(r),
-        Form::Sound(_, _) => print_sound(&loads),
+        Form::Sound(s, _) => print_sound(sharing_loads::find_heaviest(t, s, &loads)),
     }
 }
 
