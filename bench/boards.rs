@@ -121,9 +121,24 @@ pub fn ring(benches: usize, jobs: usize) -> Vec<u8> {
     table(benches, jobs, &standing)
 }
 
+/// Gives the benches that job j of a heap names: bench 1 and one of the others, these in turn.
+fn first_and_other(j: usize, benches: usize) -> [usize; 2] {
+    [1, 2 + (j - 1) % (benches - 1)]
+}
+
 /// Gives bench 1 the first jobs, which name the others in turn.
 pub fn heap(benches: usize, standing: usize, jobs: usize) -> Vec<u8> {
-    let standing: Vec<_> = (1..=standing).rev().map(|j| (j, [1, 2 + (j - 1) % (benches - 1)], 1)).collect();
+    let standing: Vec<_> = (1..=standing).rev().map(|j| (j, first_and_other(j, benches), 1)).collect();
+    table(benches, jobs, &standing)
+}
+
+/// Gives bench 1 nine jobs in ten, and each tenth job to one of the others, these in turn. Every job stands; chains rise.
+pub fn nearly_heap(benches: usize, jobs: usize) -> Vec<u8> {
+    let job = |j: usize| match j % 10 {
+        0 => (j, first_and_other(j / 10, benches), 2),
+        _ => (j, first_and_other(j, benches), 1),
+    };
+    let standing: Vec<_> = (1..=jobs).rev().map(job).collect();
     table(benches, jobs, &standing)
 }
 

@@ -49,8 +49,11 @@ pub fn measure() {
     trials::each(measure_row);
 }
 
+/// The figure of the form checks: one of the same board, for levelling one for each path.
+const CHECKS: usize = 3;
+
 /// The figures that the proved call's time is held against: the plain one's time, the independent one's, form checks.
-const RATIOS: [usize; 3] = [1, 2, 3];
+const RATIOS: [usize; 3] = [1, 2, CHECKS];
 
 fn print_times(rows: &[Row]) {
     head(
@@ -101,10 +104,25 @@ fn print_ranges(rows: &[Row]) {
     }
 }
 
+/// Prints what share of a heaviest-load call the form check is, on each board that has such calls: large rooms make them all day.
+fn print_shares(rows: &[Row]) {
+    head(
+        "The share of the form check in a heaviest-load call: the proved call and the form check of the same board, timed in turn,\n\
+         in µs, and the second in per cent of the first.",
+        "board | B | J | heaviest | form check | share in %",
+    );
+    for row in rows.iter().filter(|row| row.cells[0] == trials::name(Call::Heaviest)) {
+        let [call, check] = [0, CHECKS].map(|i| row.figure(i).cell(micros));
+        let share = row.ratio(CHECKS, 0).cell(|share| format!("{:.1}", 100.0 * share));
+        println!("| {} | {call} | {check} | {share} |", row.cells[1..4].join(" | "));
+    }
+}
+
 pub fn print(files: &[String]) {
     let rows = rows(TABLE, files);
     targets::print(&rows, &growth::same_benches(files), &lengths::both(files));
     print_times(&rows);
     print_ratios(&rows);
     print_ranges(&rows);
+    print_shares(&rows);
 }

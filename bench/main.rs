@@ -1,6 +1,6 @@
 //! The proved calls beside two other implementations: a plain one, which works as a straightforward program does, and an independent one,
-//! written from document 01 alone, its sheet, its question for two benches and its lists of moved jobs from 02. First that all answer
-//! alike, then how long they take, in several processes. See bench/run.
+//! written from document 01 alone, its sheet, its question for two benches, its lists of moved jobs and the end of its heaviest load's
+//! count from 02. First that all answer alike, then how long they take, in several processes. See bench/run.
 mod boards;
 #[macro_use]
 mod calls;

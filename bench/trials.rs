@@ -12,6 +12,9 @@ pub const SIZES: [(usize, usize); 3] = [(10, 60), (100, 1000), (500, 4000)];
 pub const NO_ORDER: &str = "chains in no order";
 pub const NEARLY: &str = "one chain out of order";
 
+/// The board whose heaviest load is known when one bench is counted.
+pub const HEAPED: &str = "nearly all jobs on bench 1";
+
 /// The name of levelling with allowance 0, which moves no job and leaves every chain rising.
 pub const ORDERING: &str = "levelling, allowance 0";
 
@@ -238,6 +241,12 @@ fn special(benches: usize, jobs: usize) -> [Trial; 3] {
     ]
 }
 
+/// Makes the trial of the heaviest load and of the form check on the board where one bench, which stands first, holds nearly all jobs.
+fn heaped(benches: usize, jobs: usize) -> Trial {
+    let calls = [Call::FormCheck, Call::Heaviest].map(|question| vec![question]);
+    Trial(HEAPED.into(), boards::nearly_heap(benches, jobs), calls.into(), ACCEPTED)
+}
+
 /// Makes all boards of a size.
 fn trials(benches: usize, jobs: usize) -> Vec<Trial> {
     let random = &mut Random(11);
@@ -250,6 +259,7 @@ fn trials(benches: usize, jobs: usize) -> Vec<Trial> {
     trials.extend(ring);
     trials.extend(out_of_order(benches, jobs, random).map(with_ordering));
     trials.extend(special(benches, jobs));
+    trials.push(heaped(benches, jobs));
     trials
 }
 

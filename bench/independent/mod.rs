@@ -1,9 +1,10 @@
-//! The calls of document 01, written from the document alone, and the sheet, the question for two benches and the lists of moved jobs of
-//! 02, without bounds checks: what the proved ones are measured against.
+//! The calls of document 01, written from the document alone, and the sheet, the question for two benches, the lists of moved jobs and the
+//! end of the heaviest load's count of 02, without bounds checks: what the proved ones are measured against.
 //!
 //! Each call but that question makes the form check first and then tests its refusals in rising order, so that the lowest number is
 //! returned, and writes nothing before the last of them. It gives its values, or the number of the refusal.
 mod chains;
+mod count;
 mod form;
 mod level;
 mod pair;
@@ -217,9 +218,10 @@ pub fn load(t: &[u8], bench: u32) -> Result<[u32; 1], u32> {
 pub fn heaviest(t: &[u8]) -> Result<[u32; 1], u32> {
     let mut board = Board::new();
     form::read(t, &mut board)?;
-    Ok([most(&board) as u32])
+    Ok([count::heaviest(board.loads(), board.standing) as u32])
 }
 
+/// Finds the greatest load of all benches, for a closing and for a tight set: only the heaviest load's count is to end sooner.
 fn most(board: &Board) -> i16 {
     board.loads().iter().fold(0, |most, &load| most.max(load))
 }

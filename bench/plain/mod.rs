@@ -1,6 +1,6 @@
-//! The calls of document 01, and the sheet, the question for two benches and the lists of moved jobs of 02, as a straightforward program
-//! makes them, without bounds checks: passes over the records, lists in arrays, searches of all that is reached, and chains made anew.
-//! Chains are read by the form check, by load, by heaviest and by the question for two benches alone.
+//! The calls of document 01, and the sheet, the question for two benches, the lists of moved jobs and the end of the heaviest load's count
+//! of 02, as a straightforward program makes them, without bounds checks: passes over the records, lists in arrays, searches of all that is
+//! reached, and chains made anew. Chains are read by the form check, by load, by heaviest and by the question for two benches alone.
 //!
 //! Each call but that question makes the form check first and then tests its refusals in rising order. It gives its values, or the number
 //! of the refusal.
@@ -165,13 +165,20 @@ pub fn load(t: &[u8], bench: u32) -> Result<[u32; 1], u32> {
     Ok([unsafe { chain_length(t, s, bench as usize) }])
 }
 
-/// Gives the heaviest load.
+/// Gives the heaviest load. Counts the benches' jobs from bench 1 up, and ends when no more are left than the best load.
 pub fn heaviest(t: &[u8]) -> Result<[u32; 1], u32> {
     let s = sound(t)?;
+    // SAFETY: a sound table has its number of standing jobs in word 2.
+    let mut left = unsafe { word(t, 2) } as u32;
     let mut most = 0;
     for x in 1..s.benches + 1 {
+        if left <= most {
+            break;
+        }
         // SAFETY: the table is sound and `x` is 1 to B.
-        most = most.max(unsafe { chain_length(t, s, x) });
+        let load = unsafe { chain_length(t, s, x) };
+        most = most.max(load);
+        left -= load;
     }
     Ok([most])
 }
