@@ -55,6 +55,7 @@
  *     4    jobboard_arrival and jobboard_closing take `list` and `list_bytes`, in front of their results, and list there the jobs that
  *          moved; they may return JOBBOARD_LIST_TOO_SHORT. A program that needs no list lends one of JOBBOARD_MOST_LIST_BYTES all the
  *          same, since NULL and 0 are refused where a job moves. Nothing else changed: tables, results and the other calls are as before.
+ *     5    Nothing. jobboard_heaviest finds the same load sooner.
  */
 #ifndef JOBBOARD_H
 #define JOBBOARD_H
@@ -67,7 +68,7 @@ extern "C" {
 #endif
 
 /* The newest request that the calls take in (see VERSIONS). */
-#define JOBBOARD_VERSION 4
+#define JOBBOARD_VERSION 5
 
 /* Benches are numbered from 1 to at most this, and so are jobs. */
 #define JOBBOARD_MOST_BENCHES 500
@@ -183,7 +184,8 @@ uint32_t jobboard_level_check(const uint8_t *table, size_t table_bytes, uint32_t
 uint32_t jobboard_load(const uint8_t *table, size_t table_bytes, uint32_t bench, uint32_t *load);
 
 /*
- * Heaviest load. Result: *load is the greatest load of all benches, 0 for a table without jobs.
+ * Heaviest load. Result: *load is the greatest load of all benches, 0 for a table without jobs. It may be asked for all day: the call
+ * takes hardly longer than jobboard_check.
  *
  * Refused: JOBBOARD_SIZES, JOBBOARD_UNSOUND.
  */
