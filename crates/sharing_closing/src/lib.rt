@@ -34,7 +34,7 @@ pub fn find_closing(
 {
     let x = jobs::holder(t, s, j);
     // Reads the heaviest load before it may fall: a word just written would hold up the reading of all.
-    let top = sharing_loads::find_heaviest(t, s, loads).load;
+    let top = s.greatest(loads) as usize;
     loads[x] -= 1;
     sharing_paths_to::find_to(t, s, loads, x, top, path)
 }

@@ -1,22 +1,17 @@
 -- The greatest of the loads of a board's benches.
 use Prim.Native.Nat.{ℕ, _≤_}
 use native.Mathlib.Omega.{arith}
-use mathlib.Core.Path.{_≡_, refl, sym, _∙_}
+use mathlib.Core.Path.{_≡_, _∙_}
 use mathlib.Core.List.{List}
 use Rattle.spec_lists.specs.Lists.{greatest}
 use Rattle.spec_table.specs.Board.{Board, load, heaviest}
-use Rattle.spec_table.specs.Table.{mostBenches, decode}
+use Rattle.spec_table.specs.Table.{mostBenches}
 use Rattle.spec_lists.proofs.Counting.{greatest-same}
-use Rattle.table_size.specs.declared.Size.{Size}
-use Rattle.table_board.specs.BoardView.{HoldsBoard, Loaded}
+use Rattle.table_board.specs.BoardView.{Loaded}
 use Rattle.graph_lists.specs.Arrays.{at}
 
--- it is the board's heaviest ..
+-- it is the board's heaviest
 pub board-heaviest : {c : Board} {benches : ℕ} {loads : List ℕ} {n : ℕ} → c .benches ≡ benches → benches ≤ mostBenches → Loaded c loads → n ≡ greatest benches (at loads) → n ≡ heaviest c
 unfolding heaviest
 board-heaviest {c} {benches} {loads} b m l e =
     rw b (e ∙ greatest-same benches (at loads) (load (c .holders)) (λ x i u. l .bench x i (omega arith)))
-
--- .. and the heaviest of a table's board is it
-pub heaviest-loaded : {t : List ℕ} {s : Size} {loads : List ℕ} {n : ℕ} → HoldsBoard t s → Loaded (decode t) loads → n ≡ heaviest (decode t) → n ≡ greatest (s .benches) (at loads)
-heaviest-loaded k l e = e ∙ sym (board-heaviest (k .size .board-benches) (k .size .limits .benches-most) l refl)

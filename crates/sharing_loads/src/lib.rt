@@ -23,8 +23,11 @@ struct Count {
     left: u16,
 }
 
-// The benches that are counted in one stretch. A loop of fixed length without an exit of its own reads eight at once.
-const STRETCH: usize = 16;
+// The benches in a stretch. A loop of fixed length without an exit of its own reads eight at once; long stretches make
+// few tests on large boards, short ones leave few benches to count one by one.
+const LONG: usize = 32;
+
+const SHORT: usize = 8;
 
 // Counts so many benches more.
 fn count_on(s: Size, loads: &[u16; Size::MOST_BENCHES + 1], c: Count, more: usize) -> Count
@@ -53,18 +56,24 @@ fn count_on(s: Size, loads: &[u16; Size::MOST_BENCHES + 1], c: Count, more: usiz
     }
 }
 
-// Counts stretches, as long as the count does not end in the next one.
-fn count_stretches(s: Size, loads: &[u16; Size::MOST_BENCHES + 1], start: Count) -> Count
+// Counts stretches of this length, as long as the count does not end in the next one.
+fn count_stretches(
+    s: Size,
+    loads: &[u16; Size::MOST_BENCHES + 1],
+    start: Count,
+    stretch: usize,
+) -> Count
     requires { ⌜ Limits s ⌝ }
     requires { ⌜ CountOf s (now loads) start ⌝ }
     requires { ⌜ NotBefore s (now loads) start ⌝ }
+    requires { ⌜ 1 ≤ stretch ⌝ }
     ensures { λ r. ⌜ CountOf s (now (loads .entry)) r ⌝ }
     ensures { λ r. ⌜ NotBefore s (now (loads .entry)) r ⌝ }
 {
     let benches = s.benches();
     let mut c = start;
-    while c.benches + STRETCH <= benches {
-        let next = count_on(s, loads, c, STRETCH);
+    while stretch <= benches - c.benches {
+        let next = count_on(s, loads, c, stretch);
         if next.left <= next.best {
             return c;
         }
@@ -74,7 +83,7 @@ fn count_stretches(s: Size, loads: &[u16; Size::MOST_BENCHES + 1], start: Count)
 }
 
 // Finds the heaviest load, from bench 1 up, until the standing jobs not yet counted are no more than the best load so
-// far: stretch by stretch, and in the one where that comes to hold bench by bench.
+// far: stretch by stretch, and bench by bench in the one where that comes to hold.
 pub fn find_heaviest(t: &[u8], s: Size, loads: &[u16; Size::MOST_BENCHES + 1]) -> Heaviest
     requires { ⌜ SoundTable (now t) s ⌝ }
     requires { ⌜ Loaded (decode (now t)) (now loads) ⌝ }
@@ -85,7 +94,8 @@ pub fn find_heaviest(t: &[u8], s: Size, loads: &[u16; Size::MOST_BENCHES + 1]) -
         best: 0,
         left: jobs::standing(t, s) as u16,
     };
-    let mut c = count_stretches(s, loads, start);
+    let long = count_stretches(s, loads, start, LONG);
+    let mut c = count_stretches(s, loads, long, SHORT);
     while c.best < c.left {
         c = count_on(s, loads, c, 1);
     }

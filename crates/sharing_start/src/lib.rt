@@ -111,7 +111,7 @@ pub fn first_start(
 {
     let goal = sharing_loads::lightest(s, loads);
     let low = loads[goal] as usize;
-    let mut load = sharing_loads::find_heaviest(t, s, loads).load;
+    let mut load = s.greatest(loads) as usize;
     if load < low + 2 {
         return 0;
     }

@@ -1,5 +1,5 @@
 -- The pass, job by job, and what it shows at its end.
-use Prim.Native.Nat.{ℕ, suc, _+_, _*_, _≤_, _<_, max}
+use Prim.Native.Nat.{ℕ, suc, _+_, _*_, _≤_, _<_}
 use native.Mathlib.Omega.{arith}
 use native.Mathlib.Numerals.{add-one}
 use mathlib.Core.Path.{_≡_, refl, sym, ap, subst, _∙_}
@@ -229,22 +229,12 @@ meeting-end {t} {s} {due} {loads} {count} {done} z m l =
 
 -- the end
 
--- `most` is the greatest number that is due at benches 1 to `done`, of n benches
-pub record MostDue (due : List ℕ) (n most done : ℕ) : Type 0 where
-  pub few : done ≤ n
-  pub value : most ≡ greatest done (λ x. getD due x 0)
-
-module _ {due : List ℕ} {n most done : ℕ} (m : MostDue due n most done) where
-  -- one bench more: the greater one of two ..
-  pub most-turn : {p : ℕ} → done < n → p ≡ max most (getD due (done + 1) 0) → MostDue due n p (done + 1)
-  most-turn l e = record { few = omega arith; value = rw add-one (cc (rw add-one at e, m .value)) }
-
-  -- .. and of all benches it is 0 exactly if no job is due
-  pub most-end : (s : Size) → n ≡ s .benches → n ≤ done → T (eqb most 0) ↔ NoneDue s due
-  most-end s e l = (
-    λ q x b. omega (arith, T-eqb most 0 q, m .value, greatest-above done (λ y. getD due y 0) x (b .least) (omega (arith, b .most))),
-    λ none. eqb-T most 0 (omega (arith, m .value, greatest-most done (λ y. getD due y 0) 0 (λ x i u. omega (arith, none x (record { least = i; most = omega (arith, m .few) }))))),
-  )
+-- the greatest number that is due is 0 exactly if no job is
+pub most-due : (s : Size) (due : List ℕ) {most : ℕ} → most ≡ greatest (s .benches) (λ x. getD due x 0) → T (eqb most 0) ↔ NoneDue s due
+most-due s due {most} e = (
+  λ q x b. omega (arith, T-eqb most 0 q, e, greatest-above (s .benches) (λ y. getD due y 0) x (b .least) (b .most)),
+  λ none. eqb-T most 0 (omega (arith, e, greatest-most (s .benches) (λ y. getD due y 0) 0 (λ x i u. omega (arith, none x (record { least = i; most = u }))))),
+)
 
 -- all jobs were met ..
 module _ {t : List ℕ} {s : Size} {due loads : List ℕ} {n : ℕ} (z : SizeOf t s) (p : Passed t s due loads n) where

@@ -113,22 +113,12 @@ fn meet_all(
     Reach::All(count)
 }
 
-// Tells whether no job is due: whether the greatest number is 0. A loop without an exit of its own reads eight at once.
+// Tells whether no job is due: whether the greatest number is 0.
 fn none_due(s: Size, due: &[u16; Size::MOST_BENCHES + 1]) -> bool
     requires { ⌜ Limits s ⌝ }
     ensures { λ r. ⌜ (T r ↔ NoneDue s (now (due .entry))) ⌝ }
 {
-    let benches = s.benches();
-    let mut most = 0;
-    let mut done = 0;
-    while done < benches {
-        done += 1;
-        let n = due[done];
-        if most < n {
-            most = n;
-        }
-    }
-    most == 0
+    s.greatest(due) == 0
 }
 
 // Makes the pass; where it gets through, the loads are the benches'. The jobs that are due stand in `due`, which is

@@ -1,7 +1,8 @@
 // How many benches and jobs a table is for.
 ghost use mathlib.Core.Path.{_≡_};
 ghost use mathlib.Core.Bool.{_&&_};
-ghost use Rattle.spec_lists.specs.Lists.{within};
+ghost use lib.ListN.{getD};
+ghost use Rattle.spec_lists.specs.Lists.{within, greatest};
 ghost use Rattle.spec_table.specs.Table.{mostBenches, mostJobs, lengthFor, fits};
 ghost use Rattle.table_words.specs.Bytes.{layoutIn};
 ghost use Rattle.table_size.specs.Sizes.{Limits, SizingOf};
@@ -83,6 +84,24 @@ impl Size {
         ensures { λ r. ⌜ r ≡ within 1 (self .benches) x ⌝ }
     {
         std::num::wrapping_sub_usize(x, 1) < self.benches
+    }
+
+    // Finds the greatest of numbers by bench. A loop without an exit of its own reads eight at once.
+    pub fn greatest(self, numbers: &[u16; Size::MOST_BENCHES + 1]) -> u16
+        requires { ⌜ Limits self ⌝ }
+        ensures { λ r. ⌜ r ≡ greatest (self .benches) (λ x. getD (now (numbers .entry)) x 0) ⌝ }
+    {
+        let benches = self.benches;
+        let mut most = 0;
+        let mut done = 0;
+        while done < benches {
+            done += 1;
+            let n = numbers[done];
+            if most < n {
+                most = n;
+            }
+        }
+        most
     }
 
     // Computes the byte length of a table of this size.

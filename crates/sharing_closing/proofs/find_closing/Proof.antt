@@ -2,10 +2,10 @@
 use Prim.Native.Nat.{_+_, _<_}
 use native.Mathlib.Omega.{arith}
 use mathlib.Core.List.{[]}
+use borrow.Author.Needs.{needs}
 use Rattle.spec_table.specs.Board.{put}
 use Rattle.spec_table.specs.Table.{mostBenches, decode}
 use Rattle.sharing_search.proofs.OnBoard.{order-holds}
-use Rattle.sharing_loads.proofs.Greatest.{heaviest-loaded}
 use Rattle.sharing_closing.proofs.Closing.{closing-job, closing-bench, closing-small, closing-without, closing-some, closing-loads, closing-loads-in, closing-top, closing-found}
 use Rattle.sharing_closing.proofs.find_closing.Statement.{statement}
 use Rattle.sharing_closing.proofs.find_closing.Tie as tie
@@ -14,8 +14,11 @@ holder-requires : tie.Need-holder-requires
 holder-requires c κs =
     let pre = c .before .pre in (order-holds (pre .0), closing-job (pre .0 .sound) (pre .1 .0))
 
-find-heaviest-requires : tie.Need-find-heaviest-requires
-find-heaviest-requires c κs = let pre = c .before .before .before .pre in (pre .0 .sound, pre .1 .1 .0)
+greatest-requires : tie.Need-greatest-requires
+greatest-requires c κs = c .before .before .before .pre .0 .sound .size .limits
+
+cast-top : tie.Need-cast-top
+cast-top c = search needs
 
 -- there is a load for the holder
 small : (c : tie.After-holder) → c .holder .result < mostBenches + 1
@@ -45,7 +48,7 @@ find-to-requires c κs =
     let start = held .before .before in
     let (o, (p, (l, long))) = start .pre in
     let e = held .holder .ensures in
-    let top = closing-top (o .sound) p e l (heaviest-loaded (order-holds o) l (read .find-heaviest .ensures .load)) in
+    let top = closing-top (o .sound) p e l (read .greatest .ensures) in
     (o, (closing-bench (o .sound) p e, (closing-loads-in (o .sound) p e l, (top, (long, (put (decode (start .args .t .now)) (start .args .j) [] 0, closing-without (o .sound) p e, closing-loads (o .sound) p e l))))))
 
 returns : tie.Need-returns
@@ -59,7 +62,8 @@ find-closing-spec =
     tie.close
     (tie.spec
     holder-requires
-    find-heaviest-requires
+    greatest-requires
+    cast-top
     mul-loads
     element-copy-out-loads
     sub-loads

@@ -9,19 +9,19 @@ use Rattle.sharing_loads.proofs.count_stretches.Statement.{statement}
 use Rattle.sharing_loads.proofs.count_stretches.Tie as tie
 
 abbrev Inv-loop : tie.InvT-loop
-Inv-loop s loads benches c₀ c = CountOf s loads c × NotBefore s loads c
+Inv-loop s loads stretch benches c₀ c = CountOf s loads c × NotBefore s loads c
 
 abbrev μ-loop : tie.MeasureT-loop
-μ-loop s loads benches c₀ c = benches - c .benches
+μ-loop s loads stretch benches c₀ c = benches - c .benches
 
 benches-requires : tie.Need-benches-requires Inv-loop μ-loop
 benches-requires c κs = search needs
 
 loop-holds : tie.Need-loop-holds Inv-loop μ-loop
-loop-holds c = c .before .pre .1
+loop-holds c = let pre = c .before .pre .1 in (pre .0, pre .1 .0)
 
-add-if1 : tie.Need-add-if1 Inv-loop μ-loop
-add-if1 c = omega (arith, c .before .loop .inv .0 .few, c .before .before .before .pre .0 .benches-most)
+sub-if1 : tie.Need-sub-if1 Inv-loop μ-loop
+sub-if1 c = omega (arith, c .before .loop .inv .0 .few)
 
 count-on-requires : tie.Need-count-on-requires Inv-loop μ-loop
 count-on-requires c κs = (c .before .before .before .before .pre .0, (c .before .before .loop .inv .0, omega arith))
@@ -30,7 +30,7 @@ returns : tie.Need-returns Inv-loop μ-loop
 returns c = c .before .before .before .before .before .loop .inv
 
 loop-less : tie.Need-loop-less Inv-loop μ-loop
-loop-less c = omega (arith, c .before .before .count-on .ensures .1)
+loop-less c = omega (arith, c .before .before .count-on .ensures .1, c .before .before .before .before .before .before .before .pre .1 .1 .1)
 
 loop-again : tie.Need-loop-again Inv-loop μ-loop
 loop-again c =
@@ -48,7 +48,7 @@ count-stretches-spec =
     μ-loop
     benches-requires
     loop-holds
-    add-if1
+    sub-if1
     count-on-requires
     returns
     loop-less

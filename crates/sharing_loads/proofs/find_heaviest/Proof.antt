@@ -17,21 +17,26 @@ abbrev μ-loop : tie.MeasureT-loop
 standing-requires : tie.Need-standing-requires Inv-loop μ-loop
 standing-requires c κs = c .before .pre .0
 
-cast-t7 : tie.Need-cast-t7 Inv-loop μ-loop
-cast-t7 c = omega (arith, standing-few (c .before .before .pre .0) (c .standing .ensures))
+cast-t8 : tie.Need-cast-t8 Inv-loop μ-loop
+cast-t8 c = omega (arith, standing-few (c .before .before .pre .0) (c .standing .ensures))
 
 count-stretches-requires : tie.Need-count-stretches-requires Inv-loop μ-loop
 count-stretches-requires c κs =
     let pre = c .before .before .pre in
-    (pre .0 .size .limits, (count-start (pre .0) (pre .1) (c .standing .ensures), λ m l. absurd (omega arith)))
+    (pre .0 .size .limits, (count-start (pre .0) (pre .1) (c .standing .ensures), (λ m l. absurd (omega arith), omega arith)))
+
+count-stretches-requires-2 : tie.Need-count-stretches-requires-2 Inv-loop μ-loop
+count-stretches-requires-2 c κs =
+    let e = c .count-stretches .ensures in
+    (c .before .before .before .pre .0 .size .limits, (e .0, (e .1, omega arith)))
 
 loop-holds : tie.Need-loop-holds Inv-loop μ-loop
-loop-holds c = c .count-stretches .ensures
+loop-holds c = c .count-stretches2 .ensures
 
 count-on-requires : tie.Need-count-on-requires Inv-loop μ-loop
 count-on-requires c κs =
     let inv = c .before .before .loop .inv in
-    (c .before .before .before .before .before .before .pre .0 .size .limits, (inv .0, counts-on (inv .0) (c .if1 .taken)))
+    (c .before .before .before .before .before .before .before .pre .0 .size .limits, (inv .0, counts-on (inv .0) (c .if1 .taken)))
 
 loop-less : tie.Need-loop-less Inv-loop μ-loop
 loop-less c = omega arith
@@ -42,12 +47,12 @@ loop-again c =
     let more = c .count-on .ensures in
     (more .0, λ m l. not-ended (inv .0) (c .before .if1 .taken) m (omega (arith, more .1)))
 
-cast-t6 : tie.Need-cast-t6 Inv-loop μ-loop
-cast-t6 c = search needs
+cast-t7 : tie.Need-cast-t7 Inv-loop μ-loop
+cast-t7 c = search needs
 
 returns : tie.Need-returns Inv-loop μ-loop
 returns c =
-    let pre = c .before .before .before .before .before .before .before .pre in
+    let pre = c .before .before .before .before .before .before .before .before .pre in
     let inv = c .before .before .before .loop .inv in
     count-ends (pre .0) (pre .1) (inv .0) (inv .1) (c .before .if1 .left)
 
@@ -58,11 +63,12 @@ find-heaviest-spec =
     Inv-loop
     μ-loop
     standing-requires
-    cast-t7
+    cast-t8
     count-stretches-requires
+    count-stretches-requires-2
     loop-holds
     count-on-requires
     loop-less
     loop-again
-    cast-t6
+    cast-t7
     returns)

@@ -8,7 +8,6 @@ use borrow.Author.Needs.{needs}
 use Rattle.spec_table.specs.Table.{mostBenches, mostJobs, decode}
 use Rattle.graph_lists.specs.Arrays.{at}
 use Rattle.sharing_search.proofs.OnBoard.{order-holds}
-use Rattle.sharing_loads.proofs.Greatest.{heaviest-loaded}
 use Rattle.sharing_start.specs.PathStart.{Searched}
 use Rattle.sharing_start.proofs.Starting.{start-some, falling-start, falling-turn, falling-end}
 use Rattle.sharing_start.proofs.first_start.Statement.{statement}
@@ -42,18 +41,20 @@ element-copy-out-low c = small c
 cast-low : tie.Need-cast-low Inv-loop μ-loop
 cast-low c = omega (arith, light (c .before))
 
-find-heaviest-requires : tie.Need-find-heaviest-requires Inv-loop μ-loop
-find-heaviest-requires c κs = let pre = c .before .before .before .pre in (pre .0 .sound, pre .1 .1 .0)
+greatest-requires : tie.Need-greatest-requires Inv-loop μ-loop
+greatest-requires c κs = c .before .before .before .pre .0 .sound .size .limits
+
+cast-load : tie.Need-cast-load Inv-loop μ-loop
+cast-load c = search needs
 
 add-if1 : tie.Need-add-if1 Inv-loop μ-loop
 add-if1 c = omega (arith, light (c .before .before))
 
 -- nothing was searched from yet
-begun : (c : tie.After-find-heaviest Inv-loop μ-loop) {came : List ℕ} → let a = c .before .before .before .before .args in came ≡ replicate (mostBenches + 1) 0 → Searched (decode (a .t .now)) (a .s) (c .find-heaviest .result .load) 1 0 (a .queue .now) came
+begun : (c : tie.After-greatest Inv-loop μ-loop) {came : List ℕ} → let a = c .before .before .before .before .args in came ≡ replicate (mostBenches + 1) 0 → Searched (decode (a .t .now)) (a .s) (c .greatest .result) 1 0 (a .queue .now) came
 begun c e =
     let pre = c .before .before .before .before .pre in
-    let holds = order-holds (pre .0) in
-    falling-start holds (pre .1 .1 .0) (heaviest-loaded holds (pre .1 .1 .0) (c .find-heaviest .ensures .load)) (pre .1 .1 .1) e
+    falling-start (order-holds (pre .0)) (pre .1 .1 .0) (c .greatest .ensures) (pre .1 .1 .1) e
 
 returns : tie.Need-returns Inv-loop μ-loop
 returns c =
@@ -103,7 +104,8 @@ first-start-spec =
     mul-low
     element-copy-out-low
     cast-low
-    find-heaviest-requires
+    greatest-requires
+    cast-load
     add-if1
     returns
     benches-requires
