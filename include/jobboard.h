@@ -55,7 +55,7 @@
  *     4    jobboard_arrival and jobboard_closing take `list` and `list_bytes`, in front of their results, and list there the jobs that
  *          moved; they may return JOBBOARD_LIST_TOO_SHORT. A program that needs no list lends one of JOBBOARD_MOST_LIST_BYTES all the
  *          same, since NULL and 0 are refused where a job moves. Nothing else changed: tables, results and the other calls are as before.
- *     5    Nothing. jobboard_heaviest finds the same load sooner.
+ *     5    Nothing. jobboard_heaviest gives the same load, and need not count every bench for it.
  */
 #ifndef JOBBOARD_H
 #define JOBBOARD_H

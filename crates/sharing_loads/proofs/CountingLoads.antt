@@ -11,7 +11,7 @@ use Rattle.spec_table.specs.Board.{standing, load}
 use Rattle.spec_table.specs.Table.{mostJobs, decode}
 use Rattle.spec_table.specs.CountedBenches.{countEnds}
 use Rattle.spec_lists.proofs.Elements.{length-filter}
-use Rattle.spec_lists.proofs.Counting.{total-rises, greatest-rises, total-same, greatest-same}
+use Rattle.spec_lists.proofs.Counting.{total-rises, greatest-rises}
 use Rattle.spec_table.proofs.CountedBenches.{loads-standing, ends-most, most-ends, ends-heaviest}
 use Rattle.table_size.specs.Sizes.{SoundTable}
 use Rattle.table_size.specs.declared.Size.{Size}
@@ -19,6 +19,7 @@ use Rattle.table_board.specs.BoardView.{Loaded}
 use Rattle.graph_lists.specs.Arrays.{at}
 use Rattle.sharing_loads.specs.HeaviestLoad.{HeaviestOf, CountOf, NotBefore}
 use Rattle.sharing_loads.specs.declared.Count.{Count}
+use Rattle.sharing_loads.proofs.Greatest.{loaded-greatest, loaded-total}
 
 -- some benches more
 
@@ -78,15 +79,17 @@ standing-few {t} z e =
 
 module _ {t : List ℕ} {s : Size} {loads : List ℕ} (z : SoundTable t s) (l : Loaded (decode t) loads) where
   -- the loads are the board's ..
-  totals : (n : ℕ) → n ≤ s .benches → total n (at loads) ≡ total n (load ((decode t) .holders))
-  totals n u = total-same n (at loads) (load ((decode t) .holders)) (λ x i j. l .bench x i (omega (arith, z .size .limits .benches-most)))
+  same-greatest : (n : ℕ) → n ≤ s .benches → greatest n (at loads) ≡ greatest n (load ((decode t) .holders))
+  same-greatest n u = loaded-greatest l n (omega (arith, z .size .limits .benches-most))
 
-  greatests : (n : ℕ) → n ≤ s .benches → greatest n (at loads) ≡ greatest n (load ((decode t) .holders))
-  greatests n u = greatest-same n (at loads) (load ((decode t) .holders)) (λ x i j. l .bench x i (omega (arith, z .size .limits .benches-most)))
+  same-total : (n : ℕ) → n ≤ s .benches → total n (at loads) ≡ total n (load ((decode t) .holders))
+  same-total n u = loaded-total l n (omega (arith, z .size .limits .benches-most))
 
   -- .. and all of them together the standing jobs
   together : total (s .benches) (at loads) ≡ standing (decode t)
-  together = let e = loads-standing (decode t) (z .storable .valid) in totals (s .benches) (omega arith) ∙ (rw (z .size .board-benches) at e)
+  together =
+      let e = loads-standing (decode t) (z .storable .valid) in
+      same-total (s .benches) (omega arith) ∙ (rw (z .size .board-benches) at e)
 
   -- at first no bench is counted
   pub count-start : {n : ℕ} → n ≡ standing (decode t) → CountOf s loads (record { benches = 0; best = 0; left = n })
@@ -94,18 +97,18 @@ module _ {t : List ℕ} {s : Size} {loads : List ℕ} (z : SoundTable t s) (l : 
 
   -- in the end the best load so far is the heaviest, and no fewer benches would have done
   pub count-ends : {c : Count} → CountOf s loads c → NotBefore s loads c → c .left ≤ c .best → HeaviestOf (decode t) (record { load = c .best; benches = c .benches })
-  count-ends {c} k before e = record { load = k .best ∙ greatests n (k .few) ∙ ends-heaviest (decode t) (z .storable .valid) n holds; counted = record { holds = holds; least = least } }
+  count-ends {c} k before e = record { load = k .best ∙ same-greatest n (k .few) ∙ ends-heaviest (decode t) (z .storable .valid) n holds; counted = record { holds = holds; least = least } }
     where
       n : ℕ
       n = c .benches
 
       holds : T (countEnds (decode t) n)
-      holds = most-ends (decode t) n (omega (arith, together, k .left, k .best, totals n (k .few), greatests n (k .few)))
+      holds = most-ends (decode t) n (omega (arith, together, k .left, k .best, same-total n (k .few), same-greatest n (k .few)))
 
       least : (m : ℕ) → T (countEnds (decode t) m) → n ≤ m
       least m w = elim (decLe n m) [
         | yes h ↦ h
         | no h ↦
             let u : m ≤ s .benches = omega (arith, h, k .few) in
-            absurd (omega (arith, together, before m (omega (arith, h)), ends-most (decode t) m w, totals m u, greatests m u))
+            absurd (omega (arith, together, before m (omega (arith, h)), ends-most (decode t) m w, same-total m u, same-greatest m u))
       ]

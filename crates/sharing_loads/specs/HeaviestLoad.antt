@@ -10,8 +10,8 @@ use Rattle.graph_lists.specs.Arrays.{at}
 use Rattle.sharing_loads.specs.declared.Count.{Count}
 use Rattle.sharing_loads.specs.declared.Heaviest.{Heaviest}
 
--- the board's heaviest load, and the least number of benches at which the standing jobs not yet counted are no more than
--- the best load so far
+-- the board's heaviest load, and the least number of benches at which the standing jobs not yet counted are no more
+-- than the best load so far
 pub record HeaviestOf (b : Board) (r : Heaviest) : Type 0 where
   pub load : r .load ≡ heaviest b
   pub counted : BenchesCounted b (r .benches)

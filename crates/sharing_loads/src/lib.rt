@@ -83,7 +83,7 @@ fn count_stretches(
 }
 
 // Finds the heaviest load, from bench 1 up, until the standing jobs not yet counted are no more than the best load so
-// far: stretch by stretch, and bench by bench in the one where that comes to hold.
+// far: stretch by stretch, as long as that does not come to hold in one, and then bench by bench.
 pub fn find_heaviest(t: &[u8], s: Size, loads: &[u16; Size::MOST_BENCHES + 1]) -> Heaviest
     requires { ⌜ SoundTable (now t) s ⌝ }
     requires { ⌜ Loaded (decode (now t)) (now loads) ⌝ }

@@ -3,15 +3,15 @@
 use Prim.Native.Nat.{ℕ, zero, suc, _+_, _≤_, _<_}
 use native.Mathlib.Omega.{arith}
 use native.Mathlib.Decide.{decLe}
-use mathlib.Core.Path.{_≡_, sym, ap}
-use mathlib.Core.Bool.{not}
+use mathlib.Core.Path.{_≡_, refl, sym, ap, subst, _∙_}
+use mathlib.Core.Bool.{Bool, true, false, not}
 use mathlib.Core.List.{List, [], _∷_, map}
 use lib.Dec.{T, eqb}
 use lib.ListN.{length}
 use Rattle.spec_lists.specs.Lists.{bit, within, total, filter, Each, empty}
 use Rattle.spec_table.specs.Board.{Board, Valid, standing, load, heaviest, Shares, namesFit}
 use Rattle.spec_table.specs.CountedBenches.{bestSoFar, notCounted, countEnds, BenchesCounted}
-use Rattle.spec_lists.proofs.Tests.{T→true, T-eqb, T-leb, leb-T}
+use Rattle.spec_lists.proofs.Tests.{true→T, T→true, T-eqb, T-leb, leb-T}
 use Rattle.spec_lists.proofs.NumberLists.{member-in}
 use Rattle.spec_lists.proofs.Counting.{bit-le, filter-counts, total-add, total-each, total-within, total-rises, total-beyond, greatest-rises, greatest-early}
 use Rattle.spec_table.proofs.Named.{fit-bench}
@@ -79,14 +79,39 @@ pub jobs-counted : (b : Board) (n : ℕ) → 1 ≤ standing b → BenchesCounted
 jobs-counted b zero l c = absurd (omega (arith, ends-most b 0 (c .holds)))
 jobs-counted b (suc n) l c = omega arith
 
+-- where it ends somewhere from n on, and nowhere before, there is a first number at which it does
+ends-first : (b : Board) (n more : ℕ) → ((m : ℕ) → T (countEnds b m) → n ≤ m) → T (countEnds b (n + more)) → (j : ℕ) × BenchesCounted b j
+ends-first b n zero before t = let e : n + 0 ≡ n = omega arith in (n, record { holds = rw e at t; least = before })
+ends-first b n (suc more) before t = go (countEnds b n) refl (λ later. ends-first b (suc n) more later (rw next at t))
+  where
+    next : n + suc more ≡ suc n + more
+    next = omega arith
+
+    go : (z : Bool) → countEnds b n ≡ z → (((m : ℕ) → T (countEnds b m) → suc n ≤ m) → (j : ℕ) × BenchesCounted b j) → (j : ℕ) × BenchesCounted b j
+    go true e ih = (n, record { holds = true→T (countEnds b n) e; least = before })
+    go false e ih = ih later
+      where
+        later : (m : ℕ) → T (countEnds b m) → suc n ≤ m
+        later m u = elim (decLe (suc n) m) [
+          | yes k ↦ k
+          | no k ↦ let q : m ≡ n = omega (arith, k, before m u) in absurd (subst T (ap (countEnds b) q ∙ e) u)
+        ]
+
 -- it is one number
 pub counted-once : (b : Board) (m n : ℕ) → BenchesCounted b m → BenchesCounted b n → m ≡ n
 counted-once b m n p q = omega (arith, p .least n (q .holds), q .least m (p .holds))
 
 module _ (b : Board) (v : Valid b) where
-  -- with the last bench it ends, if not before ..
+  -- with the last bench it ends, if not before: so there is such a number ..
+  last-ends : T (countEnds b (b .benches))
+  last-ends = most-ends b (b .benches) (omega (arith, loads-standing b v))
+
+  pub counted-some : (n : ℕ) × BenchesCounted b n
+  counted-some = let e : 0 + b .benches ≡ b .benches = omega arith in ends-first b 0 (b .benches) (λ m t. omega arith) (rw e last-ends)
+
+  -- .. at most B ..
   pub counted-benches : (n : ℕ) → BenchesCounted b n → n ≤ b .benches
-  counted-benches n c = c .least (b .benches) (most-ends b (b .benches) (omega (arith, loads-standing b v)))
+  counted-benches n c = c .least (b .benches) last-ends
 
   -- .. and where it ends, the best load so far is the heaviest
   pub ends-heaviest : (n : ℕ) → T (countEnds b n) → bestSoFar b n ≡ heaviest b

@@ -6,7 +6,7 @@ use lib.Dec.{T, leb}
 use Rattle.spec_lists.specs.Lists.{total, greatest}
 use Rattle.spec_table.specs.Board.{Board, standing, load}
 
--- "the best load so far, 0 at the start": the heaviest of benches 1 to n, which are counted
+-- "the best load so far, 0 at the start": the greatest of benches 1 to n, which are counted
 abbrev pub bestSoFar : Board → ℕ → ℕ
 bestSoFar b n = greatest n (load (b .holders))
 
@@ -14,7 +14,7 @@ bestSoFar b n = greatest n (load (b .holders))
 abbrev pub notCounted : Board → ℕ → ℕ
 notCounted b n = standing b - total n (load (b .holders))
 
--- they "are no more than the best load so far": the loop ends when n benches are counted
+-- they "are no more than the best load so far": with n benches counted the loop goes no further
 abbrev pub countEnds : Board → ℕ → Bool
 countEnds b n = leb (notCounted b n) (bestSoFar b n)
 

@@ -1,4 +1,5 @@
--- The loop's invariant: `most` is the greatest number of benches 1 to `done`. The measure is the number of benches that are left.
+-- The loop's invariant: `most` is the greatest number of benches 1 to `done`. The measure is the number of benches that
+-- are left.
 use Prim.Native.Nat.{_-_}
 use native.Mathlib.Omega.{arith}
 use borrow.Author.Needs.{needs}
