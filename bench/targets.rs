@@ -8,8 +8,8 @@ use crate::trials::{HEAPED, NEARLY, NO_ORDER, ORDERING, REFUSED, SIZES};
 struct Boards(&'static str, fn(&str) -> bool);
 
 const EVERY: Boards = Boards("every", |_| true);
-/// All but the board whose jobs are nearly all on one chain, which has rows of its own: a check in one pass waits there for the load that
-/// it wrote last.
+/// All but the board whose jobs are nearly all on one chain, which has rows of its own: a check in one pass waits there for what it wrote
+/// at the same bench for the job before.
 const RISING: Boards = Boards("chains rise", |board| board != NO_ORDER && board != NEARLY && board != HEAPED);
 const DISORDERED: Boards = Boards(NO_ORDER, |board| board == NO_ORDER);
 const ONE_DISORDERED: Boards = Boards(NEARLY, |board| board == NEARLY);
