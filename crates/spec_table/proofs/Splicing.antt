@@ -257,7 +257,7 @@ holder_two (a ∷ b ∷ d ∷ names) h p two (inr (inr i)) (inr c) = absurd (ome
 abbrev pub Recorded : List Entry → Board → Type 0
 Recorded es b = (j : ℕ) → nth es j vacant ≡ entry_for (names_of b j) (holder_of b j) (nth es j vacant).next
 
-module _ {es : List Entry} {b : Board} (v : Valid b) (long : length es ≡ length b.named) (recorded : Recorded es b) where
+module _ (es : List Entry) (b : Board) (v : Valid b) (long : length es ≡ length b.named) (recorded : Recorded es b) where
   -- with another record of job j they are those of the board with that job
   pub recorded_put : (j : ℕ) (names : List ℕ) (h n : ℕ) → 1 ≤ j → j ≤ length es → Recorded (update es j (entry_for names h n)) (put b j names h)
   recorded_put j names h n low high k = go (ℕ_discrete k j)

@@ -118,7 +118,7 @@ module _ {t : List ℕ} {s : Size} (o : InOrder t s) {j : ℕ} (job : JobIn s j)
     pub written : (n : ℕ) → Recorded (update old.entries j (entry_for names h n)) new
     written n =
         let laid = in_order_laid_out o in
-        recorded_put o.sound.storable.valid laid.entries laid.records j names h n job.least (omega (arith, job.most, entries_long t s o.sound.size))
+        recorded_put _ _ o.sound.storable.valid laid.entries laid.records j names h n job.least (omega (arith, job.most, entries_long t s o.sound.size))
 
     -- .. and then the link before j in a bench's chain
     pub relinked : {es : List Entry} {x p : ℕ} → length es ≡ s.jobs → Recorded es new → BenchIn s x → Before were x j p → (n : ℕ) → Recorded (linked_entries es p n) new

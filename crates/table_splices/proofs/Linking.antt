@@ -88,4 +88,4 @@ linked_recorded v long r (suc k) n (inl e) = absurd (omega arith)
 linked_recorded {es} {b} v long r (suc k) n (inr t) =
     let e : Entry = nth es (suc k) vacant in
     let same = ap (λ (a : Entry). with_next a n) (r (suc k)) ∙ entry_with_next (names_of b (suc k)) (holder_of b (suc k)) e.next n t in
-    subst (λ (a : Entry). Recorded (update es (suc k) a) b) (sym same) (recorded_next v long r (suc k) n t)
+    subst (λ (a : Entry). Recorded (update es (suc k) a) b) (sym same) (recorded_next _ _ v long r (suc k) n t)
