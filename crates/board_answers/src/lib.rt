@@ -1,4 +1,6 @@
 // What the calls answer.
+#![tactic(auto)]
+
 ghost use Rattle.std.specs.Prelude.{◌≡◌, [], ◌∷◌, drop};
 ghost use Rattle.spec_lists.specs.Lists.{nth};
 ghost use Rattle.spec_calls.specs.Answers.{in_numbers};

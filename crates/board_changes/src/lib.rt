@@ -1,4 +1,6 @@
 // The calls that write a table: blanking, arrival, closing, levelling.
+#![tactic(auto)]
+
 ghost use Rattle.std.specs.Prelude.{◌+◌, ◌≡◌, [], ◌∷◌, length};
 ghost use Rattle.spec_table.specs.Table.{most_benches};
 ghost use Rattle.spec_calls.specs.Calls.{blanking, outcome, arrival, closing, levelling};

@@ -1,4 +1,6 @@
 // The pair question: is there a job between two benches? It reads two chains, of a table that nobody checked.
+#![tactic(auto)]
+
 ghost use Rattle.std.specs.Prelude.{[], ◌∷◌, T};
 ghost use Rattle.spec_table.specs.Board.{names_fit};
 ghost use Rattle.spec_calls.specs.Calls.{outcome, between};

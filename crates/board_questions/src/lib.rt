@@ -1,4 +1,6 @@
 // The questions: they change no table byte.
+#![tactic(auto)]
+
 ghost use Rattle.std.specs.Prelude.{[]};
 ghost use Rattle.spec_calls.specs.Calls.{outcome, ask, load_of, heaviest_load, tight_set_of, form_check, level_check};
 ghost use Rattle.spec_table.specs.Table.{decode};

@@ -1,4 +1,6 @@
 // The wall sheet: a question whose answer is text on a lent page.
+#![tactic(auto)]
+
 ghost use Rattle.spec_table.specs.Table.{decode};
 ghost use Rattle.spec_calls.specs.Calls.{outcome, ask, wall_sheet};
 ghost use Rattle.table_size.specs.Sizes.{SoundTable};

@@ -1,4 +1,6 @@
 // The tally of arrivals, closings and jobs moved.
+#![tactic(auto)]
+
 ghost use Rattle.std.specs.Prelude.{◌+◌, ◌≡◌, leb};
 ghost use Rattle.spec_calls.specs.Tally.{most_count, zero_tally, counts_fit, noted};
 ghost use Rattle.board_answers.specs.Answered.{answer_of};

@@ -1,4 +1,6 @@
 // The counter program: it reads lines from standard input and prints one line each.
+#![tactic(auto)]
+
 use libc::{STDIN_FILENO, STDOUT_FILENO};
 
 fn main() {

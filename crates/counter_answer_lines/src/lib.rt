@@ -1,4 +1,6 @@
 // The lines that the counter program prints for answers, written into a lent buffer behind its first `at` bytes.
+#![tactic(auto)]
+
 ghost use Rattle.std.specs.Prelude.{[], ◌∷◌, ◌++◌, suc, ◌+◌, ◌*◌, ◌≤◌, length, drop};
 ghost use Rattle.spec_lists.specs.Lists.{nth};
 ghost use Rattle.spec_table.specs.Table.{most_benches};

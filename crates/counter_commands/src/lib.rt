@@ -1,4 +1,6 @@
 // A line of the counter program as a command.
+#![tactic(auto)]
+
 ghost use Rattle.std.specs.Prelude.{◌≡◌, [], ◌∷◌, ◌<◌, length, drop};
 ghost use Rattle.std.proofs.Math.Option.{some};
 ghost use Rattle.counter_commands.specs.Read.{reading_of, ReadingOf, digit_value, behind, ReadField};

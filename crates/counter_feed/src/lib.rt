@@ -1,4 +1,6 @@
 // The counter program on slices: its input comes in pieces of any size, and each complete line is replied to.
+#![tactic(auto)]
+
 ghost use Rattle.std.specs.Prelude.{◌≡◌, [], ◌∷◌, ◌+◌, ◌≤◌, length};
 ghost use Rattle.counter_answer_lines.specs.AnswerLines.{line_most};
 ghost use Rattle.counter_feed.specs.Feeding.{kept_most, place_of, Stands, TakesByte, Feeds, Finishes, Begins, Appended};

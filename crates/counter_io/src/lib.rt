@@ -1,4 +1,6 @@
 // The counter program between two file descriptors: it reads and writes, and `counter_feed` does the rest.
+#![tactic(auto)]
+
 ghost use Rattle.std.specs.Prelude.{◌≡◌, ◌≤◌, length};
 ghost use Rattle.counter_answer_lines.specs.AnswerLines.{line_most};
 ghost use Rattle.counter_state.specs.State.{table_most};

@@ -1,4 +1,6 @@
 // How the counter program performs each command: the call, and its line.
+#![tactic(auto)]
+
 ghost use Rattle.std.specs.Prelude.{◌+◌, ◌≤◌, length};
 ghost use Rattle.spec_counter.specs.Counter.{take_in, close_job, set_table, ask_tight_set, ask_heaviest};
 ghost use Rattle.counter_answer_lines.specs.AnswerLines.{line_most};

@@ -1,5 +1,7 @@
 // The counter program's lines, written into a lent buffer. The first `at` bytes are written already; a function
 // returns how many are after it.
+#![tactic(auto)]
+
 ghost use Rattle.std.specs.Prelude.{[], ◌∷◌, ◌+◌, ◌*◌, ◌<◌, ◌≤◌, length, take};
 ghost use Rattle.spec_table.specs.Table.{words};
 ghost use Rattle.board_answers.specs.Answered.{values_of};

@@ -1,4 +1,6 @@
 // The counter program's reply to a line: its command is performed, or the line is refused.
+#![tactic(auto)]
+
 ghost use Rattle.std.specs.Prelude.{◌+◌, ◌≤◌, length};
 ghost use Rattle.counter_commands.specs.Read.{command_of};
 ghost use Rattle.counter_answer_lines.specs.AnswerLines.{line_most};

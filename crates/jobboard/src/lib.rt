@@ -1,5 +1,7 @@
 // The calls for C programs, over numbers and the table's bytes; a slice is passed as a pointer and its length in
 // bytes. Each returns the refusal's number, or 0. Results go through lent numbers, which a refused call leaves alone.
+#![tactic(auto)]
+
 ghost use Rattle.std.specs.Prelude.{[], ◌∷◌};
 ghost use Rattle.spec_calls.specs.Calls.{outcome, blanking, arrival, closing, levelling, ask, load_of, heaviest_load, tight_set_of, form_check, level_check, wall_sheet, between};
 ghost use Rattle.jobboard.specs.Desk.{Reported};

@@ -1,6 +1,8 @@
 // Answers for C programs: an answer's values go into the numbers that the program lends, and its number is returned.
 // A lent number for which there is no value stays, and so does one for a value that does not fit 32 bits; a refusal has
 // no values, and those of every call fit.
+#![tactic(auto)]
+
 ghost use Rattle.std.specs.Prelude.{◌≡◌, [], ◌∷◌, drop};
 ghost use Rattle.spec_lists.specs.Lists.{nth};
 ghost use Rattle.spec_calls.specs.Answers.{in_numbers};

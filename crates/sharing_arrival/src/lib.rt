@@ -1,5 +1,7 @@
 // Arrival of a job that may arrive. What it hands along is found first, then the list for it is tested, and only then
 // anything is written: the list, and the table.
+#![tactic(auto)]
+
 ghost use Rattle.std.specs.Prelude.{◌≡◌, [], ◌∷◌, ℕ, ◌+◌, ◌≤◌, T, length};
 ghost use Rattle.spec_lists.specs.Lists.{within};
 ghost use Rattle.spec_table.specs.Board.{Board};

@@ -1,4 +1,6 @@
 // The table's chains copied, in the order they stand, to arrays that a walk reads without the table.
+#![tactic(auto)]
+
 ghost use Rattle.std.specs.Prelude.{◌≡◌, ◌+◌, length, replicate};
 ghost use Rattle.spec_table.specs.Table.{most_benches, most_jobs};
 ghost use Rattle.table_size.specs.Sizes.{SoundTable};

@@ -1,6 +1,8 @@
 // An arrival or a closing on a sound table, in order or not. A table in another order is changed in a copy that is put in
 // order; it is copied back if the change was made. Both changes make their copy in one place: so the room for it, as large
 // as the largest table, is no part of the frame of a call on a table in order.
+#![tactic(auto)]
+
 ghost use Rattle.std.specs.Prelude.{◌≡◌, ◌↔◌, [], ◌∷◌, ◌+◌, T, length};
 ghost use Rattle.spec_table.specs.Board.{stands};
 ghost use Rattle.spec_table.specs.Table.{most_benches, decode, encode};

@@ -1,5 +1,7 @@
 // Closing of a standing job. What it hands along is found first, then the list for it is tested, and only then anything is
 // written: the list, and the table.
+#![tactic(auto)]
+
 ghost use Rattle.std.specs.Prelude.{◌≡◌, ◌+◌, T, length};
 ghost use Rattle.spec_table.specs.Board.{stands};
 ghost use Rattle.spec_table.specs.Table.{most_benches, decode, encode};

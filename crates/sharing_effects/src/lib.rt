@@ -1,4 +1,6 @@
 // What comes of an arrival or a closing that its numbers allow.
+#![tactic(auto)]
+
 use table_refusals::Refusal;
 
 // What was done: the bench that holds the job in the end (0 for a closed one), the bench whose load rose or fell, and the

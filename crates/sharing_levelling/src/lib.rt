@@ -1,4 +1,6 @@
 // Levelling, and whether a board is level.
+#![tactic(auto)]
+
 ghost use Rattle.std.specs.Prelude.{◌+◌, ◌≡◌, ◌↔◌, T, length};
 ghost use Rattle.spec_sharing.specs.Sharing.{level};
 ghost use Rattle.spec_table.specs.Table.{most_benches, decode, encode};

@@ -1,4 +1,6 @@
 // Loads: the heaviest, the lightest bench, the next lower load.
+#![tactic(auto)]
+
 ghost use Rattle.std.specs.Prelude.{◌≡◌, ◌+◌, ◌≤◌};
 ghost use Rattle.spec_table.specs.Table.{decode};
 ghost use Rattle.table_size.specs.Sizes.{Limits, SoundTable};

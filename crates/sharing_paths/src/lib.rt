@@ -1,4 +1,6 @@
 // A path that a search found: followed back from its end, and handed over.
+#![tactic(auto)]
+
 ghost use Rattle.std.specs.Prelude.{ℕ, ◌+◌, ◌≤◌, ◌≡◌, List, length, take};
 ghost use Rattle.spec_table.specs.Board.{held_by};
 ghost use Rattle.spec_table.specs.Table.{most_benches, decode};

@@ -1,4 +1,6 @@
 // The arrival's path, which levelling flips too: found before anything is written.
+#![tactic(auto)]
+
 ghost use Rattle.std.specs.Prelude.{ℕ, ◌+◌, ◌≡◌, length, replicate};
 ghost use Rattle.spec_table.specs.Board.{Board};
 ghost use Rattle.spec_table.specs.Table.{most_benches, decode};

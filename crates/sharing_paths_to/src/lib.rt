@@ -1,6 +1,8 @@
 // The closing's path: found before anything is written. The search goes forwards from all benches of the greatest load
 // at once, in rising number, until the bench that lost the job is found; if it is not, from those of the next lower
 // load that are not found yet, and so on. What a round found does not lead there, and is not searched again.
+#![tactic(auto)]
+
 ghost use Rattle.std.specs.Prelude.{ℕ, ◌+◌, ◌≤◌, ◌≡◌, ◌≢◌, List, length};
 ghost use Rattle.spec_lists.specs.Lists.{greatest};
 ghost use Rattle.spec_table.specs.Board.{Board};

@@ -2,6 +2,8 @@
 // nothing to the table. What is found stands in a queue, in the order of finding; `came` has the job by which each
 // bench was found, 0 for none, and at a start Size::MOST_JOBS + 1, which is no job. Chains rise and the queue is first
 // in, first out: so these jobs, followed back, are the first list in dictionary order.
+#![tactic(auto)]
+
 ghost use Rattle.std.specs.Prelude.{ℕ, ◌≤◌};
 ghost use Rattle.spec_table.specs.Table.{most_benches, decode};
 ghost use Rattle.table_size.specs.Sizes.{BenchIn};

@@ -1,6 +1,8 @@
 // The first bench of the path that levelling flips: of the benches that start an improving path the one with the
 // greatest load, then the lowest. Loads go down and numbers up; what a bench reached need not be searched again from
 // a lighter one.
+#![tactic(auto)]
+
 ghost use Rattle.std.specs.Prelude.{suc, ◌+◌, ◌≤◌, ◌≡◌, length};
 ghost use Rattle.spec_table.specs.Table.{most_benches, decode};
 ghost use Rattle.table_size.specs.Sizes.{BenchIn};

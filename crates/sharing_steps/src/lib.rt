@@ -1,4 +1,6 @@
 // A job as a step: it leads from the bench that holds it to the other bench that it names.
+#![tactic(auto)]
+
 ghost use Rattle.std.specs.Prelude.{◌≡◌, ◌≢◌};
 ghost use Rattle.spec_table.specs.Board.{holder_of};
 ghost use Rattle.spec_table.specs.Table.{decode};

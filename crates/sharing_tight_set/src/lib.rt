@@ -1,4 +1,6 @@
 // The tight set of a height: its benches marked, their number and the jobs inside, and the benches written to a list.
+#![tactic(auto)]
+
 ghost use Rattle.std.specs.Prelude.{◌≡◌, false, ◌≤◌, ◌+◌, ◌*◌, length, replicate};
 ghost use Rattle.spec_table.specs.Table.{in_list, most_benches, decode};
 ghost use Rattle.spec_sharing.specs.Sharing.{tight_set};

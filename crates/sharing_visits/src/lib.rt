@@ -1,6 +1,8 @@
 // A bench in the set brings in its chain, and each job on that chain brings in its other bench: the bench visit and
 // the chain walk call each other. At each call the pair of unmarked benches and remaining chain falls. The chains are
 // the table's, in the order they stand.
+#![tactic(auto)]
+
 ghost use Rattle.std.specs.Prelude.{◌≡◌, T};
 ghost use Rattle.spec_lists.specs.Lists.{within};
 ghost use Rattle.spec_table.specs.Table.{most_benches};

@@ -1,4 +1,6 @@
 // Numbers in columns, written on a page; the bytes around them stay as they were.
+#![tactic(auto)]
+
 ghost use Rattle.std.specs.Prelude.{◌≡◌, ◌+◌, ◌≤◌, ◌<◌, length, replicate};
 ghost use Rattle.spec_text.specs.Numbers.{space};
 ghost use Rattle.spec_sheet.specs.Sheet.{field};

@@ -1,4 +1,6 @@
 // The jobs of each bench, listed in rising order.
+#![tactic(auto)]
+
 ghost use Rattle.std.specs.Prelude.{◌≡◌, ◌+◌, length, replicate};
 ghost use Rattle.spec_table.specs.Table.{most_benches, most_jobs, decode};
 ghost use Rattle.table_size.specs.Sizes.{SoundTable};

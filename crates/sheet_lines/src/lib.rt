@@ -1,4 +1,6 @@
 // The sheet's lines: how many they are, and each written on a lent page.
+#![tactic(auto)]
+
 ghost use Rattle.std.specs.Prelude.{◌≡◌, [], ◌+◌, ◌≤◌, ◌<◌, length};
 ghost use Rattle.spec_sheet.specs.Sheet.{bench_head, more_head, line_count};
 ghost use Rattle.sheet_fields.specs.Page.{with_text};

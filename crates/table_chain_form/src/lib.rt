@@ -1,4 +1,6 @@
 // The form check's clauses after the sizes, exactly: one pass over the records, one walk along the chains.
+#![tactic(auto)]
+
 ghost use Rattle.std.specs.Prelude.{◌≤◌, ◌≡◌, T};
 ghost use Rattle.spec_lists.specs.Lists.{nth};
 ghost use Rattle.spec_table.specs.Table.{formed};

@@ -1,4 +1,6 @@
 // Chains: the jobs that a bench holds, one after the other.
+#![tactic(auto)]
+
 ghost use Rattle.std.specs.Prelude.{◌≡◌, ◌+◌, T, replicate};
 ghost use Rattle.spec_table.specs.Board.{stands};
 ghost use Rattle.spec_table.specs.Table.{most_benches, decode};

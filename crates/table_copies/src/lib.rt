@@ -1,4 +1,6 @@
 // Tables put in order: a table itself, or a copy of it.
+#![tactic(auto)]
+
 ghost use Rattle.std.specs.Prelude.{◌≡◌, ◌↔◌, T, length};
 ghost use Rattle.spec_table.specs.Table.{decode, encode};
 ghost use Rattle.table_size.specs.Sizes.{SoundTable};

@@ -1,6 +1,8 @@
 // The form check, of any bytes: refusal 1, refusal 2, or sound. One pass over the table, where every chain rises; else
 // the other records, and the chains one after the other. It stands in front of every call that reads a
 // table, but the pair question, and each gets the loads from it.
+#![tactic(auto)]
+
 ghost use Rattle.std.specs.Prelude.{◌≡◌, ◌+◌, length, replicate};
 ghost use Rattle.spec_table.specs.Table.{most_benches};
 ghost use Rattle.table_form.specs.FormCheck.{FormOf};

@@ -1,4 +1,6 @@
 // What stands before the records. Words 0 to 3: B; J; number of standing jobs; 0.
+#![tactic(auto)]
+
 ghost use Rattle.std.specs.Prelude.{◌≡◌, cond, ◌<◌, length};
 ghost use Rattle.spec_table.specs.Table.{sizes_fit, blank_table};
 ghost use Rattle.table_words.specs.Bytes.{layout_in};

@@ -1,4 +1,6 @@
 // A table in order: the jobs of a bench, one after the other, rising.
+#![tactic(auto)]
+
 ghost use Rattle.std.specs.Prelude.{suc, T};
 ghost use Rattle.spec_table.specs.Board.{holder_of, stands};
 ghost use Rattle.spec_table.specs.Table.{decode};

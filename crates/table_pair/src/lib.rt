@@ -1,4 +1,6 @@
 // A bench's chain on bytes that nobody checked, read up to a job that names another bench, too.
+#![tactic(auto)]
+
 ghost use Rattle.std.specs.Prelude.{◌≡◌, []};
 ghost use Rattle.spec_lists.specs.Lists.{nth};
 ghost use Rattle.spec_table.specs.Table.{chains};

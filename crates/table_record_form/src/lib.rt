@@ -1,4 +1,6 @@
 // What each record of a table is, and the form check's pass over the records: the number of standing jobs.
+#![tactic(auto)]
+
 ghost use Rattle.std.specs.Prelude.{◌≡◌};
 ghost use Rattle.table_words.specs.Bytes.{layout_in};
 ghost use Rattle.table_size.specs.Sizes.{SizeOf};

@@ -1,4 +1,6 @@
 // Jobs' records: words B + 4 × j and the next three are job j's, which is 4 + B + 4 × (j − 1).
+#![tactic(auto)]
+
 ghost use Rattle.std.specs.Prelude.{◌≡◌, ◌+◌, ◌*◌, ◌≤◌, ◌<◌};
 ghost use Rattle.spec_table.specs.Table.{holder_in};
 ghost use Rattle.table_words.specs.Bytes.{layout_in};

@@ -1,4 +1,6 @@
 // Why a call is refused. It stands below all other code, since the lowest test of a table's bytes refuses already.
+#![tactic(auto)]
+
 ghost use Rattle.std.specs.Prelude.{◌≡◌};
 ghost use Rattle.spec_calls.specs.Answers.{refusal_number};
 ghost use Rattle.table_refusals.specs.Refusals.{refusal_of};

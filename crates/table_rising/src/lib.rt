@@ -1,6 +1,8 @@
 // The form check in one pass. The jobs are met in rising order: each must fit and be due, the next that its holder's
 // chain leads to. Loads are counted on the way. Got through, the table is sound, and its bytes are those of its board,
 // every chain rising; else they are not, and it is told how many records were counted, for a check that goes on there.
+#![tactic(auto)]
+
 ghost use Rattle.std.specs.Prelude.{◌≡◌, ◌↔◌, ◌+◌, T, length, replicate};
 ghost use Rattle.spec_table.specs.Table.{most_benches};
 ghost use Rattle.table_size.specs.Sizes.{SizeOf, JobIn, ByBench, Limits};

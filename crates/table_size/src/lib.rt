@@ -1,4 +1,6 @@
 // How many benches and jobs a table is for.
+#![tactic(auto)]
+
 ghost use Rattle.std.specs.Prelude.{◌≡◌, ◌&&◌, slice_index};
 ghost use Rattle.spec_lists.specs.Lists.{within, greatest};
 ghost use Rattle.spec_table.specs.Table.{most_benches, most_jobs, length_for, fits};

@@ -1,5 +1,7 @@
 // Chains spliced: a job goes into its holder's chain at its place, or out of it. Each call leaves the bytes of the
 // changed board, every chain rising.
+#![tactic(auto)]
+
 ghost use Rattle.std.specs.Prelude.{◌≤◌, ◌<◌, ◌≡◌, false, [], ◌∷◌, T};
 ghost use Rattle.spec_lists.specs.Lists.{member, update};
 ghost use Rattle.spec_table.specs.Board.{names_of, stands, put, held_by};

@@ -1,4 +1,6 @@
 // Words in bytes: "A word is 16 bits, two bytes, low byte first."
+#![tactic(auto)]
+
 ghost use Rattle.std.specs.Prelude.{◌≡◌, ◌+◌, ◌*◌, ◌<◌, ◌≤◌, length, replicate};
 ghost use Rattle.spec_table.specs.Table.{in_list};
 ghost use Rattle.table_words.specs.Bytes.{IsWord, set_word};

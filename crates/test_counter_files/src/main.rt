@@ -3,6 +3,8 @@
 // which has the longest moves, it gave all but the moved jobs; these were worked out by two more programs. Two files
 // were worked out by hand: every-line.in has every kind of line and of unreadable line; in lower-benches.in benches 4
 // and 5 are the heaviest, and those below them have to be shared as well as if they stood alone.
+#![tactic(auto)]
+
 use libc::STDOUT_FILENO;
 
 fn serve_file(path: &[u8], most: usize) {

@@ -2,6 +2,8 @@
 // orders, beside a second solver that tries every sharing. Each table on the way is held against that solver's least
 // for the jobs that arrived. The orders are taken in dictionary order, and the table of each prefix is kept, so that
 // an order makes only the arrivals after the prefix that it shares with the order before.
+#![tactic(auto)]
+
 ghost use Rattle.std.specs.Prelude.{◌<◌, ◌≤◌};
 
 use board_answers::Answer;

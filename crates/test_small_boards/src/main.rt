@@ -5,6 +5,8 @@
 //
 // Boards are handed over and back by value, since a call with a `&mut` takes up to four times as long to prove;
 // conditions are joined by `&`, since each `&&` is a branch.
+#![tactic(auto)]
+
 use board::{Board, MOST_JOBS};
 use counts::Counts;
 use libc::STDOUT_FILENO;

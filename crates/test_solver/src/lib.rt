@@ -4,6 +4,8 @@
 // `&&` is a branch.
 //
 // Benches are numbered 1 to 5 here, jobs 1 to 10.
+#![tactic(auto)]
+
 use job_book::stands;
 
 pub mod bytes;

@@ -4,6 +4,8 @@
 // from before the change requests, `requests` from the newest one. `base` came without numbers of benches; they were
 // made by a program apart, which follows the words of request 05 on a table's bytes and gives all those of `requests`.
 // A file's name tells what damage was tried; where that changed nothing, the table is sound.
+#![tactic(auto)]
+
 use libc::STDOUT_FILENO;
 use sharing_loads::Heaviest;
 use table_form::Form;
