@@ -9,7 +9,7 @@ ghost use Rattle.board_answers.specs.Answered.{answer_of, returned, values_of};
 use table_refusals::Refusal;
 
 // A call's answer.
-#[derive(Drop)]
+#[derive(Clone, Copy)]
 pub enum Answer {
     Refused(Refusal),
     Blanked,
@@ -37,7 +37,7 @@ pub enum Answer {
 }
 
 // Up to three numbers, of an answer or of a command: the first `count` of them count.
-#[derive(Drop)]
+#[derive(Clone, Copy)]
 pub struct Values {
     pub count: usize,
     pub first: usize,

@@ -9,7 +9,7 @@ ghost use Rattle.board_tally.specs.Counts.{tally_of, note_of, number_of, more, R
 use board_answers::Answer;
 
 // Three 32-bit counts.
-#[derive(Drop)]
+#[derive(Clone, Copy)]
 pub struct Tally {
     pub arrivals: u32,
     pub closings: u32,
@@ -17,7 +17,7 @@ pub struct Tally {
 }
 
 // What noting answers: counted, or refusal 9.
-#[derive(Drop)]
+#[derive(Clone, Copy)]
 pub enum Note {
     Counted,
     Full,
@@ -36,14 +36,14 @@ impl Note {
 }
 
 // The tally handed back, and what noting answers.
-#[derive(Drop)]
+#[derive(Clone, Copy)]
 pub struct Noted {
     pub tally: Tally,
     pub note: Note,
 }
 
 // What noting an answer adds to each count.
-#[derive(Drop)]
+#[derive(Clone, Copy)]
 struct Added {
     arrivals: usize,
     closings: usize,

@@ -7,7 +7,7 @@ ghost use Rattle.counter_commands.specs.Read.{reading_of, ReadingOf, digit_value
 ghost use Rattle.counter_commands.specs.Read.{few, followed, taken, given};
 
 // A line's command, with its numbers.
-#[derive(Drop)]
+#[derive(Clone, Copy)]
 pub enum Command {
     // Benches and jobs.
     SetTable(usize, usize),
@@ -20,21 +20,21 @@ pub enum Command {
 }
 
 // What a line reads as.
-#[derive(Drop)]
+#[derive(Clone, Copy)]
 pub enum Reading {
     Readable(Command),
     Unreadable,
 }
 
 // A field: a number and the index behind it.
-#[derive(Drop)]
+#[derive(Clone, Copy)]
 enum Field {
     Number(usize, usize),
     Bad,
 }
 
 // A line's numbers. No command takes more than three.
-#[derive(Drop)]
+#[derive(Clone, Copy)]
 enum Numbers {
     None,
     One(usize),

@@ -9,14 +9,14 @@ use counter_state::Counter;
 use table_refusals::Refusal;
 
 // Where the program is in its input: its state, and how many bytes of the present line it keeps.
-#[derive(Drop)]
+#[derive(Clone, Copy)]
 pub struct Reader {
     counter: Counter,
     held: usize,
 }
 
 // The reader behind a byte, and how many bytes of the output are written.
-#[derive(Drop)]
+#[derive(Clone, Copy)]
 pub struct Consumed {
     pub reader: Reader,
     pub at: usize,
@@ -24,7 +24,7 @@ pub struct Consumed {
 
 // The reader behind a part of a chunk, how many of the chunk's bytes it took, and how many of the output's are
 // written.
-#[derive(Drop)]
+#[derive(Clone, Copy)]
 pub struct Fed {
     pub reader: Reader,
     pub used: usize,

@@ -21,14 +21,14 @@ use table_refusals::Refusal;
 const LIST_BYTES: usize = 1000;
 
 // The program's table is the first `length` bytes of its own.
-#[derive(Drop)]
+#[derive(Clone, Copy)]
 pub struct Counter {
     pub length: usize,
     pub tally: Tally,
 }
 
 // The state after a line, and how many bytes of the output are written.
-#[derive(Drop)]
+#[derive(Clone, Copy)]
 pub struct Reply {
     pub counter: Counter,
     pub at: usize,

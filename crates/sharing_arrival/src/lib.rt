@@ -20,7 +20,7 @@ use table_refusals::Refusal;
 use table_size::Size;
 
 // Where an arriving job is taken in: the bench that holds it, and the place from which on the path is left.
-#[derive(Drop)]
+#[derive(Clone, Copy)]
 pub struct Intake {
     pub holder: usize,
     pub place: usize,

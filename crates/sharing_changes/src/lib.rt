@@ -19,7 +19,7 @@ use sharing_effects::Attempt;
 use table_size::Size;
 
 // What is to be done.
-#[derive(Drop)]
+#[derive(Clone, Copy)]
 enum Task {
     // A job arrives, for two benches.
     Arrive(usize, usize, usize),

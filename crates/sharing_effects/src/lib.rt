@@ -5,7 +5,7 @@ use table_refusals::Refusal;
 
 // What was done: the bench that holds the job in the end (0 for a closed one), the bench whose load rose or fell, and the
 // other jobs that changed holder.
-#[derive(Drop)]
+#[derive(Clone, Copy)]
 pub struct Effect {
     pub holder: usize,
     pub bench: usize,
@@ -13,7 +13,7 @@ pub struct Effect {
 }
 
 // The change was made, or it was refused, and every lent byte is as it was.
-#[derive(Drop)]
+#[derive(Clone, Copy)]
 pub enum Attempt {
     Refused(Refusal),
     Made(Effect),

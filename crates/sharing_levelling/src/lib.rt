@@ -11,7 +11,7 @@ ghost use Rattle.sharing_levelling.specs.LevellingResult.{LevellingOf};
 use table_size::Size;
 
 // What levelling reports: the paths flipped, and whether no improving path is left.
-#[derive(Drop)]
+#[derive(Clone, Copy)]
 pub struct Levelling {
     pub paths: u32,
     pub level: bool,

@@ -13,14 +13,14 @@ use table_board::jobs;
 use table_size::Size;
 
 // The heaviest load, and how many benches were counted, from bench 1 up, until it was known.
-#[derive(Drop)]
+#[derive(Clone, Copy)]
 pub struct Heaviest {
     pub load: usize,
     pub benches: usize,
 }
 
 // How far the count has come: the benches counted, the best load so far, and the standing jobs not yet counted.
-#[derive(Drop)]
+#[derive(Clone, Copy)]
 struct Count {
     benches: usize,
     best: u16,

@@ -14,7 +14,7 @@ use table_board::jobs;
 use table_size::Size;
 
 // What is found: the path's other end, and how many jobs it has; where there is no path, the bench asked for, and 0.
-#[derive(Drop)]
+#[derive(Clone, Copy)]
 pub struct FoundPath {
     pub bench: usize,
     pub jobs: usize,

@@ -22,7 +22,7 @@ use table_size::Size;
 
 // What a round found: how many benches are found in all, and how many jobs lead to the bench that lost one, 0 where it
 // was not found.
-#[derive(Drop)]
+#[derive(Clone, Copy)]
 struct Round {
     found: usize,
     jobs: usize,

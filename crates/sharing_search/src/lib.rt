@@ -13,7 +13,7 @@ ghost use Rattle.sharing_search.specs.Searching.{Course, Searching, Discovered, 
 use table_size::Size;
 
 // How many benches are found, and the next job on the chain, 0 for none.
-#[derive(Drop)]
+#[derive(Clone, Copy)]
 pub struct Expansion {
     pub found: usize,
     pub job: usize,

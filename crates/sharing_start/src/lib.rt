@@ -15,7 +15,7 @@ use graph_lists::{keys, scratch};
 use table_size::Size;
 
 // The first bench that starts an improving path, 0 for none; how many benches are found.
-#[derive(Drop)]
+#[derive(Clone, Copy)]
 struct Search {
     start: usize,
     found: usize,

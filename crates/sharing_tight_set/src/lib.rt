@@ -13,7 +13,7 @@ use graph_lists::scratch;
 use table_size::Size;
 
 // How many benches are in a set, and how many jobs they hold.
-#[derive(Drop)]
+#[derive(Clone, Copy)]
 pub struct Extent {
     pub benches: usize,
     pub jobs: usize,

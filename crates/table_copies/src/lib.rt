@@ -25,7 +25,7 @@ pub fn copy_in_order(t: &[u8], s: Size, copy: &mut [u8])
     requires copy_len { length copy.old ≡ length t.now }
     ensures { TableOf copy.new s (decode t.now) }
 {
-    bytes::copy(t, copy);
+    copy.copy_from_slice(t);
     table_chains::rebuild_chains(copy, s);
 }
 
@@ -34,5 +34,5 @@ pub fn copy_back(copy: &[u8], t: &mut [u8])
     requires { length t.old ≡ length copy.now }
     ensures { t.new ≡ copy.now }
 {
-    bytes::copy(copy, t);
+    t.copy_from_slice(copy);
 }

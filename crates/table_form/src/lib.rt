@@ -12,7 +12,7 @@ use table_rising::Pass;
 use table_size::{Size, Sizing};
 
 // What the form check answers.
-#[derive(Drop)]
+#[derive(Clone, Copy)]
 pub enum Form {
     // Refusal 1 or 2.
     Refused(Refusal),

@@ -14,7 +14,7 @@ use table_record_form::Kind;
 use table_size::Size;
 
 // What a record says to the walk that reads it.
-#[derive(Drop)]
+#[derive(Clone, Copy)]
 enum Step {
     // It fails.
     Broken,
@@ -25,7 +25,7 @@ enum Step {
 }
 
 // How a walk ends.
-#[derive(Drop)]
+#[derive(Clone, Copy)]
 pub enum Walked {
     // At a number or record that fails.
     Broken,

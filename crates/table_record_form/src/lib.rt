@@ -11,7 +11,7 @@ use table_records::Record;
 use table_size::Size;
 
 // What a record is.
-#[derive(Drop)]
+#[derive(Clone, Copy)]
 pub enum Kind {
     Vacant,
     Fitting,
@@ -19,7 +19,7 @@ pub enum Kind {
 }
 
 // What a pass has seen: a number of jobs, or what no sound table has.
-#[derive(Drop)]
+#[derive(Clone, Copy)]
 pub enum Seen {
     Jobs(usize),
     Broken,

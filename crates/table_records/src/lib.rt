@@ -11,7 +11,7 @@ ghost use Rattle.table_records.specs.Records.{entry_of, RecordFits, RecordOf, Na
 use table_size::Size;
 
 // "First bench, second bench, holder (1 first-named, 2 second-named), next job on the chain."
-#[derive(Drop)]
+#[derive(Clone, Copy)]
 pub struct Record {
     pub first: usize,
     pub second: usize,

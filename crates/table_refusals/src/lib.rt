@@ -6,7 +6,7 @@ ghost use Rattle.spec_calls.specs.Answers.{refusal_number};
 ghost use Rattle.table_refusals.specs.Refusals.{refusal_of};
 
 // Why a call is refused, in the order of document 01's table and of those that 02 adds to it.
-#[derive(Drop)]
+#[derive(Clone, Copy)]
 pub enum Refusal {
     Sizes,
     Unsound,

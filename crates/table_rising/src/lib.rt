@@ -23,7 +23,7 @@ use table_record_form::Kind;
 use table_size::Size;
 
 // How the pass ended.
-#[derive(Drop)]
+#[derive(Clone, Copy)]
 pub enum Pass {
     // Got through.
     Rising,
@@ -32,7 +32,7 @@ pub enum Pass {
 }
 
 // What meeting a job tells.
-#[derive(Drop)]
+#[derive(Clone, Copy)]
 enum Turn {
     // No job has this number.
     Vacant,
@@ -42,7 +42,7 @@ enum Turn {
 }
 
 // How many jobs were met.
-#[derive(Drop)]
+#[derive(Clone, Copy)]
 enum Reach {
     // All; so many stand.
     All(usize),

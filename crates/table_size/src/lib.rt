@@ -8,14 +8,14 @@ ghost use Rattle.table_words.specs.Bytes.{layout_in};
 ghost use Rattle.table_size.specs.Sizes.{Limits, SizingOf};
 
 // Numbers of benches and of jobs within the limits.
-#[derive(Drop)]
+#[derive(Clone, Copy)]
 pub struct Size {
     benches: usize,
     jobs: usize,
 }
 
 // A size, or refused.
-#[derive(Drop)]
+#[derive(Clone, Copy)]
 pub enum Sizing {
     Fit(Size),
     Misfit,

@@ -19,7 +19,7 @@ use table_records::Record;
 use table_size::Size;
 
 // Where a job belongs in a bench's chain: the job before it and the job behind it, 0 for none.
-#[derive(Drop)]
+#[derive(Clone, Copy)]
 struct Gap {
     before: usize,
     behind: usize,
