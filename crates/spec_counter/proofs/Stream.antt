@@ -1,5 +1,5 @@
 -- The input as it comes in: what is printed does not depend on where it is cut.
-use Prim.Native.Nat.{ℕ, ◌+◌, ◌<◌}
+use Prim.Native.Nat.{ℕ, ◌<◌}
 use native.Mathlib.Omega.{arith}
 use mathlib.Core.Path.{◌≡◌, refl, sym, ap, ◌∙◌}
 use mathlib.Core.Logic.{◌≢◌}
@@ -84,9 +84,9 @@ goes_none a = record { whole = λ rest. refl }
 abbrev pub joint : List (List ℕ) → List ℕ
 joint ls = flat_map (λ l. l) ls
 
-run_consumes : {a b : Place} {inputs texts : List (List ℕ)} → ConsumesAll b a inputs texts → Consumes a b (joint inputs) (joint texts)
+run_consumes : {b a : Place} {inputs texts : List (List ℕ)} → ConsumesAll b a inputs texts → Consumes a b (joint inputs) (joint texts)
 unfolding flat_map
-run_consumes {a} {b} ended = goes_none b
+run_consumes {b} {a} ended = goes_none b
 run_consumes (then g r) = consumes_then g (run_consumes r)
 
 -- however the input is cut into pieces, what is printed for them and at the end is what the whole input prints

@@ -52,7 +52,7 @@ module _ (l m : Layout) (benches : m.benches ≡ l.benches) (jobs : m.jobs ≡ l
       go (found a n h q) f ih = rw (jobs, benches, f (suc i) (inl refl), a, n, h, q)
       go (passed a n h q) f ih =
           let onward = ap (read_then (suc i)) (ih (λ i o. f i (inr o))) in
-          rw (jobs, benches, f (suc i) (inl refl), a, n, h, q) (rw (jobs, benches) at onward)
+          rw (jobs, benches, f (suc i) (inl refl), a, n, h, q) onward
 
   -- so are walks along bench x's chain, if it begins with the same job
   chain_same : nth m.heads x 0 ≡ nth l.heads x 0 → Same (walk l x y first 0 (nth (chains l) x [])).read →

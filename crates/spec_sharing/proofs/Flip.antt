@@ -2,7 +2,7 @@
 -- only the path's jobs change holder.
 use Prim.Native.Nat.{ℕ, zero, suc, ◌+◌, ◌≤◌}
 use native.Mathlib.Omega.{arith}
-use mathlib.Core.Path.{◌≡◌, refl, sym, ap, ◌∙◌}
+use mathlib.Core.Path.{◌≡◌, refl, sym, ap, subst, ◌∙◌}
 use mathlib.Core.Logic.{inl, inr, ◌≢◌}
 use mathlib.Core.Bool.{not}
 use mathlib.Core.List.{List, [], ◌∷◌}
@@ -73,7 +73,7 @@ walk_jobs : (b : Board) (x : ℕ) (r : List Step) → Walk (steps b) x r → T (
 walk_jobs b x [] w d = tt
 walk_jobs b x (s ∷ r) w d =
     let e = (step_is b x s w.0).0 in
-    let f = walk_leaves b s.to r w.1 s.job (rw e (distinct_head x (benches_of (s ∷ r)) d)) in
+    let f = walk_leaves b s.to r w.1 s.job (subst (λ y. In y (benches_of (s ∷ r)) → ⊥) (sym e) (distinct_head x (benches_of (s ∷ r)) d)) in
     both (not (member s.job (jobs_of r))) (distinct (jobs_of r)) (not_member s.job (jobs_of r) f) (walk_jobs b s.to r w.1 (distinct_tail x (benches_of (s ∷ r)) d))
 
 module _ (b : Board) (v : Valid b) where

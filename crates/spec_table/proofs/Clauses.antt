@@ -8,7 +8,7 @@ use mathlib.Core.List.{List, [], ◌∷◌, ◌++◌}
 use lib.Dec.{T, not_T, eqb}
 use lib.ListN.{length}
 use Rattle.spec_lists.specs.Lists.{within, all, Each, In, nth, enumerate}
-use Rattle.spec_table.specs.Board.{standing, names_fit}
+use Rattle.spec_table.specs.Board.{names_fit}
 use Rattle.spec_table.specs.Table.{words, Entry, vacant, filled, holder_in, Layout, layout, chains, standing_in, entry_fits, placed, only_standing, formed, fits, sound, entry_words}
 use Rattle.spec_lists.proofs.Tests.{T→true, not_false, both, left, right, five, T-eqb, eqb_T, within_low, within_both}
 use Rattle.spec_lists.proofs.Elements.{in_filter, filter_in, all_in, in_all, each_in, in_each, in_nth, nth_within, in_enumerate, in_enumerate_nth, enumerate_nth}

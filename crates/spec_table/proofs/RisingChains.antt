@@ -10,7 +10,7 @@ use lib.Dec.{T}
 use lib.ListN.{length, get_or}
 use lib.Seq.{ext_get_or}
 use Rattle.spec_lists.specs.Lists.{range, rises, In, nth}
-use Rattle.spec_table.specs.Board.{Board, names_of, standing, jobs_held}
+use Rattle.spec_table.specs.Board.{Board, names_of, jobs_held}
 use Rattle.spec_table.specs.Table.{words, bytes_of, Entry, vacant, filled, holder_in, Layout, layout, follow, chains, sound, board_of, decode, position_of, flat, encode, Storable, all_rise, SameSharing}
 use Rattle.spec_lists.proofs.Elements.{all_in, in_all, in_get_d, in_nth, nth_map, map_in}
 use Rattle.spec_lists.proofs.NumberLists.{values_same}
