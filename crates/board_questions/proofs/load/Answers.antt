@@ -1,0 +1,55 @@
+-- The load of a bench of a sound table, or that it has no such bench.
+use Prim.Native.Nat.{◌+◌, ◌<◌}
+use native.Mathlib.Omega.{arith}
+use mathlib.Core.Path.{◌≡◌, sym, ◌∙◌}
+use mathlib.Core.List.{[]}
+use lib.ListN.{get_or}
+use Rattle.spec_table.specs.Board.{load}
+use Rattle.spec_table.specs.Table.{most_benches, decode}
+use Rattle.spec_calls.specs.Calls.{ask, load_of}
+use Rattle.spec_lists.proofs.Tests.{true→T}
+use Rattle.table_size.specs.Sizes.{BenchIn}
+use Rattle.table_form.specs.FormCheck.{FoundSound}
+use Rattle.table_size.proofs.Sizes.{bench_in}
+use Rattle.table_board.proofs.RecordsAsBoard.{sound_holds_board}
+use Rattle.sharing_steps.proofs.AsSteps.{loads_in, load_at}
+use Rattle.board_answers.proofs.Formal.{form_refused}
+use Rattle.board_questions.proofs.Asking.{load_told, bench_refused}
+use Rattle.board_questions.proofs.load.Goals as goal
+use Rattle.board_questions.proofs.load.Goals.{After-known-told2, Then-has_bench}
+
+-- the table is sound, with these loads
+found : (c : After-known-told2) → FoundSound c.args.t.now c.check.new.1.0 c.s-1.given.0.0 c.s-1.given.0.1.0
+found c = rw c.s-1.given.1 at c.check.ensures.says
+
+-- it has the bench
+bench : (c : Then-has_bench) → BenchIn c.s-1.given.0.0 c.args.bench
+bench c = bench_in _ _ (true→T _ (sym c.has_bench.ensures ∙ c.if-has_bench.true))
+
+-- the load that is read
+read : (c : Then-has_bench) → get_or c.check.new.1.0 c.args.bench 0 ≡ load (decode c.args.t.now).holders c.args.bench
+read c = let f = found c in load_at (sound_holds_board _ _ f.sound) f.loaded (bench c)
+
+-- the bench has a place in the array
+place : (c : Then-has_bench) → c.args.bench < most_benches + 1
+place c = omega (arith, (bench c).most, (found c).sound.size.limits.benches_most)
+
+pub offset_bounds-loads-bench : goal.offset_bounds-loads-bench
+offset_bounds-loads-bench c = omega (arith, place (goal.at.offset_bounds-loads-bench c).Then-has_bench)
+
+pub bounds-loads-bench : goal.bounds-loads-bench
+bounds-loads-bench c = place (goal.at.bounds-loads-bench c).Then-has_bench
+
+pub overflow_cast-result : goal.overflow_cast-result
+overflow_cast-result c =
+    let f = found (goal.at.overflow_cast-result c).After-known-told2 in
+    omega (arith, (loads_in (sound_holds_board _ _ f.sound) f.loaded).most _ (bench (goal.at.overflow_cast-result c).Then-has_bench).least, f.sound.size.limits.jobs_most)
+
+pub returns-in-Refused : goal.returns-in-Refused
+returns-in-Refused c = form_refused _ (ask (load_of _) []) tt _ (rw c.r-1.given.1 at c.check.ensures.says)
+
+pub returns-then-has_bench : goal.returns-then-has_bench
+returns-then-has_bench c = load_told (found (goal.at.returns-then-has_bench c).After-known-told2).sound _ _ c.has_bench.ensures c.if-has_bench.true (read (goal.at.returns-then-has_bench c).Then-has_bench)
+
+pub returns-else-has_bench : goal.returns-else-has_bench
+returns-else-has_bench c = bench_refused (found (goal.at.returns-else-has_bench c).After-known-told2).sound _ c.has_bench.ensures c.if-has_bench.false

@@ -1,0 +1,23 @@
+-- The copy is a table, in order, of the same board; what is left of it is copied back, if the task was done.
+use mathlib.Core.Path.{sym, ◌∙◌}
+use Rattle.table_copies.proofs.Ordering.{table_loaded}
+use Rattle.sharing_changes.proofs.Copied.{may_copied, refused_copied, made_copied}
+use Rattle.sharing_changes.proofs.do_in_copy.Goals as goal
+
+pub copy_in_order-requires : goal.copy_in_order-requires
+copy_in_order-requires c = record { sound_table = c.requires.sound_table; copy_len = c.requires.copy_len }
+
+-- ?? whole requires: c.before.before.before.before.before.before.before.before.before.before.before.before.requires
+pub do_in_order-requires : goal.do_in_order-requires
+do_in_order-requires c =
+    let (z, (m, (l, (long, room)))) = c.requires in
+    record { in_order = c.copy_in_order.ensures.in_order; may_do = may_copied c.args.t.now c.copy_in_order.ensures c.args.task m; loaded = table_loaded c.copy_in_order.ensures l; path_len = long }
+
+pub copy_back-requires : goal.copy_back-requires
+copy_back-requires c = sym (c.do_in_order.auto.0 ∙ c.copy_in_order.auto.1.1.0 ∙ c.requires.copy_len)
+
+pub returns-in-Refused : goal.returns-in-Refused
+returns-in-Refused c = refused_copied c.args.t.now c.copy_in_order.ensures _ _ _ c.args.task c.r-1.given.0.0 (rw c.r-1.given.1 at c.do_in_order.ensures)
+
+pub returns-in-Made : goal.returns-in-Made
+returns-in-Made c = rw c.copy_back.ensures (made_copied c.args.t.now c.copy_in_order.ensures _ _ _ c.args.task c.e-1.given.0.0 (rw c.e-1.given.1 at c.do_in_order.ensures))

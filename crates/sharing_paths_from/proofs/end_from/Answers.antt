@@ -1,0 +1,89 @@
+use Prim.Native.Nat.{ℕ, ◌-◌, ◌≤◌, ◌<◌}
+use native.Mathlib.Omega.{arith}
+use mathlib.Core.Logic.{⊎_elim}
+use Rattle.spec_table.specs.Board.{Board}
+use Rattle.spec_table.specs.Table.{most_benches, decode}
+use Rattle.graph_lists.specs.Arrays.{at}
+use Rattle.sharing_paths_from.specs.ArrivalSearch.{course_from, FirstLevel}
+use Rattle.sharing_paths_from.proofs.Levels.{Looked, level_small, levels_start, levels_weighed, levels_small, levels_lower, levels_same, levels_end, looked_few, looked_end, looked_level, looked_turn}
+use Rattle.sharing_paths_from.proofs.end_from.Goals as goal
+use Rattle.sharing_paths_from.proofs.end_from.Goals.{After-expand-level, After-lightest-among, Joined-n-bound, Start}
+
+-- a board of which the contract speaks ..
+-- ?? tie
+abbrev First : tie.Start invariant-loop decreases-loop → Board → ℕ → ℕ → Type 0
+First c b job other = let a = c.args in FirstLevel (decode a.t.now) b a.s a.loads.now a.x job other a.goal a.end a.queue.now a.came.now
+
+-- .. and the one that there is: the numbers of bench and goal are small
+small : (c : Start) → (c.args.x ≤ most_benches) × (c.args.goal ≤ most_benches) × (1 ≤ at c.args.loads.now c.args.x)
+small c = let (b, job, other, k) = c.requires.by_index in level_small k
+
+-- the level's lightest bench is small too
+lightest-small : (c : After-lightest-among) → c.lightest_among-y.result ≤ most_benches
+lightest-small c =
+    let (b, job, other, k) = c.requires.by_index in
+    levels_small k (c.loop-begin.invariant b job other k) c.lightest_among-y.ensures
+
+-- the level was looked at
+looked : (c : Joined-n-bound) (b : Board) (job other : ℕ) → First c b job other → Looked b c.args.s.benches c.args.loads.now c.args.x c.args.goal c.if-n-bound.best c.if-n-bound.bound c.loop-begin.begin c.loop-begin.end c.loop-begin.level c.loop-begin.queue c.loop-begin.branch
+looked c b job other k =
+    let h = c.loop-begin.invariant b job other k in
+    ⊎_elim (λ m. rw (m.1, m.2) (levels_lower k h c.loop-begin-test.true c.lightest_among-y.ensures m.0.taken)) (λ m. rw (m.1, m.2) (levels_same k h c.loop-begin-test.true c.lightest_among-y.ensures m.0.left)) c.if-n-bound.branch
+
+pub offset_bounds-loads-goal : goal.offset_bounds-loads-goal
+offset_bounds-loads-goal c = omega (arith, small (goal.at.offset_bounds-loads-goal c).Start)
+
+pub bounds-loads-goal : goal.bounds-loads-goal
+bounds-loads-goal c = omega (arith, small (goal.at.bounds-loads-goal c).Start)
+
+pub offset_bounds-loads-x : goal.offset_bounds-loads-x
+offset_bounds-loads-x c = omega (arith, small (goal.at.offset_bounds-loads-x c).Start)
+
+pub bounds-loads-x : goal.bounds-loads-x
+bounds-loads-x c = omega (arith, small (goal.at.bounds-loads-x c).Start)
+
+pub overflow_sub-bound : goal.overflow_sub-bound
+overflow_sub-bound c = (small (goal.at.overflow_sub-bound c).Start).2
+
+pub loop-begin-init : goal.loop-begin-init
+loop-begin-init c = λ b job other k. levels_start k
+
+pub lightest_among-y-requires : goal.lightest_among-y-requires
+lightest_among-y-requires c =
+    let (b, job, other, k) = c.requires.by_index in
+    levels_weighed k (c.loop-begin.invariant b job other k) c.requires.loads_in c.loop-begin-test.true
+
+pub offset_bounds-loads-y : goal.offset_bounds-loads-y
+offset_bounds-loads-y c = omega (arith, lightest-small (goal.at.offset_bounds-loads-y c).After-lightest-among)
+
+pub bounds-loads-y : goal.bounds-loads-y
+bounds-loads-y c = omega (arith, lightest-small (goal.at.bounds-loads-y c).After-lightest-among)
+
+pub returns-then-bound-low : goal.returns-then-bound-low
+returns-then-bound-low c = λ b job other k. looked_end k (looked (goal.at.returns-then-bound-low c).Joined-n-bound b job other k) c.if-bound-low.true
+
+pub expand_level-more-requires : goal.expand_level-more-requires
+expand_level-more-requires c =
+    let (b, job, other, k) = c.requires.by_index in
+    record { in_order = c.requires.in_order; goal_le_most_benches = (small (goal.at.expand_level-more-requires c).Start).1; at_level = (course_from b c.loop-begin.begin c.loop-begin.end c.loop-begin.level, looked_level k (looked (goal.at.expand_level-more-requires c).Joined-n-bound b job other k) c.if-bound-low.false) }
+
+-- the level's number is small
+few : (c : After-expand-level) → (c.loop-begin.level < c.loop-begin.end) × (c.loop-begin.end ≤ most_benches)
+few c =
+    let (b, job, other, k) = c.requires.by_index in
+    looked_few k (looked c b job other k)
+
+pub overflow_add-level : goal.overflow_add-level
+overflow_add-level c = omega (arith, few (goal.at.overflow_add-level c).After-expand-level)
+
+pub loop-begin-smaller : goal.loop-begin-smaller
+loop-begin-smaller c = omega (arith, few (goal.at.loop-begin-smaller c).After-expand-level, c.loop-begin-test.true)
+
+pub loop-begin-preserved : goal.loop-begin-preserved
+loop-begin-preserved c =
+    λ b job other k.
+    let h = looked (goal.at.loop-begin-preserved c).Joined-n-bound b job other k in
+    looked_turn k h c.if-bound-low.false c.expand_level-more.ensures.grown (c.expand_level-more.ensures.level (course_from b c.loop-begin.begin c.loop-begin.end c.loop-begin.level) (looked_level k h c.if-bound-low.false))
+
+pub returns : goal.returns
+returns c = λ b job other k. levels_end k (c.loop-begin.invariant b job other k) c.loop-begin-test.false

@@ -1,0 +1,32 @@
+-- The two names' sum tells the holder from the other bench.
+use Prim.Native.Nat.{ℕ, ◌+◌, ◌-◌, ◌≤◌}
+use native.Mathlib.Omega.{arith}
+use Rattle.spec_table.specs.Board.{names_of}
+use Rattle.spec_table.specs.Table.{decode}
+use Rattle.table_board.specs.BoardView.{Position, HolderOf}
+use Rattle.sharing_steps.proofs.AsSteps.{led_place, led_of}
+use Rattle.sharing_steps.proofs.origin.Goals as goal
+use Rattle.sharing_steps.proofs.origin.Goals.{After-name-2, Start}
+
+-- job j names two benches
+place : (c : Start) (k : ℕ) → 1 ≤ k → k ≤ 2 → Position (names_of (decode c.args.t.now) c.args.j) k
+place c k l u =
+    led_place c.args.t.now c.args.s c.args.j c.requires.holds_board c.args.y c.requires.y_value c.requires.y_nonzero k l u
+
+pub name-requires : goal.name-requires
+name-requires c = record { holds_board = c.requires.holds_board; position = place (goal.at.name-requires c).Start 1 (omega arith) (omega arith) }
+
+pub name-requires-2 : goal.name-requires-2
+name-requires-2 c = record { holds_board = c.requires.holds_board; position = place (goal.at.name-requires-2 c).Start 2 (omega arith) (omega arith) }
+
+-- what is left of the names' sum
+found : (c : After-name-2) → let sum = c.name.result + c.name-2.result in (c.args.y ≤ sum) × HolderOf c.args.t.now c.args.s c.args.j (sum - c.args.y)
+found c =
+    let c.args = c.args in
+    led_of c.args.t.now c.args.s c.args.j c.requires.holds_board c.args.y c.requires.y_value c.requires.y_nonzero c.name.result c.name-2.result c.name.ensures c.name-2.ensures
+
+pub overflow_sub-result : goal.overflow_sub-result
+overflow_sub-result c = (found (goal.at.overflow_sub-result c).After-name-2).0
+
+pub returns : goal.returns
+returns c = (found (goal.at.returns c).After-name-2).1

@@ -1,0 +1,38 @@
+use Prim.Native.Nat.{◌+◌, ◌-◌, ◌*◌, ◌<◌}
+use native.Mathlib.Omega.{arith}
+use mathlib.Core.Path.{◌≡◌, ◌∙◌}
+use mathlib.Core.Logic.{⊎_elim}
+use mathlib.Core.Bool.{true, cond}
+use lib.ListN.{length}
+use Rattle.spec_lists.specs.Lists.{bit}
+use Rattle.table_words.specs.Bytes.{set_word}
+use Rattle.sharing_visits.specs.Marks.{mark}
+use Rattle.sharing_tight_set.proofs.AsSet.{passing_few, write_start, write_room, write_turn, write_end}
+use Rattle.sharing_tight_set.proofs.write.Goals as goal
+use Rattle.sharing_tight_set.proofs.write.Goals.{In-loop-x}
+
+pub loop-x-init : goal.loop-x-init
+loop-x-init c = (omega arith, write_start c.args.list.now c.args.marks.now)
+
+-- there is room for a marked bench
+room : (c : In-loop-x) → mark c.args.marks.now c.loop-x.x ≡ true → 2 * c.loop-x.count + 1 < length c.loop-x.list
+room c e =
+    write_room c.args.s c.loop-x.invariant.1 e (omega arith) c.requires.marks_in_bounds
+
+pub write-requires : goal.write-requires
+write-requires c = record { i_in_bounds = room (goal.at.write-requires c).In-loop-x c.if-marks-x.true; word_bound = omega (arith, c.requires.limits.benches_most) }
+
+pub overflow_add-count : goal.overflow_add-count
+overflow_add-count c = omega (arith, c.loop-x.invariant.1.counted, passing_few (mark c.args.marks.now) c.loop-x.invariant.1.done)
+
+pub loop-x-preserved : goal.loop-x-preserved
+loop-x-preserved c =
+    let e : c.if-marks-x.list ≡ cond (mark c.args.marks.now c.loop-x.x) (set_word c.loop-x.list c.loop-x.count c.loop-x.x) c.loop-x.list = ⊎_elim (λ w. rw w.0.taken (w.5 ∙ w.2.ensures)) (λ w. rw w.0.left w.1) c.if-marks-x.branch in
+    let f : c.if-marks-x.count ≡ c.loop-x.count + bit (mark c.args.marks.now c.loop-x.x) = ⊎_elim (λ w. rw w.0.taken w.6) (λ w. rw w.0.left (omega (arith, w.2))) c.if-marks-x.branch in
+    (omega arith, write_turn c.if-marks-x.list c.if-marks-x.count c.loop-x.invariant.1 (room (goal.at.loop-x-preserved c).In-loop-x) e f)
+
+pub shape_of-list : goal.shape_of-list
+shape_of-list c = c.loop-x.invariant.1.long
+
+pub returns : goal.returns
+returns c = write_end c.args.s c.loop-x.invariant.1 (omega arith)

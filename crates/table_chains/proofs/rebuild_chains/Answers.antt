@@ -1,0 +1,13 @@
+-- The heads are cleared, all jobs pushed and their number written: the layout is the board's, and so are the bytes.
+use native.Mathlib.Omega.{arith}
+use Rattle.table_chains.proofs.Rebuilding.{cleared_holds_board, linked_few, rebuild_all}
+use Rattle.table_chains.proofs.rebuild_chains.Goals as goal
+
+pub push_all-count-requires : goal.push_all-count-requires
+push_all-count-requires c = (cleared_holds_board c.args.t.now c.clear_heads.new.0 c.args.s c.requires c.clear_heads.ensures).0
+
+pub write_standing-requires : goal.write_standing-requires
+write_standing-requires c = record { size_of = c.push_all-count.ensures.holds_board.size; count_bound = omega (arith, linked_few c.push_all-count.ensures) }
+
+pub returns : goal.returns
+returns c = rebuild_all c.requires c.clear_heads.ensures c.push_all-count.ensures c.write_standing.ensures (λ i. omega (arith, c.slice_known-4-1.given i))
