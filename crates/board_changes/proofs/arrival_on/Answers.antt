@@ -21,10 +21,10 @@ pub stands-requires : goal.stands-requires
 stands-requires c = let both = readable c.requires.found_sound.sound c.args.job c.has_job.ensures c.if-not-has_job.false in record { holds_board = both.0; job_in = both.1 }
 
 -- the numbers passed
-passes : (c : Else-first-second) → Numbered (decode c.args.t.now) c.args.job c.args.first c.args.second
+passes : (c : Else-first-second) → let a = c.args in Numbered (decode a.t.now) a.job a.first a.second
 passes c =
-    let c.args = c.args in
-    arrival_numbered c.requires.found_sound.sound c.args.job c.args.first c.args.second c.has_job.ensures c.if-not-has_job.false c.has_bench.ensures c.if-not-has_bench.false c.has_bench-else-not-has_bench.ensures c.if-not-has_bench-2.false c.if-first-second.false
+    let a = c.args in
+    arrival_numbered c.requires.found_sound.sound a.job a.first a.second c.has_job.ensures c.if-not-has_job.false c.has_bench.ensures c.if-not-has_bench.false c.has_bench-else-not-has_bench.ensures c.if-not-has_bench-2.false c.if-first-second.false
 
 pub returns-then-stands : goal.returns-then-stands
 returns-then-stands c = arrival_standing c.requires.found_sound.sound c.args.list.now c.args.job c.args.first c.args.second (passes (goal.at.returns-then-stands c).Else-first-second) c.stands.ensures c.if-stands.true

@@ -7,22 +7,22 @@ use Rattle.table_form.specs.FormCheck.{FoundSound}
 use Rattle.board_answers.proofs.Formal.{form_refused}
 use Rattle.board_questions.proofs.Asking.{level_told}
 use Rattle.board_questions.proofs.level_check.Goals as goal
-use Rattle.board_questions.proofs.level_check.Goals.{After-known-told2}
+use Rattle.board_questions.proofs.level_check.Goals.{In-Sound}
 
 -- the table is sound, with these loads
-found : (c : After-known-told2) → FoundSound c.args.t.now c.check_with.new.1.1.0 c.s-1.given.0.0 c.s-1.given.0.1.0
+found : (c : In-Sound) → FoundSound c.args.t.now c.check_with.new.1.1.0 c.s-1.given.0.0 c.s-1.given.0.1.0
 found c = rw c.s-1.given.1 at c.check_with.ensures.form_of.says
 
 pub is_level-requires : goal.is_level-requires
 is_level-requires c =
-    let f = found (goal.at.is_level-requires c).After-known-told2 in
+    let f = found (goal.at.is_level-requires c).In-Sound in
     record { sound_table = f.sound; variant = f.bytes; loaded = f.loaded; queue_len = c.check_with.ensures.due_len }
 
 pub returns-in-Refused : goal.returns-in-Refused
 returns-in-Refused c = form_refused _ (ask level_check []) tt _ (rw c.r-1.given.1 at c.check_with.ensures.form_of.says)
 
 pub returns-then-is_level : goal.returns-then-is_level
-returns-then-is_level c = level_told (found (goal.at.returns-then-is_level c).After-known-told2).sound true (sym c.if-is_level.true ∙ c.is_level.ensures)
+returns-then-is_level c = level_told (found (goal.at.returns-then-is_level c).In-Sound).sound true (sym c.if-is_level.true ∙ c.is_level.ensures)
 
 pub returns-else-is_level : goal.returns-else-is_level
-returns-else-is_level c = level_told (found (goal.at.returns-else-is_level c).After-known-told2).sound false (sym c.if-is_level.false ∙ c.is_level.ensures)
+returns-else-is_level c = level_told (found (goal.at.returns-else-is_level c).In-Sound).sound false (sym c.if-is_level.false ∙ c.is_level.ensures)

@@ -16,10 +16,10 @@ use Rattle.sharing_steps.proofs.AsSteps.{loads_in, load_at}
 use Rattle.board_answers.proofs.Formal.{form_refused}
 use Rattle.board_questions.proofs.Asking.{load_told, bench_refused}
 use Rattle.board_questions.proofs.load.Goals as goal
-use Rattle.board_questions.proofs.load.Goals.{After-known-told2, Then-has_bench}
+use Rattle.board_questions.proofs.load.Goals.{In-Sound, Then-has_bench}
 
 -- the table is sound, with these loads
-found : (c : After-known-told2) → FoundSound c.args.t.now c.check.new.1.0 c.s-1.given.0.0 c.s-1.given.0.1.0
+found : (c : In-Sound) → FoundSound c.args.t.now c.check.new.1.0 c.s-1.given.0.0 c.s-1.given.0.1.0
 found c = rw c.s-1.given.1 at c.check.ensures.says
 
 -- it has the bench
@@ -42,14 +42,14 @@ bounds-loads-bench c = place (goal.at.bounds-loads-bench c).Then-has_bench
 
 pub overflow_cast-result : goal.overflow_cast-result
 overflow_cast-result c =
-    let f = found (goal.at.overflow_cast-result c).After-known-told2 in
+    let f = found (goal.at.overflow_cast-result c).In-Sound in
     omega (arith, (loads_in (sound_holds_board _ _ f.sound) f.loaded).most _ (bench (goal.at.overflow_cast-result c).Then-has_bench).least, f.sound.size.limits.jobs_most)
 
 pub returns-in-Refused : goal.returns-in-Refused
 returns-in-Refused c = form_refused _ (ask (load_of _) []) tt _ (rw c.r-1.given.1 at c.check.ensures.says)
 
 pub returns-then-has_bench : goal.returns-then-has_bench
-returns-then-has_bench c = load_told (found (goal.at.returns-then-has_bench c).After-known-told2).sound _ _ c.has_bench.ensures c.if-has_bench.true (read (goal.at.returns-then-has_bench c).Then-has_bench)
+returns-then-has_bench c = load_told (found (goal.at.returns-then-has_bench c).In-Sound).sound _ _ c.has_bench.ensures c.if-has_bench.true (read (goal.at.returns-then-has_bench c).Then-has_bench)
 
 pub returns-else-has_bench : goal.returns-else-has_bench
-returns-else-has_bench c = bench_refused (found (goal.at.returns-else-has_bench c).After-known-told2).sound _ c.has_bench.ensures c.if-has_bench.false
+returns-else-has_bench c = bench_refused (found (goal.at.returns-else-has_bench c).In-Sound).sound _ c.has_bench.ensures c.if-has_bench.false

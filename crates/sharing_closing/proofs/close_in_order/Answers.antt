@@ -22,7 +22,7 @@ slice_bounds-write_list-end c = sym (length-take-le c.find_closing-found.result.
 
 pub write_list-requires : goal.write_list-requires
 write_list-requires c =
-    let n = slice-aggregate-write-list c in
+    let n = slice_bounds-write_list-end c in
     omega (arith, n, c.if-list-moved.false)
 
 -- ?? whole requires: c.before.before.before.before.before.before.before.before.before.before.before.before.before.before.before.before.requires

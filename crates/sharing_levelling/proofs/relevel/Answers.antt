@@ -6,7 +6,7 @@ use Rattle.spec_table.specs.Table.{decode}
 use Rattle.table_copies.proofs.Ordering.{table_loaded}
 use Rattle.sharing_levelling.proofs.Flipping.{order_loads, same_board, Shifts, flipping_start, flipping_few, flipping_route, flipping_order, flipping_shifts, flipping_turn, flipping_end}
 use Rattle.sharing_levelling.proofs.relevel.Goals as goal
-use Rattle.sharing_levelling.proofs.relevel.Goals.{After-hand-along, Then-paths-allowance}
+use Rattle.sharing_levelling.proofs.relevel.Goals.{After-hand_along, Then-paths-allowance}
 
 pub first_start-x-requires : goal.first_start-x-requires
 first_start-x-requires c =
@@ -29,33 +29,33 @@ less : (c : Then-paths-allowance) → c.loop-x.paths < c.args.allowance
 less c = ltb-true c.loop-x.paths c.args.allowance c.if-paths-allowance.true
 
 -- the loads can follow the path
-shifts : (c : After-hand-along) → Shifts (decode c.hand_along.new.0) c.loop-x.loads c.loop-x.x c.find_from-found.result.bench
+shifts : (c : After-hand_along) → Shifts (decode c.hand_along.new.0) c.loop-x.loads c.loop-x.x c.find_from-found.result.bench
 shifts c =
     flipping_shifts c.loop-x.invariant c.loop-x-test.true c.find_from-found.ensures c.hand_along.ensures
 
 pub offset_bounds-loads-x : goal.offset_bounds-loads-x
-offset_bounds-loads-x c = omega (arith, (shifts (goal.at.offset_bounds-loads-x c).After-hand-along).start)
+offset_bounds-loads-x c = omega (arith, (shifts (goal.at.offset_bounds-loads-x c).After-hand_along).start)
 
 pub bounds-loads-x : goal.bounds-loads-x
-bounds-loads-x c = (shifts (goal.at.bounds-loads-x c).After-hand-along).start
+bounds-loads-x c = (shifts (goal.at.bounds-loads-x c).After-hand_along).start
 
 pub overflow_sub-loads : goal.overflow_sub-loads
-overflow_sub-loads c = (shifts (goal.at.overflow_sub-loads c).After-hand-along).some
+overflow_sub-loads c = (shifts (goal.at.overflow_sub-loads c).After-hand_along).some
 
 pub bounds-loads-x-in-loop-x : goal.bounds-loads-x-in-loop-x
-bounds-loads-x-in-loop-x c = (shifts (goal.at.bounds-loads-x-in-loop-x c).After-hand-along).start
+bounds-loads-x-in-loop-x c = (shifts (goal.at.bounds-loads-x-in-loop-x c).After-hand_along).start
 
 pub offset_bounds-loads-y : goal.offset_bounds-loads-y
-offset_bounds-loads-y c = omega (arith, (shifts (goal.at.offset_bounds-loads-y c).After-hand-along).end)
+offset_bounds-loads-y c = omega (arith, (shifts (goal.at.offset_bounds-loads-y c).After-hand_along).end)
 
 pub bounds-loads-y : goal.bounds-loads-y
-bounds-loads-y c = (shifts (goal.at.bounds-loads-y c).After-hand-along).end
+bounds-loads-y c = (shifts (goal.at.bounds-loads-y c).After-hand_along).end
 
 pub overflow_add-loads : goal.overflow_add-loads
-overflow_add-loads c = omega (arith, (shifts (goal.at.overflow_add-loads c).After-hand-along).room)
+overflow_add-loads c = omega (arith, (shifts (goal.at.overflow_add-loads c).After-hand_along).room)
 
 pub bounds-loads-y-in-loop-x : goal.bounds-loads-y-in-loop-x
-bounds-loads-y-in-loop-x c = (shifts (goal.at.bounds-loads-y-in-loop-x c).After-hand-along).end
+bounds-loads-y-in-loop-x c = (shifts (goal.at.bounds-loads-y-in-loop-x c).After-hand_along).end
 
 pub overflow_add-paths : goal.overflow_add-paths
 overflow_add-paths c = omega (arith, less (goal.at.overflow_add-paths c).Then-paths-allowance, c.ranges.allowance)
@@ -63,7 +63,7 @@ overflow_add-paths c = omega (arith, less (goal.at.overflow_add-paths c).Then-pa
 pub first_start-x-requires-in-loop-x : goal.first_start-x-requires-in-loop-x
 first_start-x-requires-in-loop-x c =
     let o = flipping_order c.loop-x.invariant c.loop-x-test.true c.find_from-found.ensures c.hand_along.ensures in
-    let l = (shifts (goal.at.first_start-x-requires-in-loop-x c).After-hand-along).loaded in
+    let l = (shifts (goal.at.first_start-x-requires-in-loop-x c).After-hand_along).loaded in
     let n = flipping_few c.loop-x.invariant c.loop-x-test.true c.find_from-found.ensures in
     record { in_order = o; loads_in = order_loads o l; loaded = l; queue_len = n.1 }
 
@@ -74,7 +74,7 @@ pub loop-x-preserved : goal.loop-x-preserved
 loop-x-preserved c =
     let less-test = c in
     let test = less-test in
-    flipping_turn test.loop.invariant test.loop-test.true c.find_from-found.ensures c.hand_along.ensures (less (goal.at.loop-x-preserved less).Then-paths-allowance-test) (shifts (goal.at.loop-x-preserved c).After-hand-along).loaded c.first_start-x-in-loop-x.ensures.queue_len_2 c.first_start-x-in-loop-x.ensures.start_of
+    flipping_turn test.loop.invariant test.loop-test.true c.find_from-found.ensures c.hand_along.ensures (less (goal.at.loop-x-preserved less).Then-paths-allowance-test) (shifts (goal.at.loop-x-preserved c).After-hand_along).loaded c.first_start-x-in-loop-x.ensures.queue_len_2 c.first_start-x-in-loop-x.ensures.start_of
 
 pub shape_of-t : goal.shape_of-t
 shape_of-t c = omega (arith, c.loop-x.invariant.in_order.sound.size.long, c.requires.sound_table.size.long)

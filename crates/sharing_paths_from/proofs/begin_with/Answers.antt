@@ -14,10 +14,10 @@ abbrev Joined : tie.Start → Board → Type 0
 Joined c b = let a = c.args in WithJob (decode a.t.now) b a.s a.x a.job a.other
 
 -- x is found ..
-started : (c : After-discover-start) (b : Board) → Joined c b → Begun b c.args.s.benches c.args.x 0 c.discover-start.result c.discover-start.new.1.1.1.0 c.discover-start.new.1.1.1.1.0
+started : (c : After-discover-start) (b : Board) → let start = c in Joined start b → Begun b start.args.s.benches start.args.x 0 c.discover-start.result c.discover-start.new.1.1.1.0 c.discover-start.new.1.1.1.1.0
 started c b j =
-    let c = c in
-    begun_start j c.requires.bench_in c.requires.queue_len c.requires.came_value c.discover-start.ensures
+    let start = c in
+    begun_start j start.requires.1.0 start.requires.1.1.0 start.requires.1.1.1.0 c.discover-start.ensures
 
 -- .. then what its jobs below the new one lead to
 below : (c : After-expand-below) (b : Board) → Joined c b → Begun b c.args.s.benches c.args.x c.args.job c.expand-below.result.found c.expand-below.new.1.1.1.1.1.1.0 c.expand-below.new.1.1.1.1.1.1.1.0

@@ -7,7 +7,7 @@ use Rattle.graph_lists.specs.Arrays.{at}
 use Rattle.sharing_paths_from.specs.ArrivalSearch.{course_from, FirstLevel}
 use Rattle.sharing_paths_from.proofs.Levels.{Looked, level_small, levels_start, levels_weighed, levels_small, levels_lower, levels_same, levels_end, looked_few, looked_end, looked_level, looked_turn}
 use Rattle.sharing_paths_from.proofs.end_from.Goals as goal
-use Rattle.sharing_paths_from.proofs.end_from.Goals.{After-expand-level, After-lightest-among, Joined-n-bound, Start}
+use Rattle.sharing_paths_from.proofs.end_from.Goals.{After-expand_level-more, After-lightest_among-y, Joined-n-bound, Start}
 
 -- a board of which the contract speaks ..
 -- ?? tie
@@ -19,7 +19,7 @@ small : (c : Start) → (c.args.x ≤ most_benches) × (c.args.goal ≤ most_ben
 small c = let (b, job, other, k) = c.requires.by_index in level_small k
 
 -- the level's lightest bench is small too
-lightest-small : (c : After-lightest-among) → c.lightest_among-y.result ≤ most_benches
+lightest-small : (c : After-lightest_among-y) → c.lightest_among-y.result ≤ most_benches
 lightest-small c =
     let (b, job, other, k) = c.requires.by_index in
     levels_small k (c.loop-begin.invariant b job other k) c.lightest_among-y.ensures
@@ -54,10 +54,10 @@ lightest_among-y-requires c =
     levels_weighed k (c.loop-begin.invariant b job other k) c.requires.loads_in c.loop-begin-test.true
 
 pub offset_bounds-loads-y : goal.offset_bounds-loads-y
-offset_bounds-loads-y c = omega (arith, lightest-small (goal.at.offset_bounds-loads-y c).After-lightest-among)
+offset_bounds-loads-y c = omega (arith, lightest-small (goal.at.offset_bounds-loads-y c).After-lightest_among-y)
 
 pub bounds-loads-y : goal.bounds-loads-y
-bounds-loads-y c = omega (arith, lightest-small (goal.at.bounds-loads-y c).After-lightest-among)
+bounds-loads-y c = omega (arith, lightest-small (goal.at.bounds-loads-y c).After-lightest_among-y)
 
 pub returns-then-bound-low : goal.returns-then-bound-low
 returns-then-bound-low c = λ b job other k. looked_end k (looked (goal.at.returns-then-bound-low c).Joined-n-bound b job other k) c.if-bound-low.true
@@ -68,16 +68,16 @@ expand_level-more-requires c =
     record { in_order = c.requires.in_order; goal_le_most_benches = (small (goal.at.expand_level-more-requires c).Start).1; at_level = (course_from b c.loop-begin.begin c.loop-begin.end c.loop-begin.level, looked_level k (looked (goal.at.expand_level-more-requires c).Joined-n-bound b job other k) c.if-bound-low.false) }
 
 -- the level's number is small
-few : (c : After-expand-level) → (c.loop-begin.level < c.loop-begin.end) × (c.loop-begin.end ≤ most_benches)
+few : (c : After-expand_level-more) → (c.loop-begin.level < c.loop-begin.end) × (c.loop-begin.end ≤ most_benches)
 few c =
     let (b, job, other, k) = c.requires.by_index in
     looked_few k (looked c b job other k)
 
 pub overflow_add-level : goal.overflow_add-level
-overflow_add-level c = omega (arith, few (goal.at.overflow_add-level c).After-expand-level)
+overflow_add-level c = omega (arith, few (goal.at.overflow_add-level c).After-expand_level-more)
 
 pub loop-begin-smaller : goal.loop-begin-smaller
-loop-begin-smaller c = omega (arith, few (goal.at.loop-begin-smaller c).After-expand-level, c.loop-begin-test.true)
+loop-begin-smaller c = omega (arith, few (goal.at.loop-begin-smaller c).After-expand_level-more, c.loop-begin-test.true)
 
 pub loop-begin-preserved : goal.loop-begin-preserved
 loop-begin-preserved c =

@@ -6,7 +6,7 @@ use Rattle.table_board.specs.BoardView.{Loaded}
 use Rattle.sharing_paths_from.specs.ArrivalSearch.{WithJob, FirstLevel, EndFound}
 use Rattle.sharing_paths_from.proofs.Finding.{nothing_found, first_level, path_found}
 use Rattle.sharing_paths_from.proofs.find_from.Goals as goal
-use Rattle.sharing_paths_from.proofs.find_from.Goals.{After-begin-with, After-end-from}
+use Rattle.sharing_paths_from.proofs.find_from.Goals.{After-begin_with-found, After-end_from-end}
 
 -- a board of which the contract speaks
 -- ?? tie
@@ -14,13 +14,13 @@ abbrev Joined : tie.Start → Board → Type 0
 Joined c b = let a = c.args in WithJob (decode a.t.now) b a.s a.x a.job a.other
 
 -- the first level was found ..
-begun : (c : After-begin-with) (b : Board) → Joined c b → Loaded b c.args.loads.now → FirstLevel (decode c.args.t.now) b c.args.s c.args.loads.now c.args.x c.args.job c.args.other c.lightest-goal.result c.begin_with-found.result c.begin_with-found.new.1.1.1.1.1.0 c.begin_with-found.new.1.1.1.1.1.1.0
+begun : (c : After-begin_with-found) (b : Board) → let start = c in Joined start b → Loaded b start.args.loads.now → FirstLevel (decode start.args.t.now) b start.args.s start.args.loads.now start.args.x start.args.job start.args.other c.lightest-goal.result c.begin_with-found.result c.begin_with-found.new.1.1.1.1.1.0 c.begin_with-found.new.1.1.1.1.1.1.0
 begun c b j l =
-    let c = c in
-    first_level j c.requires.bench_in l c.lightest-goal.ensures c.if-loads-x.false (c.begin_with-found.ensures b j)
+    let start = c in
+    first_level j start.requires.1.0 l c.lightest-goal.ensures c.if-loads-x.false (c.begin_with-found.ensures b j)
 
 -- .. then the end
-ended : (c : After-end-from) (b : Board) → Joined c b → Loaded b c.args.loads.now → EndFound (decode c.args.t.now) b c.args.s.benches c.args.x c.end_from-end.new.1.1.1.1.1.1.0 c.end_from-end.new.1.1.1.1.1.1.1.0 c.end_from-end.result
+ended : (c : After-end_from-end) (b : Board) → Joined c b → Loaded b c.args.loads.now → EndFound (decode c.args.t.now) b c.args.s.benches c.args.x c.end_from-end.new.1.1.1.1.1.1.0 c.end_from-end.new.1.1.1.1.1.1.1.0 c.end_from-end.result
 ended c b j l =
     c.end_from-end.ensures b c.args.job c.args.other (begun c b j l)
 
@@ -40,16 +40,16 @@ begin_with-found-requires c =
 pub end_from-end-requires : goal.end_from-end-requires
 end_from-end-requires c =
     let (b, j, l) = c.requires.with_job in
-    record { in_order = c.requires.in_order; loads_in = c.requires.loads_in; by_index = (b, c.args.job, c.args.other, begun (goal.at.end_from-end-requires c).After-begin-with b j l) }
+    record { in_order = c.requires.in_order; loads_in = c.requires.loads_in; by_index = (b, c.args.job, c.args.other, begun (goal.at.end_from-end-requires c).After-begin_with-found b j l) }
 
 pub follow_back-requires : goal.follow_back-requires
 follow_back-requires c =
     let (b, j, l) = c.requires.with_job in
-    let e = ended (goal.at.follow_back-requires c).After-end-from b j l in
+    let e = ended (goal.at.follow_back-requires c).After-end_from-end b j l in
     record { in_order = c.requires.in_order; path_len = e.behind.searching.queue_long; by_index = (e.course, e.found, _, e.behind) }
 
 pub returns : goal.returns
 returns c =
     λ b j l.
-    let e = ended (goal.at.returns c).After-end-from b j l in
+    let e = ended (goal.at.returns c).After-end_from-end b j l in
     path_found j c.requires.bench_in e c.follow_back.ensures.path_len_2 (c.follow_back.ensures.path_after e.course e.found _ e.behind)

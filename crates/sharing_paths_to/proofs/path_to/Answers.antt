@@ -6,7 +6,7 @@ use Rattle.table_board.proofs.RecordsAsBoard.{sound_holds_board}
 use Rattle.graph_lists.specs.Arrays.{at}
 use Rattle.sharing_paths_to.proofs.Rounds.{path_job, path_found}
 use Rattle.sharing_paths_to.proofs.path_to.Goals as goal
-use Rattle.sharing_paths_to.proofs.path_to.Goals.{After-follow-back, Start}
+use Rattle.sharing_paths_to.proofs.path_to.Goals.{After-follow_back, Start}
 
 -- the table holds a board
 holds : (c : Start) → HoldsBoard c.args.t.now c.args.s
@@ -14,7 +14,7 @@ holds c = sound_holds_board c.args.t.now c.args.s c.requires.in_order.sound
 
 -- the path's first job is one of the table
 -- ?? whole requires: c.before.before.before.requires
-job : (c : After-follow-back) → JobIn c.args.s (at c.follow_back.new.1.1.1.1.1.0 0)
+job : (c : After-follow_back) → JobIn c.args.s (at c.follow_back.new.1.1.1.1.1.0 0)
 job c =
     let (order, (long, (some, (board, found, queue, without, k)))) = c.requires in
     path_job c.follow_back.new.1.1.1.1.1.0 (holds c) without k some (c.follow_back.ensures.path_after k.course found queue k.behind)
@@ -26,10 +26,10 @@ follow_back-requires c =
     record { in_order = order; path_len = long; by_index = (k.course, found, queue, k.behind) }
 
 pub overflow_cast-path : goal.overflow_cast-path
-overflow_cast-path c = omega (arith, job (goal.at.overflow_cast-path c).After-follow-back, c.requires.in_order.sound.size.limits.jobs_most)
+overflow_cast-path c = omega (arith, job (goal.at.overflow_cast-path c).After-follow_back, c.requires.in_order.sound.size.limits.jobs_most)
 
 pub holder-bench-requires : goal.holder-bench-requires
-holder-bench-requires c = record { holds_board = holds (goal.at.holder-bench-requires c).Start; job_in = job (goal.at.holder-bench-requires c).After-follow-back }
+holder-bench-requires c = record { holds_board = holds (goal.at.holder-bench-requires c).Start; job_in = job (goal.at.holder-bench-requires c).After-follow_back }
 
 pub returns : goal.returns
 returns c =

@@ -8,10 +8,10 @@ use Rattle.sharing_paths_to.proofs.search_round.Goals as goal
 use Rattle.sharing_paths_to.proofs.search_round.Goals.{At-loop-begin}
 
 -- where the round began, for a board that the search is over
-seeded : (c : At-loop-begin) → (board : Board) → Rounds (decode c.args.t.now) board c.args.s c.args.loads.now c.args.x c.args.load c.args.found c.args.queue.now c.args.came.now → InRound (decode c.args.t.now) board c.args.s c.args.loads.now c.args.x c.args.load c.loop-begin.begin c.loop-begin.end c.loop-begin.level c.loop-begin.queue c.loop-begin.branch
+seeded : (c : At-loop-begin) → (board : Board) → let start = c in Rounds (decode start.args.t.now) board start.args.s start.args.loads.now start.args.x start.args.load start.args.found start.args.queue.now start.args.came.now → InRound (decode start.args.t.now) board start.args.s start.args.loads.now start.args.x start.args.load c.loop-begin.begin c.loop-begin.end c.loop-begin.level c.loop-begin.queue c.loop-begin.branch
 seeded c board r =
-    let c = c in
-    c.loop-begin.invariant board (c.seed-end.ensures (decode c.args.t.now) board c.args.x c.requires.x_bound r)
+    let start = c in
+    c.loop-begin.invariant board (c.seed-end.ensures (decode start.args.t.now) board start.args.x start.requires.1.1.0 r)
 
 -- ?? whole requires: c.before.before.before.requires
 pub seed-end-requires : goal.seed-end-requires

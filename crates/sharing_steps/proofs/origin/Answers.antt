@@ -20,10 +20,10 @@ pub name-requires-2 : goal.name-requires-2
 name-requires-2 c = record { holds_board = c.requires.holds_board; position = place (goal.at.name-requires-2 c).Start 2 (omega arith) (omega arith) }
 
 -- what is left of the names' sum
-found : (c : After-name-2) → let sum = c.name.result + c.name-2.result in (c.args.y ≤ sum) × HolderOf c.args.t.now c.args.s c.args.j (sum - c.args.y)
+found : (c : After-name-2) → let a = c.args in let sum = c.name.result + c.name-2.result in (a.y ≤ sum) × HolderOf a.t.now a.s a.j (sum - a.y)
 found c =
-    let c.args = c.args in
-    led_of c.args.t.now c.args.s c.args.j c.requires.holds_board c.args.y c.requires.y_value c.requires.y_nonzero c.name.result c.name-2.result c.name.ensures c.name-2.ensures
+    let a = c.args in
+    led_of a.t.now a.s a.j c.requires.holds_board a.y c.requires.y_value c.requires.y_nonzero c.name.result c.name-2.result c.name.ensures c.name-2.ensures
 
 pub overflow_sub-result : goal.overflow_sub-result
 overflow_sub-result c = (found (goal.at.overflow_sub-result c).After-name-2).0

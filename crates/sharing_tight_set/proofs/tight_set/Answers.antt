@@ -19,13 +19,13 @@ pub measure-requires : goal.measure-requires
 measure-requires c = record { limits = c.requires.sound_table.size.limits; loads_in = loads_in (sound_holds_board _ _ c.requires.sound_table) c.requires.loaded }
 
 -- the marked benches are the tight set
-tight : (c : Joined-mark_heavy) → marked c.args.s c.if-mark_heavy.marks ≡ tight_set (decode c.args.t.now) c.args.h
+tight : (c : Joined-mark_heavy) → let start = c in marked start.args.s c.if-mark_heavy.marks ≡ tight_set (decode start.args.t.now) start.args.h
 tight c =
-    let c = c in
-    let Less = Lighter c.args.s c.args.loads.now c.args.h in
+    let start = c in
+    let Less = Lighter start.args.s start.args.loads.now start.args.h in
     ⊎_elim
     (λ w. rw w.3 w.2.ensures)
-    (λ w. rw w.1 (all_tight c.args.h (sound_holds_board _ _ c.requires.sound_table) c.requires.loaded c.mark_heavy.ensures.heavy_marked (subst (λ (z : Bool). Tells Less z) w.0.left c.mark_heavy.ensures.tells)))
+    (λ w. rw w.1 (all_tight start.args.h (sound_holds_board _ _ start.requires.0) start.requires.1.0 c.mark_heavy.ensures.heavy_marked (subst (λ (z : Bool). Tells Less z) w.0.left c.mark_heavy.ensures.tells)))
     c.if-mark_heavy.branch
 
 pub returns : goal.returns

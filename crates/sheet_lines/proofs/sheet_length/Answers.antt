@@ -31,7 +31,7 @@ loop-x-preserved c =
     )
 
 pub overflow_add-lines : goal.overflow_add-lines
-overflow_add-lines c = omega (arith, benches_few c.requires.1, (loop-again c).2)
+overflow_add-lines c = omega (arith, benches_few c.requires.1, (loop-x-preserved c).2)
 
 pub overflow_mul-result : goal.overflow_mul-result
 overflow_mul-result c = omega (arith, benches_few c.requires.1)

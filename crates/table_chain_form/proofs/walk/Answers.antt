@@ -13,7 +13,7 @@ use Rattle.table_chain_form.specs.ChainWalks.{only_if, walked}
 use Rattle.table_size.proofs.Sizes.{entries_long}
 use Rattle.table_chain_form.proofs.Walking.{walk_end, walk_full, walk_step, walk_above}
 use Rattle.table_chain_form.proofs.walk.Goals as goal
-use Rattle.table_chain_form.proofs.walk.Goals.{After-holder-at}
+use Rattle.table_chain_form.proofs.walk.Goals.{After-holder_at}
 
 pub loop-j-init : goal.loop-j-init
 loop-j-init c = ap (walked (layout_in c.args.t.now).entries c.args.x c.args.left) c.head-j.ensures.head
@@ -34,19 +34,19 @@ pub holder_at-requires : goal.holder_at-requires
 holder_at-requires c = record { size_of = search rules; job_in = omega (arith, ltb-false) }
 
 -- what is left of the walk after job j's record and holder are read
-turn : (c : After-holder-at) → let es = (layout_in c.args.t.now).entries in walked es c.args.x c.args.left (nth (layout_in c.args.t.now).heads c.args.x 0) ≡ only_if (eqb c.holder_at.result c.args.x) (walked es c.args.x (c.loop-j.left - 1) c.read_record-next.result.next)
+turn : (c : After-holder_at) → let a = c.args in let l = c.loop-j in let es = (layout_in a.t.now).entries in walked es a.x a.left (nth (layout_in a.t.now).heads a.x 0) ≡ only_if (eqb c.holder_at.result a.x) (walked es a.x (l.left - 1) c.read_record-next.result.next)
 turn c =
-    let c.args = c.args in
-    let c.loop-j = c.loop-j in
-    let es = (layout_in c.args.t.now).entries in
-    let step = walk_step es c.args.x c.loop-j.left c.loop-j.j (entry_of c.read_record-next.result) c.read_record-next.ensures.entry (omega arith) (omega arith) in
-    rw (c.holder_at.ensures ∙ ap holder_in (sym c.read_record-next.ensures.entry)) (sym c.loop-j.invariant ∙ step)
+    let a = c.args in
+    let l = c.loop-j in
+    let es = (layout_in a.t.now).entries in
+    let step = walk_step es a.x l.left l.j (entry_of c.read_record-next.result) c.read_record-next.ensures.entry (omega arith) (omega arith) in
+    rw (c.holder_at.ensures ∙ ap holder_in (sym c.read_record-next.ensures.entry)) (sym l.invariant ∙ step)
 
 pub returns-then-holder_at-x : goal.returns-then-holder_at-x
-returns-then-holder_at-x c = sym (rw (ne_eqb c.holder_at.result c.args.x c.if-holder_at-x.true) at (turn (goal.at.returns-then-holder_at-x c).After-holder-at))
+returns-then-holder_at-x c = sym (rw (ne_eqb c.holder_at.result c.args.x c.if-holder_at-x.true) at (turn (goal.at.returns-then-holder_at-x c).After-holder_at))
 
 pub loop-j-preserved : goal.loop-j-preserved
-loop-j-preserved c = sym (rw (eq-eqb c.holder_at.result c.args.x c.if-holder_at-x.false) at (turn (goal.at.loop-j-preserved c).After-holder-at))
+loop-j-preserved c = sym (rw (eq-eqb c.holder_at.result c.args.x c.if-holder_at-x.false) at (turn (goal.at.loop-j-preserved c).After-holder_at))
 
 pub returns : goal.returns
 returns c = walk_end (layout_in c.args.t.now).entries c.args.x c.loop-j.left c.loop-j.j (omega arith) ∙ c.loop-j.invariant

@@ -14,7 +14,7 @@ pub loop-j-preserved : goal.loop-j-preserved
 loop-j-preserved c = pushing_turn (search rules) c.loop-j.invariant c.push-count.ensures
 
 pub overflow_add-count : goal.overflow_add-count
-overflow_add-count c = omega (arith, pushing_few (loop-again c))
+overflow_add-count c = omega (arith, pushing_few (loop-j-preserved c))
 
 pub returns : goal.returns
 returns c =

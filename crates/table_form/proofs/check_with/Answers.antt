@@ -9,25 +9,25 @@ use Rattle.table_size.proofs.Sizes.{fit_size}
 use Rattle.table_rising.specs.Passing.{NotRising}
 use Rattle.table_form.proofs.Answer.{misfit_answered, unformed_answered, formed_answered, rising_answered}
 use Rattle.table_form.proofs.check_with.Goals as goal
-use Rattle.table_form.proofs.check_with.Goals.{After-known-told, After-known-told2}
+use Rattle.table_form.proofs.check_with.Goals.{In-Ended, In-Fit}
 
 -- the size that was read is the table's
-sized : (c : After-known-told) → SizeOf c.args.t.now c.s-1.given.0.0
+sized : (c : In-Fit) → SizeOf c.args.t.now c.s-1.given.0.0
 sized c =
     fit_size c.args.t.now c.s-1.given.0.0 (sym c.of.ensures.value ∙ c.s-1.given.1)
 
 -- ?? whole requires: c.before.before.before.before.before.before.before.requires
 pub pass_over-requires : goal.pass_over-requires
-pass_over-requires c = let both = (sized (goal.at.pass_over-requires c).After-known-told, c.requires) in record { size_of = both.0; due_value = both.1.0; loads_value = both.1.1 }
+pass_over-requires c = let both = (sized (goal.at.pass_over-requires c).In-Fit, c.requires) in record { size_of = both.0; due_value = both.1.0; loads_value = both.1.1 }
 
 -- the pass did not get through
-ended : (c : After-known-told2) → NotRising c.args.t.now c.s-1.given.0.0 c.pass_over.new.1.1.1.0 c.done-1.given.0.0 c.done-1.given.0.1.0
+ended : (c : In-Ended) → NotRising c.args.t.now c.s-1.given.0.0 c.pass_over.new.1.1.1.0 c.done-1.given.0.0 c.done-1.given.0.1.0
 ended c = rw c.done-1.given.1 at c.pass_over.ensures.pass_of
 
 pub is_formed-requires : goal.is_formed-requires
 is_formed-requires c =
-    let n = ended (goal.at.is_formed-requires c).After-known-told2 in
-    record { size_of = sized (goal.at.is_formed-requires c).After-known-told; counted_to = n.counted; by_bench = n.by_bench }
+    let n = ended (goal.at.is_formed-requires c).In-Ended in
+    record { size_of = sized (goal.at.is_formed-requires c).In-Fit; counted_to = n.counted; by_bench = n.by_bench }
 
 pub returns-in-Misfit : goal.returns-in-Misfit
 returns-in-Misfit c = record { due_len = rw c.requires.due_value (length-replicate {A = ℕ} (most_benches + 1) 0); form_of = misfit_answered _ _ (sym c.of.ensures.value ∙ c.enum_told-1.given.1) }
@@ -38,10 +38,10 @@ returns-in-Rising c = record { due_len = c.pass_over.ensures.due_len; form_of = 
 pub returns-then-is_formed : goal.returns-then-is_formed
 returns-then-is_formed c =
     record { due_len = c.pass_over.ensures.due_len; form_of = formed_answered
-          (sized (goal.at.returns-then-is_formed c).After-known-told)
+          (sized (goal.at.returns-then-is_formed c).In-Fit)
           (sym c.is_formed.ensures.value ∙ c.if-is_formed.true)
           (c.is_formed.ensures.chain_lengths (true→T _ c.if-is_formed.true))
-          (ended (goal.at.returns-then-is_formed c).After-known-told2).other }
+          (ended (goal.at.returns-then-is_formed c).In-Ended).other }
 
 pub returns-else-is_formed : goal.returns-else-is_formed
-returns-else-is_formed c = record { due_len = c.pass_over.ensures.due_len; form_of = unformed_answered (sized (goal.at.returns-else-is_formed c).After-known-told) _ (sym c.is_formed.ensures.value ∙ c.if-is_formed.false) }
+returns-else-is_formed c = record { due_len = c.pass_over.ensures.due_len; form_of = unformed_answered (sized (goal.at.returns-else-is_formed c).In-Fit) _ (sym c.is_formed.ensures.value ∙ c.if-is_formed.false) }

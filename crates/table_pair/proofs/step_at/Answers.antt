@@ -7,23 +7,23 @@ use Rattle.table_record_form.specs.Kinds.{kind_of}
 use Rattle.table_record_form.specs.declared.Kind.TheVariants.{Fitting}
 use Rattle.table_pair.proofs.AtRecord.{read_unfit, read_unheld, read_match, read_next}
 use Rattle.table_pair.proofs.step_at.Goals as goal
-use Rattle.table_pair.proofs.step_at.Goals.{After-enum-told}
+use Rattle.table_pair.proofs.step_at.Goals.{In-Fitting}
 
 -- the record fits
-fitting : (c : After-enum-told) → kind_of c.args.s.benches (entry_of c.read_record-r.result) ≡ Fitting
+fitting : (c : In-Fitting) → kind_of c.args.s.benches (entry_of c.read_record-r.result) ≡ Fitting
 fitting c = sym c.kind_of.ensures ∙ c.enum_told-1.given.1
 
 pub returns-then-holder_at-x : goal.returns-then-holder_at-x
-returns-then-holder_at-x c = read_unheld c.args.x c.args.y c.requires.size_of c.read_record-r.ensures (fitting (goal.at.returns-then-holder_at-x c).After-enum-told) c.holder_at.ensures c.if-holder_at-x.true
+returns-then-holder_at-x c = read_unheld c.args.x c.args.y c.requires.size_of c.read_record-r.ensures (fitting (goal.at.returns-then-holder_at-x c).In-Fitting) c.holder_at.ensures c.if-holder_at-x.true
 
 pub returns-then-first-y : goal.returns-then-first-y
 returns-then-first-y c =
-    read_match c.args.x c.args.y c.requires.size_of c.read_record-r.ensures (fitting (goal.at.returns-then-first-y c).After-enum-told) c.holder_at.ensures c.if-holder_at-x.false
+    read_match c.args.x c.args.y c.requires.size_of c.read_record-r.ensures (fitting (goal.at.returns-then-first-y c).In-Fitting) c.holder_at.ensures c.if-holder_at-x.false
     (⊎_elim (λ w. inl w.taken) (λ w. inr (eqb-true _ _ w.1.taken)) c.then-first-y.branch)
 
 pub returns-else-second-y : goal.returns-else-second-y
 returns-else-second-y c =
-    read_next c.args.x c.args.y c.requires.size_of c.read_record-r.ensures (fitting (goal.at.returns-else-second-y c).After-enum-told) c.holder_at.ensures c.if-holder_at-x.false
+    read_next c.args.x c.args.y c.requires.size_of c.read_record-r.ensures (fitting (goal.at.returns-else-second-y c).In-Fitting) c.holder_at.ensures c.if-holder_at-x.false
     c.if-first-y.false (eqb-false _ _ c.if-second-y.false)
 
 pub returns-in_default : goal.returns-in_default

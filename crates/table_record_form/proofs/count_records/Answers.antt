@@ -8,28 +8,28 @@ use Rattle.table_size.specs.Written.{record_in}
 use Rattle.table_record_form.specs.Kinds.{kind_of, by_kind, counted}
 use Rattle.table_record_form.proofs.Counted.{counted_step, counted_pass, counted_turn, counted_end}
 use Rattle.table_record_form.proofs.count_records.Goals as goal
-use Rattle.table_record_form.proofs.count_records.Goals.{After-kind-of}
+use Rattle.table_record_form.proofs.count_records.Goals.{After-kind_of}
 
 pub loop-done-init : goal.loop-done-init
 loop-done-init c = c.requires.counted_to
 
 -- what is left of the count at a record's kind
-turn : (c : After-kind-of) → let es = (layout_in c.args.t.now).entries in by_kind c.kind_of.result (counted c.args.s.benches c.loop-done.count (drop (c.loop-done.done + 1) es)) (counted c.args.s.benches (c.loop-done.count + 1) (drop (c.loop-done.done + 1) es)) ≡ counted c.args.s.benches 0 es
+turn : (c : After-kind_of) → let es = (layout_in c.args.t.now).entries in by_kind c.kind_of.result (counted c.args.s.benches c.loop-done.count (drop (c.loop-done.done + 1) es)) (counted c.args.s.benches (c.loop-done.count + 1) (drop (c.loop-done.done + 1) es)) ≡ counted c.args.s.benches 0 es
 turn c =
     rw c.kind_of.ensures (counted_step c.requires.size_of c.loop-done.invariant (omega arith) c.read_record.ensures.entry)
 
 -- the kind that was told is the next record's
-kind : (c : After-kind-of) → c.kind_of.result ≡ kind_of c.args.s.benches (record_in c.args.t.now (c.loop-done.done + 1))
+kind : (c : After-kind_of) → c.kind_of.result ≡ kind_of c.args.s.benches (record_in c.args.t.now (c.loop-done.done + 1))
 kind c = c.kind_of.ensures ∙ ap (kind_of c.args.s.benches) c.read_record.ensures.entry
 
 pub returns-in-Unfit : goal.returns-in-Unfit
-returns-in-Unfit c = rw c.enum_told-1.given.1 at (turn (goal.at.returns-in-Unfit c).After-kind-of)
+returns-in-Unfit c = rw c.enum_told-1.given.1 at (turn (goal.at.returns-in-Unfit c).After-kind_of)
 
 pub loop-done-preserved : goal.loop-done-preserved
 loop-done-preserved c =
     ⊎_elim
-    (λ w. rw w.2 (counted_turn c.requires.size_of c.loop-done.invariant (omega arith) (sym (kind (goal.at.loop-done-preserved c).After-kind-of) ∙ w.1.given.1)))
-    (λ w. rw w.2 (counted_pass c.requires.size_of c.loop-done.invariant (omega arith) (sym (kind (goal.at.loop-done-preserved c).After-kind-of) ∙ w.1.given.1)))
+    (λ w. rw w.2 (counted_turn c.requires.size_of c.loop-done.invariant (omega arith) (sym (kind (goal.at.loop-done-preserved c).After-kind_of) ∙ w.1.given.1)))
+    (λ w. rw w.2 (counted_pass c.requires.size_of c.loop-done.invariant (omega arith) (sym (kind (goal.at.loop-done-preserved c).After-kind_of) ∙ w.1.given.1)))
     c.match-kind_of.branch
 
 pub returns : goal.returns

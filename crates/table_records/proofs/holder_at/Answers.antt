@@ -10,10 +10,10 @@ use Rattle.table_records.proofs.holder_at.Goals as goal
 use Rattle.table_records.proofs.holder_at.Goals.{After-read-place}
 
 -- the word read is the holder's
-place : (c : After-read-place) → IsWord c.args.t.now (c.args.s.benches + 4 * c.args.j + 2) c.read-place.result
+place : (c : After-read-place) → let a = c.args in IsWord a.t.now (a.s.benches + 4 * a.j + 2) c.read-place.result
 place c =
-    let c.args = c.args in
-    subst (λ (i : ℕ). IsWord c.args.t.now (i + 2) c.read-place.result) c.record_at.ensures c.read-place.ensures
+    let a = c.args in
+    subst (λ (i : ℕ). IsWord a.t.now (i + 2) c.read-place.result) c.record_at.ensures c.read-place.ensures
 
 pub returns-then-place-lt1 : goal.returns-then-place-lt1
 returns-then-place-lt1 c =

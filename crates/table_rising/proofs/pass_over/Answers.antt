@@ -9,20 +9,20 @@ use Rattle.table_rising.specs.Passing.{Passed}
 use Rattle.table_rising.proofs.Meeting.{passed_rising}
 use Rattle.table_rising.proofs.InTurn.{encoded_spare, encoded_standing}
 use Rattle.table_rising.proofs.pass_over.Goals as goal
-use Rattle.table_rising.proofs.pass_over.Goals.{After-known-told2}
+use Rattle.table_rising.proofs.pass_over.Goals.{In-All}
 
 pub returns-in-Part : goal.returns-in-Part
 returns-in-Part c = record { due_len = c.meet_all.ensures.due_len; pass_of = record { other = λ k. rw c.done-1.given.1 at (c.meet_all.ensures.all_in_turn k); counted = rw c.done-1.given.1 at c.meet_all.ensures.reached_as; by_bench = c.meet_all.ensures.by_bench } }
 
 -- all jobs were met
-passed : (c : After-known-told2) → Passed c.args.t.now c.args.s c.meet_all.new.1.1.0 c.meet_all.new.1.1.1.0 c.count-1.given.0.0
+passed : (c : In-All) → Passed c.args.t.now c.args.s c.meet_all.new.1.1.0 c.meet_all.new.1.1.1.0 c.count-1.given.0.0
 passed c = rw c.count-1.given.1 at c.meet_all.ensures.reached_as
 
 pub returns-then-none_due : goal.returns-then-none_due
 returns-then-none_due c =
     record { due_len = c.meet_all.ensures.due_len; pass_of = passed_rising
           c.requires.size_of
-          (passed (goal.at.returns-then-none_due c).After-known-told2)
+          (passed (goal.at.returns-then-none_due c).In-All)
           (c.none_due.ensures.0 (true→T _ c.if-none_due.true))
           (sym c.standing_word.ensures ∙ eqb-true _ _ c.if-standing_word-count.true)
           (sym c.spare_word.ensures ∙ c.if-spare_word-eq0.true)
@@ -34,9 +34,9 @@ returns-else-spare_word-eq0 c =
         other = λ k. ⊎_elim
             (λ w. subst T w.5.left (w.4.ensures.1 (rw c.count-1.given.1 at (c.meet_all.ensures.all_in_turn k))))
             (⊎_elim
-            (λ w. eqb-false _ _ w.2.left (w.1.ensures ∙ encoded_standing k (passed (goal.at.returns-else-spare_word-eq0 c).After-known-told2)))
+            (λ w. eqb-false _ _ w.2.left (w.1.ensures ∙ encoded_standing k (passed (goal.at.returns-else-spare_word-eq0 c).In-All)))
             (λ w. w.left (c.spare_word.ensures ∙ encoded_spare k)))
             c.else-spare_word-eq0.branch;
-        counted = rw c.jobs.ensures (passed (goal.at.returns-else-spare_word-eq0 c).After-known-told2).records;
+        counted = rw c.jobs.ensures (passed (goal.at.returns-else-spare_word-eq0 c).In-All).records;
         by_bench = c.meet_all.ensures.by_bench;
       } }

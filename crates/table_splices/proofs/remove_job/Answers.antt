@@ -6,7 +6,7 @@ use Rattle.table_board.proofs.RecordsAsBoard.{sound_holds_board, stands_job}
 use Rattle.table_size.specs.Sizes.{JobIn, BenchIn}
 use Rattle.table_splices.proofs.Spliced.{before_few, holder_in_lem, removed_few, remove_spliced}
 use Rattle.table_splices.proofs.remove_job.Goals as goal
-use Rattle.table_splices.proofs.remove_job.Goals.{After-holder-x, After-standing-word, Start}
+use Rattle.table_splices.proofs.remove_job.Goals.{After-holder-x, After-standing_word-count, Start}
 
 -- the job is one of 1 to J
 job : (c : Start) → JobIn c.args.s c.args.j
@@ -35,15 +35,15 @@ pub standing_word-count-requires : goal.standing_word-count-requires
 standing_word-count-requires c = c.link.ensures.size
 
 -- the number read
-count : (c : After-standing-word) → (1 ≤ c.standing_word-count.result) × (c.standing_word-count.result ≤ c.args.s.jobs)
+count : (c : After-standing_word-count) → (1 ≤ c.standing_word-count.result) × (c.standing_word-count.result ≤ c.args.s.jobs)
 count c =
     removed_few c.args.j vacant c.holder-x.result c.find_gap-gap.result c.read_record-old.result.next c.requires.in_order c.requires.t c.write_record.ensures c.link.ensures c.standing_word-count.ensures
 
 pub overflow_sub-count : goal.overflow_sub-count
-overflow_sub-count c = omega (arith, count (goal.at.overflow_sub-count c).After-standing-word)
+overflow_sub-count c = omega (arith, count (goal.at.overflow_sub-count c).After-standing_word-count)
 
 pub write_standing-requires : goal.write_standing-requires
-write_standing-requires c = record { size_of = c.link.ensures.size; count_bound = omega (arith, count (goal.at.write_standing-requires c).After-standing-word, c.requires.in_order.sound.size.limits.jobs_most) }
+write_standing-requires c = record { size_of = c.link.ensures.size; count_bound = omega (arith, count (goal.at.write_standing-requires c).After-standing_word-count, c.requires.in_order.sound.size.limits.jobs_most) }
 
 pub returns : goal.returns
 returns c = remove_spliced c.requires.in_order c.requires.t c.holder-x.ensures.value c.find_gap-gap.ensures c.read_record-old.ensures c.write_record.ensures c.link.ensures c.standing_word-count.ensures c.write_standing.ensures (λ i. omega (arith, c.slice_known-4-1.given i))

@@ -10,10 +10,10 @@ pub returns-then-not-fits : goal.returns-then-not-fits
 returns-then-not-fits c = full_noted c.args.self c.by-added.result c.fits2.result c.fits2.ensures c.args.a (c.by-added.ensures c.args.self (tally_fits c.args.self _ c.well-formed.0)) c.if-not-fits.true
 
 -- the raised counts have 32 bits
-fit : (c : Else-not-fits) → Fits32 (more c.args.self c.by-added.result)
+fit : (c : Else-not-fits) → let b = c in Fits32 (more b.args.self b.by.result)
 fit c =
-    let c = c in
-    raises_fit c.args.self c.by-added.result c.fits2.result c.fits2.ensures c.if-not-fits.false
+    let b = c in
+    raises_fit b.args.self b.by.result c.fits2.result c.fits2.ensures c.if-not-fits.false
 
 pub overflow_cast-self : goal.overflow_cast-self
 overflow_cast-self c = omega (arith, (fit (goal.at.overflow_cast-self c).Else-not-fits).arrivals)

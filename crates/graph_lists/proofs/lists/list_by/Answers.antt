@@ -4,7 +4,7 @@ use lib.ListN.{length}
 use Rattle.graph_lists.specs.Arrays.{at}
 use Rattle.graph_lists.proofs.Listing.{listing_start, listing_turn, listing_end}
 use Rattle.graph_lists.proofs.lists.list_by.Goals as goal
-use Rattle.graph_lists.proofs.lists.list_by.Goals.{After-slice-known}
+use Rattle.graph_lists.proofs.lists.list_by.Goals.{After-slice_known-1}
 
 pub loop-i-init : goal.loop-i-init
 loop-i-init c = listing_start c.args.n c.args.key.now c.args.head.now c.args.next.now c.requires
@@ -22,15 +22,15 @@ pub offset_bounds-head-k : goal.offset_bounds-head-k
 offset_bounds-head-k c = omega (arith, c.shared_slice_known-1.given c.loop-i.i)
 
 -- there is a first for the number's key
-key-small : (c : After-slice-known) → at c.args.key.now c.loop-i.i < length c.args.head.now
+key-small : (c : After-slice_known-1) → at c.args.key.now c.loop-i.i < length c.args.head.now
 key-small c =
     c.requires.below c.loop-i.i (omega arith) c.loop-i.invariant.number
 
 pub bounds-head-k : goal.bounds-head-k
-bounds-head-k c = omega (arith, key-small (goal.at.bounds-head-k c).After-slice-known, c.loop-i.invariant.long)
+bounds-head-k c = omega (arith, key-small (goal.at.bounds-head-k c).After-slice_known-1, c.loop-i.invariant.long)
 
 pub offset_bounds-next-i : goal.offset_bounds-next-i
-offset_bounds-next-i c = mul-k c
+offset_bounds-next-i c = offset_bounds-key-i c
 
 pub bounds-next-i : goal.bounds-next-i
 bounds-next-i c = omega (arith, c.loop-i.invariant.number, c.loop-i.invariant.places, c.requires.places)
@@ -39,13 +39,13 @@ pub overflow_cast-head : goal.overflow_cast-head
 overflow_cast-head c = omega (arith, c.loop-i.invariant.number, c.requires.small)
 
 pub offset_bounds-head-k-in-loop-i : goal.offset_bounds-head-k-in-loop-i
-offset_bounds-head-k-in-loop-i c = mul_next c
+offset_bounds-head-k-in-loop-i c = offset_bounds-head-k c
 
 pub bounds-head-k-in-loop-i : goal.bounds-head-k-in-loop-i
-bounds-head-k-in-loop-i c = slice-read-next c
+bounds-head-k-in-loop-i c = bounds-head-k c
 
 pub loop-i-preserved : goal.loop-i-preserved
-loop-i-preserved c = listing_turn c.loop-i.invariant c.loop-i-test.true c.requires.places (key-small (goal.at.loop-i-preserved c).After-slice-known)
+loop-i-preserved c = listing_turn c.loop-i.invariant c.loop-i-test.true c.requires.places (key-small (goal.at.loop-i-preserved c).After-slice_known-1)
 
 pub shape_of-head : goal.shape_of-head
 shape_of-head c = c.loop-i.invariant.long
