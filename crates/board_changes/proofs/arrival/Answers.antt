@@ -4,10 +4,10 @@ use Rattle.board_answers.proofs.Formal.{form_refused}
 use Rattle.board_changes.proofs.arrival.Goals as goal
 
 pub arrival_on-requires : goal.arrival_on-requires
-arrival_on-requires c = record { found_sound = rw c.s-1.given.1 at c.check_with.ensures.form_of.says; path_len = c.check_with.ensures.due_len }
+arrival_on-requires c = record { found_sound = rw c.in-Sound.is at c.check_with.ensures.form_of.says; path_len = c.check_with.ensures.due_len }
 
 pub returns-in-Refused : goal.returns-in-Refused
-returns-in-Refused c = form_refused _ (arrival _) tt _ (rw c.r-1.given.1 at c.check_with.ensures.form_of.says)
+returns-in-Refused c = form_refused _ (arrival _) tt _ (rw c.in-Refused.is at c.check_with.ensures.form_of.says)
 
 pub returns-in-Sound : goal.returns-in-Sound
 returns-in-Sound c = c.arrival_on.ensures

@@ -9,23 +9,23 @@ use Rattle.board_changes.proofs.closing_on.Goals as goal
 use Rattle.board_changes.proofs.closing_on.Goals.{Else-not-stands}
 
 pub returns-then-not-has_job : goal.returns-then-not-has_job
-returns-then-not-has_job c = closing_number c.requires.found_sound.sound c.args.list.now c.args.job c.has_job.ensures c.if-not-has_job.true
+returns-then-not-has_job c = closing_number c.requires.found_sound.sound c.args.list.now c.args.job c.has_job.ensures c.if-not-has_job.true-raw
 
 pub stands-requires : goal.stands-requires
-stands-requires c = let both = readable c.requires.found_sound.sound c.args.job c.has_job.ensures c.if-not-has_job.false in record { holds_board = both.0; job_in = both.1 }
+stands-requires c = let both = readable c.requires.found_sound.sound c.args.job c.has_job.ensures c.if-not-has_job.false-raw in record { holds_board = both.0; job_in = both.1 }
 
 pub returns-then-not-stands : goal.returns-then-not-stands
-returns-then-not-stands c = closing_standing c.requires.found_sound.sound c.args.list.now c.args.job c.has_job.ensures c.if-not-has_job.false c.stands.ensures c.if-not-stands.true
+returns-then-not-stands c = closing_standing c.requires.found_sound.sound c.args.list.now c.args.job c.has_job.ensures c.if-not-has_job.false-raw c.stands.ensures c.if-not-stands.true-raw
 
 -- the job stands
 standing : (c : Else-not-stands) → T (stands (decode c.args.t.now) c.args.job)
-standing c = passed c.stands.ensures c.if-not-stands.false
+standing c = passed c.stands.ensures c.if-not-stands.false-raw
 
 pub close-requires : goal.close-requires
 close-requires c = record { sound_table = c.requires.found_sound.sound; variant = c.requires.found_sound.bytes; t = standing (goal.at.close-requires c).Else-not-stands; loaded = c.requires.found_sound.loaded; path_len = c.requires.path_len }
 
 pub returns-in-Refused : goal.returns-in-Refused
-returns-in-Refused c = closing_left c.requires.found_sound.sound c.args.list.now c.args.job (Refused c.r-1.given.0.0) (standing (goal.at.returns-in-Refused c).Else-not-stands) (rw c.r-1.given.1 at c.close.ensures)
+returns-in-Refused c = closing_left c.requires.found_sound.sound c.args.list.now c.args.job (Refused c.in-Refused.r) (standing (goal.at.returns-in-Refused c).Else-not-stands) (rw c.in-Refused.is at c.close.ensures)
 
 pub returns-in-Made : goal.returns-in-Made
-returns-in-Made c = closing_left c.requires.found_sound.sound c.args.list.now c.args.job (Made c.e-1.given.0.0) (standing (goal.at.returns-in-Made c).Else-not-stands) (rw c.e-1.given.1 at c.close.ensures)
+returns-in-Made c = closing_left c.requires.found_sound.sound c.args.list.now c.args.job (Made c.in-Made.e) (standing (goal.at.returns-in-Made c).Else-not-stands) (rw c.in-Made.is at c.close.ensures)

@@ -8,8 +8,8 @@ use Rattle.board_changes.proofs.levelling.Goals as goal
 use Rattle.board_changes.proofs.levelling.Goals.{In-Sound-2}
 
 -- the checked table is sound, and the loads are its
-checked : (c : In-Sound-2) → FoundSound c.args.t.now c.check_with.new.1.1.0 c.s-1.given.0.0 c.s-1.given.0.1.0
-checked c = rw c.s-1.given.1 at c.check_with.ensures.form_of.says
+checked : (c : In-Sound-2) → FoundSound c.args.t.now c.check_with.new.1.1.0 c.in-Sound.s c.in-Sound.rising
+checked c = rw c.in-Sound.is at c.check_with.ensures.form_of.says
 
 pub relevel-l-requires : goal.relevel-l-requires
 relevel-l-requires c =
@@ -17,7 +17,7 @@ relevel-l-requires c =
     record { sound_table = found.sound; variant = found.bytes; loaded = found.loaded; path_len = c.check_with.ensures.due_len }
 
 pub returns-in-Refused : goal.returns-in-Refused
-returns-in-Refused c = form_refused _ (levelling _) tt _ (rw c.r-1.given.1 at c.check_with.ensures.form_of.says)
+returns-in-Refused c = form_refused _ (levelling _) tt _ (rw c.in-Refused.is at c.check_with.ensures.form_of.says)
 
 pub returns-then-l : goal.returns-then-l
 returns-then-l c = levelling_left (checked (goal.at.returns-then-l c).In-Sound-2).sound c.args.allowance true c.relevel-l.ensures c.if-l.true

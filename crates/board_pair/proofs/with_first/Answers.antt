@@ -9,22 +9,22 @@ walk-requires c = record { size_of = c.requires.size_of; bench_in = second_bench
 
 pub overflow_add-result : goal.overflow_add-result
 overflow_add-result c =
-    let few = matched_few c.requires.size_of _ _ c.requires.t c.requires.first_read _ _ (sym c.job-1.given.1 ∙ c.walk.ensures) in
+    let few = matched_few c.requires.size_of _ _ c.requires.t c.requires.first_read _ _ (sym c.in-Matched.is ∙ c.walk.ensures) in
     omega (arith, few)
 
 pub overflow_add-records : goal.overflow_add-records
 overflow_add-records c =
-    let few = unmatched_few c.requires.size_of _ _ c.requires.t c.requires.first_read _ (sym c.more-1.given.1 ∙ c.walk.ensures) in
+    let few = unmatched_few c.requires.size_of _ _ c.requires.t c.requires.first_read _ (sym c.in-Unmatched.is ∙ c.walk.ensures) in
     omega (arith, few)
 
 pub returns-in-Broken : goal.returns-in-Broken
-returns-in-Broken c = second_refused c.requires.size_of _ _ c.requires.t c.requires.first_read (sym c.enum_told-1.given.1 ∙ c.walk.ensures)
+returns-in-Broken c = second_refused c.requires.size_of _ _ c.requires.t c.requires.first_read (sym c.in-Broken.is ∙ c.walk.ensures)
 
 pub returns-in-Matched : goal.returns-in-Matched
-returns-in-Matched c = second_matched c.requires.size_of _ _ c.requires.t c.requires.first_read _ _ (sym c.job-1.given.1 ∙ c.walk.ensures)
+returns-in-Matched c = second_matched c.requires.size_of _ _ c.requires.t c.requires.first_read _ _ (sym c.in-Matched.is ∙ c.walk.ensures)
 
 pub returns-then-met-eq0 : goal.returns-then-met-eq0
-returns-then-met-eq0 c = second_none c.requires.size_of _ _ c.requires.t c.requires.first_read _ (sym c.more-1.given.1 ∙ c.walk.ensures) c.if-met-eq0.true
+returns-then-met-eq0 c = second_none c.requires.size_of _ _ c.requires.t c.requires.first_read _ (sym c.in-Unmatched.is ∙ c.walk.ensures) c.if-met-eq0.true
 
 pub returns-else-met-eq0 : goal.returns-else-met-eq0
-returns-else-met-eq0 c = second_first c.requires.size_of _ _ c.requires.t c.requires.first_read _ (sym c.more-1.given.1 ∙ c.walk.ensures) c.if-met-eq0.false
+returns-else-met-eq0 c = second_first c.requires.size_of _ _ c.requires.t c.requires.first_read _ (sym c.in-Unmatched.is ∙ c.walk.ensures) c.if-met-eq0.false

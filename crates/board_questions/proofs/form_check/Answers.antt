@@ -6,7 +6,7 @@ use Rattle.board_questions.proofs.Asking.{form_sound}
 use Rattle.board_questions.proofs.form_check.Goals as goal
 
 pub returns-in-Refused : goal.returns-in-Refused
-returns-in-Refused c = form_refused _ (ask form_check []) tt _ (rw c.r-1.given.1 at c.check.ensures.says)
+returns-in-Refused c = form_refused _ (ask form_check []) tt _ (rw c.in-Refused.is at c.check.ensures.says)
 
 pub returns-in-Sound : goal.returns-in-Sound
-returns-in-Sound c = form_sound (rw c.enum_told-1.given.1 at c.check.ensures.says).sound
+returns-in-Sound c = form_sound (rw c.in-Sound.is at c.check.ensures.says).sound

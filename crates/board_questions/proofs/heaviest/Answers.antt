@@ -8,8 +8,8 @@ use Rattle.board_questions.proofs.heaviest.Goals as goal
 use Rattle.board_questions.proofs.heaviest.Goals.{In-Sound}
 
 -- the table is sound, with these loads
-found : (c : In-Sound) → FoundSound c.args.t.now c.check.new.1.0 c.s-1.given.0.0 c.s-1.given.0.1.0
-found c = rw c.s-1.given.1 at c.check.ensures.says
+found : (c : In-Sound) → FoundSound c.args.t.now c.check.new.1.0 c.in-Sound.s c.in-Sound.field-1
+found c = rw c.in-Sound.is at c.check.ensures.says
 
 pub find_heaviest-requires : goal.find_heaviest-requires
 find_heaviest-requires c =
@@ -17,7 +17,7 @@ find_heaviest-requires c =
     record { sound_table = f.sound; loaded = f.loaded }
 
 pub returns-in-Refused : goal.returns-in-Refused
-returns-in-Refused c = form_refused _ (ask heaviest_load []) tt _ (rw c.r-1.given.1 at c.check.ensures.says)
+returns-in-Refused c = form_refused _ (ask heaviest_load []) tt _ (rw c.in-Refused.is at c.check.ensures.says)
 
 pub returns-in-Sound : goal.returns-in-Sound
 returns-in-Sound c = heaviest_told (found (goal.at.returns-in-Sound c).In-Sound).sound c.find_heaviest.result.load c.find_heaviest.ensures.load

@@ -10,8 +10,8 @@ use Rattle.board_questions.proofs.level_check.Goals as goal
 use Rattle.board_questions.proofs.level_check.Goals.{In-Sound}
 
 -- the table is sound, with these loads
-found : (c : In-Sound) → FoundSound c.args.t.now c.check_with.new.1.1.0 c.s-1.given.0.0 c.s-1.given.0.1.0
-found c = rw c.s-1.given.1 at c.check_with.ensures.form_of.says
+found : (c : In-Sound) → FoundSound c.args.t.now c.check_with.new.1.1.0 c.in-Sound.s c.in-Sound.rising
+found c = rw c.in-Sound.is at c.check_with.ensures.form_of.says
 
 pub is_level-requires : goal.is_level-requires
 is_level-requires c =
@@ -19,7 +19,7 @@ is_level-requires c =
     record { sound_table = f.sound; variant = f.bytes; loaded = f.loaded; queue_len = c.check_with.ensures.due_len }
 
 pub returns-in-Refused : goal.returns-in-Refused
-returns-in-Refused c = form_refused _ (ask level_check []) tt _ (rw c.r-1.given.1 at c.check_with.ensures.form_of.says)
+returns-in-Refused c = form_refused _ (ask level_check []) tt _ (rw c.in-Refused.is at c.check_with.ensures.form_of.says)
 
 pub returns-then-is_level : goal.returns-then-is_level
 returns-then-is_level c = level_told (found (goal.at.returns-then-is_level c).In-Sound).sound true (sym c.if-is_level.true ∙ c.is_level.ensures)

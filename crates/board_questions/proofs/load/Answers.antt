@@ -19,11 +19,11 @@ use Rattle.board_questions.proofs.load.Goals as goal
 use Rattle.board_questions.proofs.load.Goals.{In-Sound, Then-has_bench}
 
 -- the table is sound, with these loads
-found : (c : In-Sound) → FoundSound c.args.t.now c.check.new.1.0 c.s-1.given.0.0 c.s-1.given.0.1.0
-found c = rw c.s-1.given.1 at c.check.ensures.says
+found : (c : In-Sound) → FoundSound c.args.t.now c.check.new.1.0 c.in-Sound.s c.in-Sound.field-1
+found c = rw c.in-Sound.is at c.check.ensures.says
 
 -- it has the bench
-bench : (c : Then-has_bench) → BenchIn c.s-1.given.0.0 c.args.bench
+bench : (c : Then-has_bench) → BenchIn c.in-Sound.s c.args.bench
 bench c = bench_in _ _ (true→T _ (sym c.has_bench.ensures ∙ c.if-has_bench.true))
 
 -- the load that is read
@@ -46,7 +46,7 @@ overflow_cast-result c =
     omega (arith, (loads_in (sound_holds_board _ _ f.sound) f.loaded).most _ (bench (goal.at.overflow_cast-result c).Then-has_bench).least, f.sound.size.limits.jobs_most)
 
 pub returns-in-Refused : goal.returns-in-Refused
-returns-in-Refused c = form_refused _ (ask (load_of _) []) tt _ (rw c.r-1.given.1 at c.check.ensures.says)
+returns-in-Refused c = form_refused _ (ask (load_of _) []) tt _ (rw c.in-Refused.is at c.check.ensures.says)
 
 pub returns-then-has_bench : goal.returns-then-has_bench
 returns-then-has_bench c = load_told (found (goal.at.returns-then-has_bench c).In-Sound).sound _ _ c.has_bench.ensures c.if-has_bench.true (read (goal.at.returns-then-has_bench c).Then-has_bench)

@@ -11,8 +11,8 @@ use Rattle.counter_perform.proofs.set_table.Goals as goal
 use Rattle.counter_perform.proofs.set_table.Goals.{After-bytes-length, In-Fit-2}
 
 -- the size that `new` returned is for these benches and jobs ..
-asked : (c : In-Fit-2) → sizing c.args.benches c.args.jobs ≡ Fit c.s-1.given.0.0
-asked c = sym c.new.ensures.value ∙ c.s-1.given.1
+asked : (c : In-Fit-2) → sizing c.args.benches c.args.jobs ≡ Fit c.in-Fit.s
+asked c = sym c.new.ensures.value ∙ c.in-Fit.is
 
 -- .. and its bytes are among the program's
 within : (c : After-bytes-length) → c.bytes-length.result ≤ table_most
@@ -20,7 +20,7 @@ within c =
     size_within c.args.benches c.args.jobs (asked c) c.bytes-length.ensures
 
 pub bytes-length-requires : goal.bytes-length-requires
-bytes-length-requires c = (fit_sizing c.args.benches c.args.jobs c.s-1.given.0.0 (asked (goal.at.bytes-length-requires c).In-Fit-2)).0
+bytes-length-requires c = (fit_sizing c.args.benches c.args.jobs c.in-Fit.s (asked (goal.at.bytes-length-requires c).In-Fit-2)).0
 
 pub slice_bounds-blank-end : goal.slice_bounds-blank-end
 slice_bounds-blank-end c =
@@ -31,7 +31,7 @@ pub slice_bounds-blank-end-in-Fit : goal.slice_bounds-blank-end-in-Fit
 slice_bounds-blank-end-in-Fit c = part_long c.bytes-length.result c.args.bytes.now c.requires.room.long (within (goal.at.slice_bounds-blank-end-in-Fit c).After-bytes-length)
 
 pub returns-in-Misfit : goal.returns-in-Misfit
-returns-in-Misfit c = misfit_replies c.requires.room c.args.benches c.args.jobs (sym c.new.ensures.value ∙ c.enum_told-1.given.1) c.refuse.ensures
+returns-in-Misfit c = misfit_replies c.requires.room c.args.benches c.args.jobs (sym c.new.ensures.value ∙ c.in-Misfit.is) c.refuse.ensures
 
 pub returns-in-Fit : goal.returns-in-Fit
 returns-in-Fit c = table_replies c.requires.room c.args.benches c.args.jobs (asked (goal.at.returns-in-Fit c).In-Fit-2) c.bytes-length.ensures c.blank-a.ensures c.blank-a.auto.0 c.new-tally.ensures c.two.ensures c.write_answer.ensures

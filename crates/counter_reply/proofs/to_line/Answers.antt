@@ -4,7 +4,7 @@ use Rattle.counter_reply.proofs.Replying.{unread_replies, read_replies}
 use Rattle.counter_reply.proofs.to_line.Goals as goal
 
 pub returns-in-Unreadable : goal.returns-in-Unreadable
-returns-in-Unreadable c = unread_replies c.requires.room c.args.line.now c.read.ensures.command c.enum_told-1.given.1 c.refuse.ensures
+returns-in-Unreadable c = unread_replies c.requires.room c.args.line.now c.read.ensures.command c.in-Unreadable.is c.refuse.ensures
 
 pub returns-in-Readable : goal.returns-in-Readable
-returns-in-Readable c = read_replies (counter_of c.args.c c.args.bytes.now) c.args.line.now c.read.ensures.command c.command-1.given.1 c.perform.ensures
+returns-in-Readable c = read_replies (counter_of c.args.c c.args.bytes.now) c.args.line.now c.read.ensures.command c.in-Readable.is c.perform.ensures

@@ -13,7 +13,7 @@ pub bench_after-holder-requires : goal.bench_after-holder-requires
 bench_after-holder-requires c = record { holds_board = c.requires.holds_board; n_le_most_benches = c.requires.jobs_le_most_benches; path_len = c.requires.path_len; job_at = c.requires.by_index 1 }
 
 pub returns-then-path-j : goal.returns-then-path-j
-returns-then-path-j c = inl (c.if-found-ne0.true, eqb-true (at c.args.path.now 0) c.args.j c.if-path-j.true, refl, c.bench_after-holder.ensures)
+returns-then-path-j c = inl (c.if-found-ne0.true, eqb-true (at c.args.path.now 0) c.args.j c.if-path-j.true-raw, refl, c.bench_after-holder.ensures)
 
 pub returns : goal.returns
-returns c = inr (⊎_elim (λ w. inr (eqb-false (at c.args.path.now 0) c.args.j w.2.left)) (λ w. inl w.left) c.else-found-ne0.branch, refl, refl)
+returns c = inr (⊎_elim (λ w. inr (eqb-false (at c.args.path.now 0) c.args.j w.2.left)) (λ w. inl w.left) c.else-found-ne0.either, refl, refl)

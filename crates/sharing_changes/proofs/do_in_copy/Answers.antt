@@ -17,7 +17,7 @@ pub copy_back-requires : goal.copy_back-requires
 copy_back-requires c = sym (c.do_in_order.auto.0 ∙ c.copy_in_order.auto.1.1.0 ∙ c.requires.copy_len)
 
 pub returns-in-Refused : goal.returns-in-Refused
-returns-in-Refused c = refused_copied c.args.t.now c.copy_in_order.ensures _ _ _ c.args.task c.r-1.given.0.0 (rw c.r-1.given.1 at c.do_in_order.ensures)
+returns-in-Refused c = refused_copied c.args.t.now c.copy_in_order.ensures _ _ _ c.args.task c.in-Refused.r (rw c.in-Refused.is at c.do_in_order.ensures)
 
 pub returns-in-Made : goal.returns-in-Made
-returns-in-Made c = rw c.copy_back.ensures (made_copied c.args.t.now c.copy_in_order.ensures _ _ _ c.args.task c.e-1.given.0.0 (rw c.e-1.given.1 at c.do_in_order.ensures))
+returns-in-Made c = rw c.copy_back.ensures (made_copied c.args.t.now c.copy_in_order.ensures _ _ _ c.args.task c.in-Made.e (rw c.in-Made.is at c.do_in_order.ensures))

@@ -26,7 +26,7 @@ hand_along-requires c =
 
 -- in the loop the allowance is not used up
 less : (c : Then-paths-allowance) → c.loop-x.paths < c.args.allowance
-less c = ltb-true c.loop-x.paths c.args.allowance c.if-paths-allowance.true
+less c = ltb-true c.loop-x.paths c.args.allowance c.if-paths-allowance.true-raw
 
 -- the loads can follow the path
 shifts : (c : After-hand_along) → Shifts (decode c.hand_along.new.0) c.loop-x.loads c.loop-x.x c.find_from-found.result.bench

@@ -55,7 +55,7 @@ pub loop-done-preserved : goal.loop-done-preserved
 loop-done-preserved c = sweep_turn c.requires.at_level c.loop-done.invariant c.loop-done-test.true c.first_job-job.ensures c.expand-e.ensures.grown c.expand-e.ensures.searching
 
 pub returns-else-came-goal-eq0 : goal.returns-else-came-goal-eq0
-returns-else-came-goal-eq0 c = let both = sweep_end c.requires.at_level c.loop-done.invariant c.args.goal (inr (eqb-false (at c.loop-done.branch c.args.goal) 0 c.if-came-goal-eq0.false)) in record { grown = both.0; level = both.1 }
+returns-else-came-goal-eq0 c = let both = sweep_end c.requires.at_level c.loop-done.invariant c.args.goal (inr (eqb-false (at c.loop-done.branch c.args.goal) 0 c.if-came-goal-eq0.false-raw)) in record { grown = both.0; level = both.1 }
 
 pub returns-after-loop-done : goal.returns-after-loop-done
 returns-after-loop-done c = let both = sweep_end c.requires.at_level c.loop-done.invariant c.args.goal (inl c.loop-done-test.false) in record { grown = both.0; level = both.1 }

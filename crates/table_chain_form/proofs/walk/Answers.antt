@@ -25,7 +25,7 @@ returns-then-left-eq0 c =
     ⊎_elim
     (λ w. walk_full es c.args.x c.loop-j.left c.loop-j.j (omega arith) (omega arith) ∙ c.loop-j.invariant)
     (λ w. walk_above es c.args.x c.loop-j.left c.loop-j.j (omega arith) (omega (arith, ltb-true)) ∙ c.loop-j.invariant)
-    c.then-left-eq0.branch
+    c.then-left-eq0.either
 
 pub read_record-next-requires : goal.read_record-next-requires
 read_record-next-requires c = record { size_of = search rules; job_in = omega (arith, ltb-false) }

@@ -8,4 +8,4 @@ pub returns-then-not-rising : goal.returns-then-not-rising
 returns-then-not-rising c = rebuilt_in_order c.rebuild_chains.ensures
 
 pub returns-else-not-rising : goal.returns-else-not-rising
-returns-else-not-rising c = rising_table_lem c.requires.sound_table (c.requires.variant.0 (not_false c.args.rising c.if-not-rising.false))
+returns-else-not-rising c = rising_table_lem c.requires.sound_table (c.requires.variant.0 (not_false c.args.rising c.if-not-rising.false-raw))

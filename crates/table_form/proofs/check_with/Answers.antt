@@ -12,17 +12,17 @@ use Rattle.table_form.proofs.check_with.Goals as goal
 use Rattle.table_form.proofs.check_with.Goals.{In-Ended, In-Fit}
 
 -- the size that was read is the table's
-sized : (c : In-Fit) → SizeOf c.args.t.now c.s-1.given.0.0
+sized : (c : In-Fit) → SizeOf c.args.t.now c.in-Fit.s
 sized c =
-    fit_size c.args.t.now c.s-1.given.0.0 (sym c.of.ensures.value ∙ c.s-1.given.1)
+    fit_size c.args.t.now c.in-Fit.s (sym c.of.ensures.value ∙ c.in-Fit.is)
 
 -- ?? whole requires: c.before.before.before.before.before.before.before.requires
 pub pass_over-requires : goal.pass_over-requires
 pass_over-requires c = let both = (sized (goal.at.pass_over-requires c).In-Fit, c.requires) in record { size_of = both.0; due_value = both.1.0; loads_value = both.1.1 }
 
 -- the pass did not get through
-ended : (c : In-Ended) → NotRising c.args.t.now c.s-1.given.0.0 c.pass_over.new.1.1.1.0 c.done-1.given.0.0 c.done-1.given.0.1.0
-ended c = rw c.done-1.given.1 at c.pass_over.ensures.pass_of
+ended : (c : In-Ended) → NotRising c.args.t.now c.in-Fit.s c.pass_over.new.1.1.1.0 c.in-Ended.done c.in-Ended.count
+ended c = rw c.in-Ended.is at c.pass_over.ensures.pass_of
 
 pub is_formed-requires : goal.is_formed-requires
 is_formed-requires c =
@@ -30,10 +30,10 @@ is_formed-requires c =
     record { size_of = sized (goal.at.is_formed-requires c).In-Fit; counted_to = n.counted; by_bench = n.by_bench }
 
 pub returns-in-Misfit : goal.returns-in-Misfit
-returns-in-Misfit c = record { due_len = rw c.requires.due_value (length-replicate {A = ℕ} (most_benches + 1) 0); form_of = misfit_answered _ _ (sym c.of.ensures.value ∙ c.enum_told-1.given.1) }
+returns-in-Misfit c = record { due_len = rw c.requires.due_value (length-replicate {A = ℕ} (most_benches + 1) 0); form_of = misfit_answered _ _ (sym c.of.ensures.value ∙ c.in-Misfit.is) }
 
 pub returns-in-Rising : goal.returns-in-Rising
-returns-in-Rising c = record { due_len = c.pass_over.ensures.due_len; form_of = rising_answered (rw c.enum_told-in-Rising-1.given.1 at c.pass_over.ensures.pass_of) }
+returns-in-Rising c = record { due_len = c.pass_over.ensures.due_len; form_of = rising_answered (rw c.in-Rising.is at c.pass_over.ensures.pass_of) }
 
 pub returns-then-is_formed : goal.returns-then-is_formed
 returns-then-is_formed c =

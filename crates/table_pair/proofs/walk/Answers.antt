@@ -14,12 +14,12 @@ returns-then-met-j c = along_above c.requires.size_of c.loop-j.invariant (omega 
 
 -- the number is not above the first match, if there is one
 limit : (c : Joined-else-met-gt0) → 0 < c.args.met → c.loop-j.j ≤ c.args.met
-limit c m = ⊎_elim (λ w. omega (arith, ltb-false)) (λ w. omega arith) c.else-met-gt0.branch
+limit c m = ⊎_elim (λ w. omega (arith, ltb-false)) (λ w. omega arith) c.else-met-gt0.either
 
 pub returns-then-j-before : goal.returns-then-j-before
 returns-then-j-before c =
     along_wrong c.requires.size_of c.loop-j.invariant (omega arith) (limit (goal.at.returns-then-j-before c).Joined-else-met-gt0)
-    (⊎_elim (λ w. inl (omega arith)) (λ w. inr (omega (arith, ltb-true))) c.then-j-before.branch)
+    (⊎_elim (λ w. inl (omega arith)) (λ w. inr (omega (arith, ltb-true))) c.then-j-before.either)
 
 -- job j's record is read
 to_read : (c : Else-jobs-j) → ToRead c.args.s c.args.met c.loop-j c.loop-j.j
@@ -29,16 +29,16 @@ pub step_at-requires : goal.step_at-requires
 step_at-requires c = record { size_of = c.requires.size_of; job_in = record { least = omega arith; most = (to_read (goal.at.step_at-requires c).Else-jobs-j).most } }
 
 pub returns-in-Broken : goal.returns-in-Broken
-returns-in-Broken c = along_broken c.requires.size_of c.loop-j.invariant (to_read (goal.at.returns-in-Broken c).Else-jobs-j) c.step_at.ensures c.enum_told-1.given.1
+returns-in-Broken c = along_broken c.requires.size_of c.loop-j.invariant (to_read (goal.at.returns-in-Broken c).Else-jobs-j) c.step_at.ensures c.in-Broken.is
 
 pub returns-in-Match : goal.returns-in-Match
-returns-in-Match c = along_match c.requires.size_of c.loop-j.invariant (to_read (goal.at.returns-in-Match c).Else-jobs-j) c.step_at.ensures c.enum_told-in-Match-1.given.1
+returns-in-Match c = along_match c.requires.size_of c.loop-j.invariant (to_read (goal.at.returns-in-Match c).Else-jobs-j) c.step_at.ensures c.in-Match.is
 
 pub loop-j-smaller : goal.loop-j-smaller
 loop-j-smaller c = let to = to_read (goal.at.loop-j-smaller c).Else-jobs-j in omega (arith, to.after, to.most)
 
 pub loop-j-preserved : goal.loop-j-preserved
-loop-j-preserved c = along_turn c.requires.size_of c.loop-j.invariant (to_read (goal.at.loop-j-preserved c).Else-jobs-j) c.step_at.ensures c.next-1.given.1
+loop-j-preserved c = along_turn c.requires.size_of c.loop-j.invariant (to_read (goal.at.loop-j-preserved c).Else-jobs-j) c.step_at.ensures c.in-Next.is
 
 pub returns : goal.returns
 returns c = along_end c.requires.size_of c.loop-j.invariant (omega arith)

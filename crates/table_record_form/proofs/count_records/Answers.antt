@@ -23,7 +23,7 @@ kind : (c : After-kind_of) → c.kind_of.result ≡ kind_of c.args.s.benches (re
 kind c = c.kind_of.ensures ∙ ap (kind_of c.args.s.benches) c.read_record.ensures.entry
 
 pub returns-in-Unfit : goal.returns-in-Unfit
-returns-in-Unfit c = rw c.enum_told-1.given.1 at (turn (goal.at.returns-in-Unfit c).After-kind_of)
+returns-in-Unfit c = rw c.in-Unfit.is at (turn (goal.at.returns-in-Unfit c).After-kind_of)
 
 pub loop-done-preserved : goal.loop-done-preserved
 loop-done-preserved c =

@@ -16,7 +16,7 @@ returns-then-holder-le2 c =
     (record {
       c = true→T _ (sym c.has_bench.ensures ∙ c.if-has_bench.true);
       c = true→T _ (sym c.has_bench-then-has_bench.ensures ∙ c.if-has_bench-2.true);
-      apart = λ e. eqb-false _ _ (not-true _ c.if-first-second.true) e;
+      apart = λ e. eqb-false _ _ (not-true _ c.if-first-second.true-raw) e;
       holder_least = omega (arith, leb-true);
       holder_most = omega (arith, leb-true);
     })
@@ -29,7 +29,7 @@ unfit c f =
     (⊎_elim
     (λ w. omega (arith, leb-false))
     (⊎_elim (λ w. f.apart (eqb-true _ _ (not-false _ w.3.left))) (⊎_elim (λ w. subst T (sym w.1.ensures ∙ w.2.left) f.second) (λ w. subst T (sym c.has_bench.ensures ∙ w.left) f.first))))
-    c.else-has_bench.branch
+    c.else-has_bench.either
 
 pub returns-then-first-ne0 : goal.returns-then-first-ne0
 returns-then-first-ne0 c = unfit_kind c.args.s.benches c.args.r (λ z. c.if-first-ne0.true z.0) (unfit (goal.at.returns-then-first-ne0 c).Joined-else-has_bench)
@@ -40,4 +40,4 @@ returns-then-next-eq0 c =
     vacant_kind c.args.s.benches c.args.r z
 
 pub returns-else-second-eq0 : goal.returns-else-second-eq0
-returns-else-second-eq0 c = unfit_kind c.args.s.benches c.args.r (λ z. ⊎_elim (λ w. omega (arith, eqb-false)) (⊎_elim (λ w. omega (arith, eqb-false)) (λ w. omega arith)) c.else-second-eq0.branch) (unfit (goal.at.returns-else-second-eq0 c).Joined-else-has_bench)
+returns-else-second-eq0 c = unfit_kind c.args.s.benches c.args.r (λ z. ⊎_elim (λ w. omega (arith, eqb-false)) (⊎_elim (λ w. omega (arith, eqb-false)) (λ w. omega arith)) c.else-second-eq0.either) (unfit (goal.at.returns-else-second-eq0 c).Joined-else-has_bench)

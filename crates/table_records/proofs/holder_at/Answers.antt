@@ -18,7 +18,7 @@ place c =
 pub returns-then-place-lt1 : goal.returns-then-place-lt1
 returns-then-place-lt1 c =
     holder_none c.args.t.now c.args.s c.args.j c.requires.size_of c.requires.job_in c.read-place.result (place (goal.at.returns-then-place-lt1 c).After-read-place)
-    (⊎_elim (λ w. inl (omega arith)) (λ w. inr (omega (arith, ltb-true))) c.then-place-lt1.branch)
+    (⊎_elim (λ w. inl (omega arith)) (λ w. inr (omega (arith, ltb-true))) c.then-place-lt1.either)
 
 pub returns : goal.returns
 returns c = c.name_at.ensures.value ∙ holder_word c.args.t.now c.args.s c.args.j c.requires.size_of c.requires.job_in c.read-place.result (place (goal.at.returns c).After-read-place)

@@ -20,7 +20,7 @@ read-kind c = ap (kind_of c.args.s.benches) (sym c.read_record-r.ensures.entry) 
 
 -- the record fits
 fits : (c : In-Fitting) → kind_of c.args.s.benches (entry_of c.read_record-r.result) ≡ Fitting
-fits c = sym c.kind_of.ensures ∙ c.enum_told-in-Fitting-1.given.1
+fits c = sym c.kind_of.ensures ∙ c.in-Fitting.is
 
 -- its holder is a bench ..
 bench : (c : After-name_at-x) → BenchIn c.args.s c.name_at-x.result
@@ -57,10 +57,10 @@ pub bounds-loads-x-in-Fitting : goal.bounds-loads-x-in-Fitting
 bounds-loads-x-in-Fitting c = small (goal.at.bounds-loads-x-in-Fitting c).After-name_at-x
 
 pub returns-in-Vacant : goal.returns-in-Vacant
-returns-in-Vacant c = (read-kind (goal.at.returns-in-Vacant c).After-kind_of ∙ c.enum_told-1.given.1, refl, refl)
+returns-in-Vacant c = (read-kind (goal.at.returns-in-Vacant c).After-kind_of ∙ c.in-Vacant.is, refl, refl)
 
 pub returns-in-Unfit : goal.returns-in-Unfit
-returns-in-Unfit c = (refl, refl, inl (read-kind (goal.at.returns-in-Unfit c).After-kind_of ∙ c.enum_told-in-Unfit-1.given.1))
+returns-in-Unfit c = (refl, refl, inl (read-kind (goal.at.returns-in-Unfit c).After-kind_of ∙ c.in-Unfit.is))
 
 pub returns-else-due-x : goal.returns-else-due-x
 returns-else-due-x c = read_met c.args.s c.read_record-r.ensures (fits (goal.at.returns-else-due-x c).In-Fitting) c.name_at-x.ensures c.if-due-x.false

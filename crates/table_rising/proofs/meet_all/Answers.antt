@@ -15,17 +15,17 @@ meet-requires c = record { size_of = c.requires.size_of; job_in = record { least
 
 pub returns-in-NotMet : goal.returns-in-NotMet
 returns-in-NotMet c =
-    let not-met = rw c.enum_told-1.given.1 at c.meet.ensures in
+    let not-met = rw c.in-NotMet.is at c.meet.ensures in
     record { reached_as = subst (λ (n : ℕ). CountedTo c.args.t.now c.args.s n c.loop-done.count) {x = c.loop-done.done} (omega arith) c.loop-done.invariant.0.records; all_in_turn = λ k. turn_possible k (c.loop-done.invariant.1 k) (omega arith) not-met.2; by_bench = meeting_by_bench c.loop-done.invariant.0 not-met.1; due_len = rw not-met.0 c.loop-done.invariant.0.long }
 
 pub loop-done-preserved-in-Met : goal.loop-done-preserved-in-Met
 loop-done-preserved-in-Met c =
-    let met = rw c.enum_told-in-Met-1.given.1 at c.meet.ensures in
+    let met = rw c.in-Met.is at c.meet.ensures in
     (meeting_turn c.requires.size_of c.loop-done.invariant.0 (omega arith) met, λ k. turn_met k (c.loop-done.invariant.1 k) (omega arith) c.loop-done.invariant.0.long met)
 
 pub loop-done-preserved : goal.loop-done-preserved
 loop-done-preserved c =
-    let passed = rw c.enum_told-in-Vacant-1.given.1 at c.meet.ensures in
+    let passed = rw c.in-Vacant.is at c.meet.ensures in
     (meeting_pass c.requires.size_of c.loop-done.invariant.0 (omega arith) passed, λ k. turn_pass k (c.loop-done.invariant.1 k) (omega arith) passed)
 
 pub returns : goal.returns

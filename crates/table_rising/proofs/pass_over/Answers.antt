@@ -12,11 +12,11 @@ use Rattle.table_rising.proofs.pass_over.Goals as goal
 use Rattle.table_rising.proofs.pass_over.Goals.{In-All}
 
 pub returns-in-Part : goal.returns-in-Part
-returns-in-Part c = record { due_len = c.meet_all.ensures.due_len; pass_of = record { other = λ k. rw c.done-1.given.1 at (c.meet_all.ensures.all_in_turn k); counted = rw c.done-1.given.1 at c.meet_all.ensures.reached_as; by_bench = c.meet_all.ensures.by_bench } }
+returns-in-Part c = record { due_len = c.meet_all.ensures.due_len; pass_of = record { other = λ k. rw c.in-Part.is at (c.meet_all.ensures.all_in_turn k); counted = rw c.in-Part.is at c.meet_all.ensures.reached_as; by_bench = c.meet_all.ensures.by_bench } }
 
 -- all jobs were met
-passed : (c : In-All) → Passed c.args.t.now c.args.s c.meet_all.new.1.1.0 c.meet_all.new.1.1.1.0 c.count-1.given.0.0
-passed c = rw c.count-1.given.1 at c.meet_all.ensures.reached_as
+passed : (c : In-All) → Passed c.args.t.now c.args.s c.meet_all.new.1.1.0 c.meet_all.new.1.1.1.0 c.in-All.count
+passed c = rw c.in-All.is at c.meet_all.ensures.reached_as
 
 pub returns-then-none_due : goal.returns-then-none_due
 returns-then-none_due c =
@@ -24,7 +24,7 @@ returns-then-none_due c =
           c.requires.size_of
           (passed (goal.at.returns-then-none_due c).In-All)
           (c.none_due.ensures.0 (true→T _ c.if-none_due.true))
-          (sym c.standing_word.ensures ∙ eqb-true _ _ c.if-standing_word-count.true)
+          (sym c.standing_word.ensures ∙ eqb-true _ _ c.if-standing_word-count.true-raw)
           (sym c.spare_word.ensures ∙ c.if-spare_word-eq0.true)
           (λ i. omega (arith, c.shared_slice_known-1.given i)) }
 
@@ -32,11 +32,11 @@ pub returns-else-spare_word-eq0 : goal.returns-else-spare_word-eq0
 returns-else-spare_word-eq0 c =
     record { due_len = c.meet_all.ensures.due_len; pass_of = record {
         other = λ k. ⊎_elim
-            (λ w. subst T w.5.left (w.4.ensures.1 (rw c.count-1.given.1 at (c.meet_all.ensures.all_in_turn k))))
+            (λ w. subst T w.5.left (w.4.ensures.1 (rw c.in-All.is at (c.meet_all.ensures.all_in_turn k))))
             (⊎_elim
             (λ w. eqb-false _ _ w.2.left (w.1.ensures ∙ encoded_standing k (passed (goal.at.returns-else-spare_word-eq0 c).In-All)))
             (λ w. w.left (c.spare_word.ensures ∙ encoded_spare k)))
-            c.else-spare_word-eq0.branch;
+            c.else-spare_word-eq0.either;
         counted = rw c.jobs.ensures (passed (goal.at.returns-else-spare_word-eq0 c).In-All).records;
         by_bench = c.meet_all.ensures.by_bench;
       } }

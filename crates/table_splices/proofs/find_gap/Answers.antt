@@ -14,10 +14,10 @@ pub loop-behind-smaller : goal.loop-behind-smaller
 loop-behind-smaller c = omega (arith, ltb-true, to_gap_on c.loop-behind.invariant c.loop-behind-test.true)
 
 pub loop-behind-preserved : goal.loop-behind-preserved
-loop-behind-preserved c = to_gap_turn c.loop-behind.invariant c.loop-behind-test.true (ltb-true _ _ c.if-behind-j.true) c.next_job-behind.ensures
+loop-behind-preserved c = to_gap_turn c.loop-behind.invariant c.loop-behind-test.true (ltb-true _ _ c.if-behind-j.true-raw) c.next_job-behind.ensures
 
 pub returns-else-behind-j : goal.returns-else-behind-j
-returns-else-behind-j c = to_gap_end c.loop-behind.invariant (λ d. ltb-false _ _ c.if-behind-j.false)
+returns-else-behind-j c = to_gap_end c.loop-behind.invariant (λ d. ltb-false _ _ c.if-behind-j.false-raw)
 
 pub returns-after-loop-behind : goal.returns-after-loop-behind
 returns-after-loop-behind c = to_gap_end c.loop-behind.invariant (λ d. absurd (d c.loop-behind-test.false))

@@ -5,7 +5,7 @@ use Rattle.board_answers.proofs.Accepted.{others_zero}
 use Rattle.board_answers.proofs.Answer.number.Goals as goal
 
 pub returns-in-Refused : goal.returns-in-Refused
-returns-in-Refused c = c.number.ensures ∙ ap (λ a. returned (answer_of a)) (sym c.self-1.given.1)
+returns-in-Refused c = c.number.ensures ∙ ap (λ a. returned (answer_of a)) (sym c.in-Refused.is)
 
 pub returns-in_default : goal.returns-in_default
 returns-in_default c = others_zero c.args.self c.in_default.keys2

@@ -12,46 +12,46 @@ told : {v w : Values} {a b : Answer} → v ≡ w → a ≡ b → values_of w ≡
 told e f g = ap values_of e ∙ g ∙ ap (λ a. drop 1 (in_numbers (answer_of a))) (sym f)
 
 pub returns-in-Refused : goal.returns-in-Refused
-returns-in-Refused c = told c.new.ensures c.enum_told-1.given.1 refl
+returns-in-Refused c = told c.new.ensures c.in-Refused.is refl
 
 pub returns-in-Blanked : goal.returns-in-Blanked
-returns-in-Blanked c = told c.new-in-Blanked.ensures c.enum_told-in-Blanked-1.given.1 refl
+returns-in-Blanked c = told c.new-in-Blanked.ensures c.in-Blanked.is refl
 
 pub returns-in-Arrived : goal.returns-in-Arrived
-returns-in-Arrived c = told c.new-in-Arrived.ensures c.self-1.given.1 refl
+returns-in-Arrived c = told c.new-in-Arrived.ensures c.in-Arrived.is refl
 
 pub returns-in-Closed : goal.returns-in-Closed
-returns-in-Closed c = told c.new-in-Closed.ensures c.self-in-Closed-1.given.1 refl
+returns-in-Closed c = told c.new-in-Closed.ensures c.in-Closed.is refl
 
 pub returns-in-Load : goal.returns-in-Load
-returns-in-Load c = told c.new-in-Load.ensures c.self-in-Load-1.given.1 refl
+returns-in-Load c = told c.new-in-Load.ensures c.in-Load.is refl
 
 pub returns-in-Heaviest : goal.returns-in-Heaviest
-returns-in-Heaviest c = told c.new-in-Heaviest.ensures c.self-in-Heaviest-1.given.1 refl
+returns-in-Heaviest c = told c.new-in-Heaviest.ensures c.in-Heaviest.is refl
 
 pub returns-in-TightSet : goal.returns-in-TightSet
-returns-in-TightSet c = told c.new-in-TightSet.ensures c.self-in-TightSet-1.given.1 refl
+returns-in-TightSet c = told c.new-in-TightSet.ensures c.in-TightSet.is refl
 
 pub returns-in-Sound : goal.returns-in-Sound
-returns-in-Sound c = told c.new-in-Sound.ensures c.enum_told-in-Sound-1.given.1 refl
+returns-in-Sound c = told c.new-in-Sound.ensures c.in-Sound.is refl
 
 pub returns-in-Level : goal.returns-in-Level
-returns-in-Level c = told c.new-in-Level.ensures c.enum_told-in-Level-1.given.1 refl
+returns-in-Level c = told c.new-in-Level.ensures c.in-Level.is refl
 
 pub returns-in-NotLevel : goal.returns-in-NotLevel
-returns-in-NotLevel c = told c.new-in-NotLevel.ensures c.enum_told-in-NotLevel-1.given.1 refl
+returns-in-NotLevel c = told c.new-in-NotLevel.ensures c.in-NotLevel.is refl
 
 pub returns-in-Levelled : goal.returns-in-Levelled
-returns-in-Levelled c = told c.new-in-Levelled.ensures c.self-in-Levelled-1.given.1 refl
+returns-in-Levelled c = told c.new-in-Levelled.ensures c.in-Levelled.is refl
 
 pub returns-in-Stopped : goal.returns-in-Stopped
-returns-in-Stopped c = told c.new-in-Stopped.ensures c.self-in-Stopped-1.given.1 refl
+returns-in-Stopped c = told c.new-in-Stopped.ensures c.in-Stopped.is refl
 
 pub returns-in-Sheet : goal.returns-in-Sheet
-returns-in-Sheet c = told c.new-in-Sheet.ensures c.self-in-Sheet-1.given.1 refl
+returns-in-Sheet c = told c.new-in-Sheet.ensures c.in-Sheet.is refl
 
 pub returns-in-Between : goal.returns-in-Between
-returns-in-Between c = told c.new-in-Between.ensures c.self-in-Between-1.given.1 refl
+returns-in-Between c = told c.new-in-Between.ensures c.in-Between.is refl
 
 pub returns-in-NoneBetween : goal.returns-in-NoneBetween
-returns-in-NoneBetween c = told c.new-in-NoneBetween.ensures c.self-in-NoneBetween-1.given.1 refl
+returns-in-NoneBetween c = told c.new-in-NoneBetween.ensures c.in-NoneBetween.is refl
