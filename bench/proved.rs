@@ -1,4 +1,4 @@
-//! The proved calls, from the archive of crates/jobboard.
+//! The proved calls, from the archive of crates/jobboard_c.
 
 extern "C" {
     fn jobboard_blank(table: *mut u8, len: usize, benches: u32, jobs: u32) -> u32;

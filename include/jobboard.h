@@ -1,5 +1,5 @@
 /*
- * The job board: repair jobs shared between benches, for C99 and C++. Link with libjobboard.a (x86-64), which `rt staticlib jobboard` makes.
+ * The job board: repair jobs shared between benches, for C99 and C++. Link with libjobboard.a (x86-64), which `make -C desk` makes.
  *
  * A board lives in a table: bytes that the caller owns. Each job names two benches, and one of them holds it; a bench's load is the
  * number of jobs it holds. jobboard_blank makes a table, jobboard_arrival and jobboard_closing change its jobs and hand others along,

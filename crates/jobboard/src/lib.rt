@@ -1,5 +1,5 @@
-// The calls for C programs, over numbers and the table's bytes; a slice is passed as a pointer and its length in
-// bytes. Each returns the refusal's number, or 0. Results go through lent numbers, which a refused call leaves alone.
+// The calls for C programs, over numbers and the table's bytes; `jobboard_c` exports them. Each returns the refusal's
+// number, or 0. Results go through lent numbers, which a refused call leaves alone.
 #![tactic(auto)]
 
 ghost use Rattle.std.specs.Prelude.{[], ◌∷◌};
@@ -7,16 +7,14 @@ ghost use Rattle.spec_calls.specs.Calls.{outcome, blanking, arrival, closing, le
 ghost use Rattle.jobboard.specs.Desk.{Reported};
 
 // Writes a table without jobs; 1 where the length is not that of so many benches and jobs.
-#[unsafe(no_mangle)]
-pub extern "C" fn jobboard_blank(table: &mut [u8], benches: u32, jobs: u32) -> u32
+pub fn jobboard_blank(table: &mut [u8], benches: u32, jobs: u32) -> u32
     ensures { Reported (blanking benches jobs table.old) result table.new [] [] [] }
 {
     board_changes::blank(table, benches as usize, jobs as usize).number()
 }
 
 // Checks the form: 0 for a sound table, 1 where its sizes do not fit, else 2.
-#[unsafe(no_mangle)]
-pub extern "C" fn jobboard_check(table: &[u8]) -> u32
+pub fn jobboard_check(table: &[u8]) -> u32
     ensures { Reported (outcome (ask form_check []) table.now) result table.now [] [] [] }
 {
     board_questions::form_check(table).number()
@@ -24,8 +22,7 @@ pub extern "C" fn jobboard_check(table: &[u8]) -> u32
 
 // Takes in a job that names two benches; the other jobs that move go as words to the list's beginning. Results: the bench
 // that holds it in the end, the bench whose load rose, the other jobs moved.
-#[unsafe(no_mangle)]
-pub extern "C" fn jobboard_arrival(
+pub fn jobboard_arrival(
     table: &mut [u8],
     job: u32,
     first: u32,
@@ -51,8 +48,7 @@ pub extern "C" fn jobboard_arrival(
 
 // Closes a standing job; the jobs that move go as words to the list's beginning. Results: the bench whose load fell, the
 // jobs moved.
-#[unsafe(no_mangle)]
-pub extern "C" fn jobboard_closing(
+pub fn jobboard_closing(
     table: &mut [u8],
     job: u32,
     list: &mut [u8],
@@ -68,13 +64,7 @@ pub extern "C" fn jobboard_closing(
 }
 
 // Levels within an allowance of paths. Results: the paths turned, and 1 for level or 0 for stopped.
-#[unsafe(no_mangle)]
-pub extern "C" fn jobboard_levelling(
-    table: &mut [u8],
-    allowance: u32,
-    paths: &mut u32,
-    level: &mut u32,
-) -> u32
+pub fn jobboard_levelling(table: &mut [u8], allowance: u32, paths: &mut u32, level: &mut u32) -> u32
     ensures { Reported (outcome (levelling allowance) table.old) result table.new []
         (paths.old ∷ level.old ∷ []) (paths.new ∷ level.new ∷ []) }
 {
@@ -82,8 +72,7 @@ pub extern "C" fn jobboard_levelling(
 }
 
 // Checks whether no path improves. Result: 1 for yes, 0 for no.
-#[unsafe(no_mangle)]
-pub extern "C" fn jobboard_level_check(table: &[u8], level: &mut u32) -> u32
+pub fn jobboard_level_check(table: &[u8], level: &mut u32) -> u32
     ensures { Reported (outcome (ask level_check []) table.now) result table.now []
         (level.old ∷ []) (level.new ∷ []) }
 {
@@ -91,8 +80,7 @@ pub extern "C" fn jobboard_level_check(table: &[u8], level: &mut u32) -> u32
 }
 
 // Reports the load of a bench.
-#[unsafe(no_mangle)]
-pub extern "C" fn jobboard_load(table: &[u8], bench: u32, load: &mut u32) -> u32
+pub fn jobboard_load(table: &[u8], bench: u32, load: &mut u32) -> u32
     ensures { Reported (outcome (ask (load_of bench) []) table.now) result table.now []
         (load.old ∷ []) (load.new ∷ []) }
 {
@@ -100,8 +88,7 @@ pub extern "C" fn jobboard_load(table: &[u8], bench: u32, load: &mut u32) -> u32
 }
 
 // Reports the heaviest load.
-#[unsafe(no_mangle)]
-pub extern "C" fn jobboard_heaviest(table: &[u8], load: &mut u32) -> u32
+pub fn jobboard_heaviest(table: &[u8], load: &mut u32) -> u32
     ensures { Reported (outcome (ask heaviest_load []) table.now) result table.now []
         (load.old ∷ []) (load.new ∷ []) }
 {
@@ -110,8 +97,7 @@ pub extern "C" fn jobboard_heaviest(table: &[u8], load: &mut u32) -> u32
 
 // Writes the tight set of a height: its benches, rising, as words at the list's beginning. Results: benches in the
 // set, jobs inside.
-#[unsafe(no_mangle)]
-pub extern "C" fn jobboard_tight_set(
+pub fn jobboard_tight_set(
     table: &[u8],
     height: u32,
     list: &mut [u8],
@@ -130,8 +116,7 @@ pub extern "C" fn jobboard_tight_set(
 }
 
 // Writes the wall sheet at the page's beginning. Result: its length.
-#[unsafe(no_mangle)]
-pub extern "C" fn jobboard_sheet(table: &[u8], page: &mut [u8], length: &mut u32) -> u32
+pub fn jobboard_sheet(table: &[u8], page: &mut [u8], length: &mut u32) -> u32
     ensures { Reported (outcome (ask wall_sheet page.old) table.now) result
         table.now page.new (length.old ∷ []) (length.new ∷ []) }
 {
@@ -140,8 +125,7 @@ pub extern "C" fn jobboard_sheet(table: &[u8], page: &mut [u8], length: &mut u32
 
 // Answers whether there is a job between two benches, on a table that nobody checked. Results: such a job, the lowest
 // where all chains rise, 0 for none; the records read.
-#[unsafe(no_mangle)]
-pub extern "C" fn jobboard_between(
+pub fn jobboard_between(
     table: &[u8],
     first: u32,
     second: u32,
