@@ -28,10 +28,10 @@ returns-then-t-bytes c =
     record { value = sym d; t_after = refl }
 
 pub write-requires : goal.write-requires
-write-requires c = let both = let f = asked-limits (goal.at.write-requires c).In-Fit in omega arith in record { i_in_bounds = both.0; word_bound = both.1 }
+write-requires c = let f = asked-limits (goal.at.write-requires c).In-Fit in record { i_in_bounds = omega arith; word_bound = omega arith }
 
 pub write-requires-in-Fit : goal.write-requires-in-Fit
-write-requires-in-Fit c = let both = let f = asked-limits (goal.at.write-requires-in-Fit c).In-Fit in omega arith in record { i_in_bounds = both.0; word_bound = both.1 }
+write-requires-in-Fit c = let f = asked-limits (goal.at.write-requires-in-Fit c).In-Fit in record { i_in_bounds = omega arith; word_bound = omega arith }
 
 pub returns-in-Misfit : goal.returns-in-Misfit
 returns-in-Misfit c = record { value = sym (sizes_refused (length c.args.t.now) c.args.benches c.args.jobs (sym c.new.ensures.value ∙ c.in-Misfit.is)); t_after = refl }

@@ -8,7 +8,7 @@ use Rattle.table_size.specs.Written.{record_in}
 use Rattle.table_record_form.specs.Kinds.{kind_of, by_kind, counted}
 use Rattle.table_record_form.proofs.Counted.{counted_step, counted_pass, counted_turn, counted_end}
 use Rattle.table_record_form.proofs.count_records.Goals as goal
-use Rattle.table_record_form.proofs.count_records.Goals.{After-kind_of}
+use Rattle.table_record_form.proofs.count_records.Goals.{After-kind_of, in-Fitting, in-Vacant}
 
 pub loop-done-init : goal.loop-done-init
 loop-done-init c = c.requires.counted_to
@@ -26,11 +26,10 @@ pub returns-in-Unfit : goal.returns-in-Unfit
 returns-in-Unfit c = rw c.in-Unfit.is at (turn (goal.at.returns-in-Unfit c).After-kind_of)
 
 pub loop-done-preserved : goal.loop-done-preserved
-loop-done-preserved c =
-    ⊎_elim
-    (λ w. rw w.2 (counted_turn c.requires.size_of c.loop-done.invariant (omega arith) (sym (kind (goal.at.loop-done-preserved c).After-kind_of) ∙ w.1.given.1)))
-    (λ w. rw w.2 (counted_pass c.requires.size_of c.loop-done.invariant (omega arith) (sym (kind (goal.at.loop-done-preserved c).After-kind_of) ∙ w.1.given.1)))
-    c.match-kind_of.branch
+loop-done-preserved c = elim c.match-kind_of.branch [
+  | in-Fitting w ↦ rw w.count-is (counted_turn c.requires.size_of c.loop-done.invariant (omega arith) (sym (kind (goal.at.loop-done-preserved c).After-kind_of) ∙ w.in-Fitting.is))
+  | in-Vacant w ↦ rw w.count-is (counted_pass c.requires.size_of c.loop-done.invariant (omega arith) (sym (kind (goal.at.loop-done-preserved c).After-kind_of) ∙ w.in-Vacant.is))
+]
 
 pub returns : goal.returns
 returns c = sym (counted_end c.requires.size_of c.loop-done.invariant (omega arith))

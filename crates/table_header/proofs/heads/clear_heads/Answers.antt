@@ -19,4 +19,4 @@ part t zeros s k z q e =
     rw (e, n, drop-drop k 8 t, q) (has_layout_cleared t s z)
 
 pub returns : goal.returns
-returns c = part c.args.t.now c.clear.new.0 c.args.s (8 + 2 * c.benches.result - 8) c.requires (omega (arith, c.benches.ensures)) c.clear.ensures
+returns c = part c.args.t.now c.clear.new.bytes c.args.s (8 + 2 * c.benches.result - 8) c.requires (omega (arith, c.benches.ensures)) c.clear.ensures
