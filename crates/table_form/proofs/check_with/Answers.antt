@@ -16,12 +16,11 @@ sized : (c : In-Fit) → SizeOf c.args.t.now c.in-Fit.s
 sized c =
     fit_size c.args.t.now c.in-Fit.s (sym c.of.ensures.value ∙ c.in-Fit.is)
 
--- ?? whole requires: c.before.before.before.before.before.before.before.requires
 pub pass_over-requires : goal.pass_over-requires
-pass_over-requires c = let both = (sized (goal.at.pass_over-requires c).In-Fit, c.requires) in record { size_of = both.0; due_value = both.1.0; loads_value = both.1.1 }
+pass_over-requires c = record { size_of = sized (goal.at.pass_over-requires c).In-Fit; due_value = c.requires.due_value; loads_value = c.requires.loads_value }
 
 -- the pass did not get through
-ended : (c : In-Ended) → NotRising c.args.t.now c.in-Fit.s c.pass_over.new.1.1.1.0 c.in-Ended.done c.in-Ended.count
+ended : (c : In-Ended) → NotRising c.args.t.now c.in-Fit.s c.pass_over.new.loads c.in-Ended.done c.in-Ended.count
 ended c = rw c.in-Ended.is at c.pass_over.ensures.pass_of
 
 pub is_formed-requires : goal.is_formed-requires

@@ -19,12 +19,12 @@ returns-then-holder_at-x c = read_unheld c.args.x c.args.y c.requires.size_of c.
 pub returns-then-first-y : goal.returns-then-first-y
 returns-then-first-y c =
     read_match c.args.x c.args.y c.requires.size_of c.read_record-r.ensures (fitting (goal.at.returns-then-first-y c).In-Fitting) c.holder_at.ensures c.if-holder_at-x.false
-    (⊎_elim (λ w. inl w.taken) (λ w. inr (eqb-true _ _ w.1.taken)) c.then-first-y.either)
+    (⊎_elim (λ w. inl w) (λ w. inr w.1) c.then-first-y.either)
 
 pub returns-else-second-y : goal.returns-else-second-y
 returns-else-second-y c =
     read_next c.args.x c.args.y c.requires.size_of c.read_record-r.ensures (fitting (goal.at.returns-else-second-y c).In-Fitting) c.holder_at.ensures c.if-holder_at-x.false
-    c.if-first-y.false (eqb-false _ _ c.if-second-y.false-raw)
+    c.if-first-y.false c.if-second-y.false
 
 pub returns-in_default : goal.returns-in_default
-returns-in_default c = read_unfit c.args.x c.args.y c.requires.size_of c.read_record-r.ensures c.kind_of.ensures c.in_default.keys2
+returns-in_default c = read_unfit c.args.x c.args.y c.requires.size_of c.read_record-r.ensures c.kind_of.ensures ?

@@ -22,7 +22,7 @@ returns-then-j-before c =
     (⊎_elim (λ w. inl (omega arith)) (λ w. inr (omega (arith, ltb-true))) c.then-j-before.either)
 
 -- job j's record is read
-to_read : (c : Else-jobs-j) → ToRead c.args.s c.args.met c.loop-j c.loop-j.j
+to_read : (c : Else-jobs-j) → ToRead c.args.s c.args.met c.loop-j.before c.loop-j.j
 to_read c = record { limit = limit c; after = omega arith; most = omega (arith, ltb-false) }
 
 pub step_at-requires : goal.step_at-requires

@@ -15,7 +15,7 @@ pub returns-in-Part : goal.returns-in-Part
 returns-in-Part c = record { due_len = c.meet_all.ensures.due_len; pass_of = record { other = λ k. rw c.in-Part.is at (c.meet_all.ensures.all_in_turn k); counted = rw c.in-Part.is at c.meet_all.ensures.reached_as; by_bench = c.meet_all.ensures.by_bench } }
 
 -- all jobs were met
-passed : (c : In-All) → Passed c.args.t.now c.args.s c.meet_all.new.1.1.0 c.meet_all.new.1.1.1.0 c.in-All.count
+passed : (c : In-All) → Passed c.args.t.now c.args.s c.meet_all.new.due c.meet_all.new.loads c.in-All.count
 passed c = rw c.in-All.is at c.meet_all.ensures.reached_as
 
 pub returns-then-none_due : goal.returns-then-none_due
@@ -24,9 +24,9 @@ returns-then-none_due c =
           c.requires.size_of
           (passed (goal.at.returns-then-none_due c).In-All)
           (c.none_due.ensures.0 (true→T _ c.if-none_due.true))
-          (sym c.standing_word.ensures ∙ eqb-true _ _ c.if-standing_word-count.true-raw)
+          (sym c.standing_word.ensures ∙ c.if-standing_word-count.true)
           (sym c.spare_word.ensures ∙ c.if-spare_word-eq0.true)
-          (λ i. omega (arith, c.shared_slice_known-1.given i)) }
+          (λ i. omega (arith, c.type_inv.t i)) }
 
 pub returns-else-spare_word-eq0 : goal.returns-else-spare_word-eq0
 returns-else-spare_word-eq0 c =
