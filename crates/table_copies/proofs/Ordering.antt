@@ -20,19 +20,14 @@ use Rattle.table_order.proofs.Ordered.{rebuilt_in_order}
 pub rising_table_lem : {t : List ℕ} {s : Size} → SoundTable t s → t ≡ encode (decode t) → TableOf t s (decode t)
 rising_table_lem z e = record { in_order = record { sound = z; bytes = e }; board = refl }
 
--- the first of two lists of one length, written over the second, is the first
-pub written_over : (t u : List ℕ) → length u ≡ length t → take (length t) t ++ drop (length t) u ≡ t
-written_over t u e =
-    rw (take-length t, drop_of_length-le u {i = length t} (omega arith)) (append-nil t)
-
-module _ (u : List ℕ) {t v : List ℕ} {s : Size} (z : SoundTable t s) (e : length u ≡ length t) (c : v ≡ take (length t) t ++ drop (length t) u) where
+module _ {t v : List ℕ} {s : Size} (z : SoundTable t s) (c : v ≡ t) where
   -- the copy holds the table's board ..
   pub copy_holds : HoldsBoard v s
-  copy_holds = rw (c ∙ written_over t u e) (sound_holds_board t s z)
+  copy_holds = rw c (sound_holds_board t s z)
 
   -- .. and so it does once it is in order
   pub copy_table : {w : List ℕ} → ChainsRebuilt v w s → TableOf w s (decode t)
-  copy_table {w} r = subst (λ (l : List ℕ). TableOf w s (decode l)) (c ∙ written_over t u e) (rebuilt_in_order r)
+  copy_table {w} r = subst (λ (l : List ℕ). TableOf w s (decode l)) c (rebuilt_in_order r)
 
 -- the part of a copy's room that the table takes is as long as the table
 pub room_long : {t : List ℕ} {s : Size} {n : ℕ} → SizeOf t s → n ≡ length_for s.benches s.jobs → length (take (n - 0) (replicate {A = ℕ} (length_for most_benches most_jobs) 0)) ≡ length t

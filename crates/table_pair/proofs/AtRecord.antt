@@ -30,14 +30,6 @@ use Rattle.table_pair.specs.Walking.{step_at}
 use Rattle.table_pair.specs.declared.Step.{Step}
 use Rattle.table_pair.specs.declared.Step.TheVariants.{Broken, Match, Next}
 
--- a record that fits is of no other kind
-abbrev others : List ℕ
-others = 0 ∷ 2 ∷ []
-
-other_kind : (k : Kind) → OneOf others (tag_of kind.the_type k) → k ≡ Fitting → ⊥
-other_kind k o e =
-    ⊎_elim (λ h. omega arith) (λ h. omega arith) (subst (λ (k : Kind). OneOf others (tag_of kind.the_type k)) e o)
-
 -- what a record says to a walk along bench x's chain
 abbrev step_of : ℕ → ℕ → ℕ → Entry → Step
 step_of benches x y e = cond (is_held_by benches x e) (cond (names_both x y e.names) Match (Next e.next)) Broken
@@ -54,10 +46,10 @@ module _ {t : List ℕ} {s : Size} {j : ℕ} {r : Record} (x y : ℕ) (size : Si
       ap (λ (z : Bool). cond z (cond (names_both x y (entry_of r).names) Match (Next r.next)) Broken) (sym (never→false (is_held_by s.benches x (entry_of r)) d)) ∙ read_step
 
   -- it does not "name two different benches of 1 to B" ..
-  pub read_unfit : {k : Kind} → k ≡ kind_of s.benches (entry_of r) → OneOf others (tag_of kind.the_type k) → Broken ≡ step_at (layout_in t) x y j
-  read_unfit {k} e o =
+  pub read_unfit : {k : Kind} → k ≡ kind_of s.benches (entry_of r) → (k ≡ Fitting → ⊥) → Broken ≡ step_at (layout_in t) x y j
+  read_unfit e o =
       let benches = s.benches in
-      not_held_by (λ h. other_kind k o (e ∙ tests_fitting benches (entry_of r) (left (entry_fits benches (entry_of r)) (eqb (holder_in (entry_of r)) x) h)))
+      not_held_by (λ h. o (e ∙ tests_fitting benches (entry_of r) (left (entry_fits benches (entry_of r)) (eqb (holder_in (entry_of r)) x) h)))
 
   module _ (fitting : kind_of s.benches (entry_of r) ≡ Fitting) {h : ℕ} (told : h ≡ holder_in (record_in t j)) where
     -- the holder that was read is its holder

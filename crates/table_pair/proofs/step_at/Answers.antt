@@ -27,4 +27,4 @@ returns-else-second-y c =
     c.if-first-y.false c.if-second-y.false
 
 pub returns-in_default : goal.returns-in_default
-returns-in_default c = read_unfit c.args.x c.args.y c.requires.size_of c.read_record-r.ensures c.kind_of.ensures ?
+returns-in_default c = read_unfit c.args.x c.args.y c.requires.size_of c.read_record-r.ensures c.kind_of.ensures c.in_default.not-Fitting

@@ -22,23 +22,23 @@ returns-then-j-before c =
     (⊎_elim (λ w. inl (omega arith)) (λ w. inr (omega (arith, ltb-true))) c.then-j-before.either)
 
 -- job j's record is read
-to_read : (c : Else-jobs-j) → ToRead c.args.s c.args.met c.loop-j.before c.loop-j.j
-to_read c = record { limit = limit c; after = omega arith; most = omega (arith, ltb-false) }
+to_read : (c : Else-jobs-j) → (0 < c.args.met → c.loop-j.j ≤ c.args.met) → ToRead c.args.s c.args.met c.loop-j.before c.loop-j.j
+to_read c l = record { limit = l; after = omega arith; most = omega (arith, ltb-false) }
 
 pub step_at-requires : goal.step_at-requires
-step_at-requires c = record { size_of = c.requires.size_of; job_in = record { least = omega arith; most = (to_read (goal.at.step_at-requires c).Else-jobs-j).most } }
+step_at-requires c = record { size_of = c.requires.size_of; job_in = record { least = omega arith; most = (to_read (goal.at.step_at-requires c).Else-jobs-j (limit (goal.at.step_at-requires c).Joined-else-met-gt0)).most } }
 
 pub returns-in-Broken : goal.returns-in-Broken
-returns-in-Broken c = along_broken c.requires.size_of c.loop-j.invariant (to_read (goal.at.returns-in-Broken c).Else-jobs-j) c.step_at.ensures c.in-Broken.is
+returns-in-Broken c = along_broken c.requires.size_of c.loop-j.invariant (to_read (goal.at.returns-in-Broken c).Else-jobs-j (limit (goal.at.returns-in-Broken c).Joined-else-met-gt0)) c.step_at.ensures c.in-Broken.is
 
 pub returns-in-Match : goal.returns-in-Match
-returns-in-Match c = along_match c.requires.size_of c.loop-j.invariant (to_read (goal.at.returns-in-Match c).Else-jobs-j) c.step_at.ensures c.in-Match.is
+returns-in-Match c = along_match c.requires.size_of c.loop-j.invariant (to_read (goal.at.returns-in-Match c).Else-jobs-j (limit (goal.at.returns-in-Match c).Joined-else-met-gt0)) c.step_at.ensures c.in-Match.is
 
 pub loop-j-smaller : goal.loop-j-smaller
-loop-j-smaller c = let to = to_read (goal.at.loop-j-smaller c).Else-jobs-j in omega (arith, to.after, to.most)
+loop-j-smaller c = let to = to_read (goal.at.loop-j-smaller c).Else-jobs-j (limit (goal.at.loop-j-smaller c).Joined-else-met-gt0) in omega (arith, to.after, to.most)
 
 pub loop-j-preserved : goal.loop-j-preserved
-loop-j-preserved c = along_turn c.requires.size_of c.loop-j.invariant (to_read (goal.at.loop-j-preserved c).Else-jobs-j) c.step_at.ensures c.in-Next.is
+loop-j-preserved c = along_turn c.requires.size_of c.loop-j.invariant (to_read (goal.at.loop-j-preserved c).Else-jobs-j (limit (goal.at.loop-j-preserved c).Joined-else-met-gt0)) c.step_at.ensures c.in-Next.is
 
 pub returns : goal.returns
 returns c = along_end c.requires.size_of c.loop-j.invariant (omega arith)

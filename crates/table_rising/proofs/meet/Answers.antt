@@ -24,7 +24,7 @@ fits c = sym c.kind_of.ensures ∙ c.in-Fitting.is
 
 -- its holder is a bench ..
 bench : (c : After-name_at-x) → BenchIn c.args.s c.name_at-x.result
-bench c = read_bench_lem c.args.s c.read_record-r.ensures (fits c.before) c.name_at-x.ensures
+bench c = read_bench_lem c.args.s c.read_record-r.ensures (sym c.kind_of.ensures ∙ c.in-Fitting.is) c.name_at-x.ensures
 
 -- .. for which there is a place in the arrays
 small : (c : After-name_at-x) → c.name_at-x.result < most_benches + 1

@@ -9,7 +9,7 @@ use Rattle.table_rising.specs.Passing.{Passed}
 use Rattle.table_rising.proofs.Meeting.{passed_rising}
 use Rattle.table_rising.proofs.InTurn.{encoded_spare, encoded_standing}
 use Rattle.table_rising.proofs.pass_over.Goals as goal
-use Rattle.table_rising.proofs.pass_over.Goals.{In-All}
+use Rattle.table_rising.proofs.pass_over.Goals.{In-All, else-spare_word-eq0-via-then-spare_word-eq0+then-standing_word-count+else-none_due, else-spare_word-eq0-via-then-spare_word-eq0+else-standing_word-count, else-spare_word-eq0-via-else-spare_word-eq0}
 
 pub returns-in-Part : goal.returns-in-Part
 returns-in-Part c = record { due_len = c.meet_all.ensures.due_len; pass_of = record { other = λ k. rw c.in-Part.is at (c.meet_all.ensures.all_in_turn k); counted = rw c.in-Part.is at c.meet_all.ensures.reached_as; by_bench = c.meet_all.ensures.by_bench } }
@@ -31,12 +31,11 @@ returns-then-none_due c =
 pub returns-else-spare_word-eq0 : goal.returns-else-spare_word-eq0
 returns-else-spare_word-eq0 c =
     record { due_len = c.meet_all.ensures.due_len; pass_of = record {
-        other = λ k. ⊎_elim
-            (λ w. subst T w.5.left (w.4.ensures.1 (rw c.in-All.is at (c.meet_all.ensures.all_in_turn k))))
-            (⊎_elim
-            (λ w. eqb-false _ _ w.2.left (w.1.ensures ∙ encoded_standing k (passed (goal.at.returns-else-spare_word-eq0 c).In-All)))
-            (λ w. w.left (c.spare_word.ensures ∙ encoded_spare k)))
-            c.else-spare_word-eq0.either;
+        other = λ k. elim c.else-spare_word-eq0.branch [
+          | else-spare_word-eq0-via-then-spare_word-eq0+then-standing_word-count+else-none_due w ↦ subst T w.if-none_due.false (w.none_due.ensures.1 (rw c.in-All.is at (c.meet_all.ensures.all_in_turn k)))
+          | else-spare_word-eq0-via-then-spare_word-eq0+else-standing_word-count w ↦ w.if-standing_word-count.false (w.standing_word.ensures ∙ encoded_standing k (passed (goal.at.returns-else-spare_word-eq0 c).In-All))
+          | else-spare_word-eq0-via-else-spare_word-eq0 w ↦ w.if-spare_word-eq0.false (c.spare_word.ensures ∙ encoded_spare k)
+        ];
         counted = rw c.jobs.ensures (passed (goal.at.returns-else-spare_word-eq0 c).In-All).records;
         by_bench = c.meet_all.ensures.by_bench;
       } }
