@@ -121,9 +121,9 @@ module _ {t : List ℕ} {s : Size} (o : InOrder t s) {j : ℕ} (job : JobIn s j)
         recorded_put _ _ o.sound.storable.valid laid.entries laid.records j names h n job.least (omega (arith, job.most, entries_long t s o.sound.size))
 
     -- .. and then the link before j in a bench's chain
-    pub relinked : {es : List Entry} {x p : ℕ} → length es ≡ s.jobs → Recorded es new → BenchIn s x → Before were x j p → (n : ℕ) → Recorded (linked_entries es p n) new
-    relinked {es} {x} {p} long r w b n =
-        linked_recorded k.valid (long ∙ sym (length_update (decode t).named j names ∙ o.sound.size.board_jobs)) r p n (go b.place)
+    pub relinked : (es : List Entry) {x p : ℕ} → length es ≡ s.jobs → Recorded es new → BenchIn s x → Before were x j p → (n : ℕ) → Recorded (linked_entries es p n) new
+    relinked es {x} {p} long r w b n =
+        linked_recorded es _ k.valid (long ∙ sym (length_update (decode t).named j names ∙ o.sound.size.board_jobs)) r p n (go b.place)
       where
         go : InChain were x p → (p ≡ 0) ⊎ T (stands new p)
         go (inl e) = inl e

@@ -82,10 +82,10 @@ entry_with_next [] h m n t = absurd t
 entry_with_next (x ∷ names) h m n t = refl
 
 -- .. which are the same board's
-pub linked_recorded : {es : List Entry} {b : Board} → Valid b → length es ≡ length b.named → Recorded es b → (i n : ℕ) → (i ≡ 0) ⊎ T (stands b i) → Recorded (linked_entries es i n) b
-linked_recorded v long r zero n c = r
-linked_recorded v long r (suc k) n (inl e) = absurd (omega arith)
-linked_recorded {es} {b} v long r (suc k) n (inr t) =
+pub linked_recorded : (es : List Entry) (b : Board) → Valid b → length es ≡ length b.named → Recorded es b → (i n : ℕ) → (i ≡ 0) ⊎ T (stands b i) → Recorded (linked_entries es i n) b
+linked_recorded es b v long r zero n c = r
+linked_recorded es b v long r (suc k) n (inl e) = absurd (omega arith)
+linked_recorded es b v long r (suc k) n (inr t) =
     let e : Entry = nth es (suc k) vacant in
     let same = ap (λ (a : Entry). with_next a n) (r (suc k)) ∙ entry_with_next (names_of b (suc k)) (holder_of b (suc k)) e.next n t in
     subst (λ (a : Entry). Recorded (update es (suc k) a) b) (sym same) (recorded_next _ _ v long r (suc k) n t)

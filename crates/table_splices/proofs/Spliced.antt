@@ -96,7 +96,7 @@ removed_few {t} {u} {v} {s} {n} j e x i m o p one two q =
 pub add_spliced : {t u v : List ℕ} {s : Size} {j h count : ℕ} {names : List ℕ} {gap : Gap} → InOrder t s → Fillable s j names h → stands (decode t) j ≡ false → GapOf (decode t) s h j gap → Inserted t u s j (get_or names 0 0 ∷ get_or names 1 0 ∷ []) h gap → count ≡ (layout_in u).standing → HasLayout v s (with_standing (layout_in u) (count + 1)) → ((i : ℕ) → get_or v i 0 < 256) → TableOf v s (put (decode t) j names h)
 add_spliced {t} {u} {v} {s} {j} {h} {count} {names} {gap} o f free found two q counted bytes =
     spliced o job h names k counted.size bytes (with_standing m (count + 1)) (counted.layout ∙ ap (λ (l : Layout). with_standing l (count + 1)) put_in.layout.layout) number refl
-    (relinked o job h names k (length_update (layout_in t).entries j new ∙ entries_long t s o.sound.size) (written o job h names k gap.behind) bench before j)
+    (relinked o job h names k _ (length_update (layout_in t).entries j new ∙ entries_long t s o.sound.size) (written o job h names k gap.behind) bench before j)
     links
   where
     job : JobIn s j
@@ -156,7 +156,7 @@ record_link {j = suc k} x l f = ap (λ (e : Entry). e.next) f.entry
 pub remove_spliced : {t u v w : List ℕ} {s : Size} {j x count : ℕ} {gap : Gap} {gone : Record} → InOrder t s → T (stands (decode t) j) → x ≡ holder_of (decode t) j → GapOf (decode t) s x j gap → RecordOf t j gone → HasLayout u s (with_entry (layout_in t) j vacant) → HasLayout v s (linked (layout_in u) x gap.before gone.next) → count ≡ (layout_in v).standing → HasLayout w s (with_standing (layout_in v) (count - 1)) → ((i : ℕ) → get_or w i 0 < 256) → TableOf w s (put (decode t) j [] 0)
 remove_spliced {t} {u} {v} {w} {s} {j} {x} {count} {gap} {gone} o p held found next one two q three bytes =
     spliced o job 0 [] k three.size bytes (with_standing m (count - 1)) (three.layout ∙ ap (λ (l : Layout). with_standing l (count - 1)) linked_on) number refl
-    (relinked o job 0 [] k entries (written o job 0 [] k 0) bench before gone.next)
+    (relinked o job 0 [] k _ entries (written o job 0 [] k 0) bench before gone.next)
     links
   where
     job : JobIn s j
@@ -234,7 +234,7 @@ pub hand_spliced : {t u v : List ℕ} {s : Size} {j x y : ℕ} {from to : Gap} {
 hand_spliced {t} {u} {v} {s} {j} {x} {y} {from} {to} {was} o member held apart read found_from_lem found-to put_in last bytes =
     subst (TableOf v s) same_names
     (spliced o job y names k last.size bytes m ahead number spare
-    (relinked o job y names k long recorded bench before was.next)
+    (relinked o job y names k _ long recorded bench before was.next)
     links)
   where
     stood : T (stands (decode t) j)
@@ -294,7 +294,7 @@ hand_spliced {t} {u} {v} {s} {j} {x} {y} {from} {to} {was} o member held apart r
     long = linked_long one.entries to.before j ∙ one_long
 
     recorded : Recorded two.entries (put (decode t) j names y)
-    recorded = relinked o job y names k one_long (written o job y names k to.behind) next_bench next_before j
+    recorded = relinked o job y names k _ one_long (written o job y names k to.behind) next_bench next_before j
 
     links : (z : ℕ) → BenchIn s z → Linked (update (decode t).holders j y) z (link_in m z)
     links z w = go (ℕ_discrete z x) (ℕ_discrete z y)

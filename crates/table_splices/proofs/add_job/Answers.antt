@@ -19,4 +19,4 @@ pub write_standing-requires : goal.write_standing-requires
 write_standing-requires c = record { size_of = c.insert.ensures.layout.size; count_bound = omega (arith, inserted_few c.requires.in_order c.insert.ensures c.standing_word-count.ensures, c.requires.in_order.sound.size.limits.jobs_most) }
 
 pub returns : goal.returns
-returns c = add_spliced c.requires.in_order c.requires.fillable c.requires.j_value c.find_gap-gap.ensures c.insert.ensures c.standing_word-count.ensures c.write_standing.ensures (λ i. omega (arith, c.slice_known-3-1.given i))
+returns c = add_spliced c.requires.in_order c.requires.fillable c.requires.j_value c.find_gap-gap.ensures c.insert.ensures c.standing_word-count.ensures c.write_standing.ensures (λ i. omega (arith, c.type_inv.t i))

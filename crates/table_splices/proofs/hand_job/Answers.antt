@@ -23,7 +23,7 @@ job c = stands_job c.args.t.now c.args.s c.args.j c.requires.in_order.sound.size
 
 -- its holder is one of 1 to B
 bench : (c : After-holder-x) → BenchIn c.args.s c.holder-x.result
-bench c = holder_in_lem c.args.j c.requires.in_order (stood c) c.holder-x.ensures.value
+bench c = let b = decode c.args.t.now in holder_in_lem c.args.j c.requires.in_order (named_stands b c.args.j c.args.y (member_in c.args.y (names_of b c.args.j) c.requires.t)) c.holder-x.ensures.value
 
 pub holder-x-requires : goal.holder-x-requires
 holder-x-requires c = record { holds_board = sound_holds_board c.args.t.now c.args.s c.requires.in_order.sound; job_in = job (goal.at.holder-x-requires c).Start }
@@ -47,4 +47,4 @@ pub link-requires : goal.link-requires
 link-requires c = record { size_of = c.insert.ensures.layout.size; bench_in = bench (goal.at.link-requires c).After-holder-x; i_le_jobs = before_few c.find_gap-from.ensures; n_bound = c.read_record-old.ensures.small.next }
 
 pub returns : goal.returns
-returns c = hand_spliced c.requires.in_order c.requires.t c.holder-x.ensures.value c.if-x-y.false c.read_record-old.ensures c.find_gap-from.ensures c.find_gap-to.ensures c.insert.ensures c.link.ensures (λ i. omega (arith, c.slice_known-3-1.given i))
+returns c = hand_spliced c.requires.in_order c.requires.t c.holder-x.ensures.value c.if-x-y.false c.read_record-old.ensures c.find_gap-from.ensures c.find_gap-to.ensures c.insert.ensures c.link.ensures (λ i. omega (arith, c.type_inv.t i))

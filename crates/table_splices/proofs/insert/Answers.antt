@@ -5,11 +5,14 @@ use mathlib.Core.Logic.{inl, inr, ⊎_elim}
 use Rattle.table_board.proofs.RecordsAsBoard.{PlaceFor, chosen_small, name_small}
 use Rattle.table_splices.proofs.Spliced.{before_few, behind_small, fillable_bench, put_in}
 use Rattle.table_splices.proofs.insert.Goals as goal
-use Rattle.table_splices.proofs.insert.Goals.{Joined-first-holder}
+use Rattle.table_splices.proofs.insert.Goals.{Joined-first-holder, then-first-holder, else-first-holder}
 
 -- the word for the holder is chosen by the first bench
 word : (c : Joined-first-holder) → PlaceFor c.args.first c.args.holder c.if-first-holder.word
-word c = ⊎_elim (λ w. inl (w.0.taken, w.1)) (λ w. inr (w.0.left, w.1)) c.if-first-holder.branch
+word c = elim c.if-first-holder.branch [
+  | then-first-holder w ↦ inl (w.if-first-holder.true, w.word-is)
+  | else-first-holder w ↦ inr (w.if-first-holder.false, w.word-is)
+]
 
 pub write_record-requires : goal.write_record-requires
 write_record-requires c =

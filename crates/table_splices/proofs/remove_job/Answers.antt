@@ -37,7 +37,7 @@ standing_word-count-requires c = c.link.ensures.size
 -- the number read
 count : (c : After-standing_word-count) → (1 ≤ c.standing_word-count.result) × (c.standing_word-count.result ≤ c.args.s.jobs)
 count c =
-    removed_few c.args.j vacant c.holder-x.result c.find_gap-gap.result c.read_record-old.result.next c.requires.in_order c.requires.t c.write_record.ensures c.link.ensures c.standing_word-count.ensures
+    removed_few c.args.j vacant c.holder-x.result c.find_gap-gap.result.before c.read_record-old.result.next c.requires.in_order c.requires.t c.write_record.ensures c.link.ensures c.standing_word-count.ensures
 
 pub overflow_sub-count : goal.overflow_sub-count
 overflow_sub-count c = omega (arith, count (goal.at.overflow_sub-count c).After-standing_word-count)
@@ -46,4 +46,4 @@ pub write_standing-requires : goal.write_standing-requires
 write_standing-requires c = record { size_of = c.link.ensures.size; count_bound = omega (arith, count (goal.at.write_standing-requires c).After-standing_word-count, c.requires.in_order.sound.size.limits.jobs_most) }
 
 pub returns : goal.returns
-returns c = remove_spliced c.requires.in_order c.requires.t c.holder-x.ensures.value c.find_gap-gap.ensures c.read_record-old.ensures c.write_record.ensures c.link.ensures c.standing_word-count.ensures c.write_standing.ensures (λ i. omega (arith, c.slice_known-4-1.given i))
+returns c = remove_spliced c.requires.in_order c.requires.t c.holder-x.ensures.value c.find_gap-gap.ensures c.read_record-old.ensures c.write_record.ensures c.link.ensures c.standing_word-count.ensures c.write_standing.ensures (λ i. omega (arith, c.type_inv.t i))
