@@ -1,9 +1,8 @@
-use Prim.Native.Nat.{◌-◌}
 use native.Mathlib.Omega.{arith}
-use mathlib.Core.Logic.{⊎_elim}
 use Rattle.table_board.proofs.RecordsAsBoard.{sound_holds_board}
 use Rattle.sharing_chains.proofs.Copying.{jobs_start, jobs_turn, jobs_pass, jobs_end, found_stands, found_none}
 use Rattle.sharing_chains.proofs.copy_jobs.Goals as goal
+use Rattle.sharing_chains.proofs.copy_jobs.Goals.{then-holder-ne0, else-holder-ne0}
 
 pub loop-done-init : goal.loop-done-init
 loop-done-init c = jobs_start c.args.t.now c.args.next.now c.args.to.now c.requires.next_len c.requires.to_len
@@ -13,10 +12,10 @@ next-requires c = record { sound_table = c.requires.sound_table; t = found_stand
 
 pub loop-done-preserved : goal.loop-done-preserved
 loop-done-preserved c =
-    ⊎_elim
-    (λ w. rw (w.3, w.4) (jobs_turn c.loop-done.invariant (omega arith) w.2.ensures.stored w.1.ensures.value))
-    (λ w. rw (w.1, w.2) (jobs_pass c.loop-done.invariant (found_none (sound_holds_board _ _ c.requires.sound_table) c.holder-holder.ensures w.0.left)))
-    c.if-holder-ne0.branch
+    elim c.if-holder-ne0.branch [
+      | then-holder-ne0 w ↦ rw (w.next-is, w.to-is) (jobs_turn c.loop-done.invariant (omega arith) w.next.ensures.stored w.other-other.ensures.value)
+      | else-holder-ne0 w ↦ rw (w.next-is, w.to-is) (jobs_pass c.loop-done.invariant (found_none (sound_holds_board _ _ c.requires.sound_table) c.holder-holder.ensures w.if-holder-ne0.false))
+    ]
 
 pub returns : goal.returns
 returns c = jobs_end c.loop-done.invariant c.requires.sound_table.size (omega arith)

@@ -1,13 +1,11 @@
-use Prim.Native.Nat.{◌-◌}
 use native.Mathlib.Omega.{arith}
-use mathlib.Core.Logic.{⊎_elim}
 use Rattle.spec_table.specs.Table.{most_benches}
 use Rattle.spec_lists.proofs.Tests.{within_both}
 use Rattle.graph_lists.specs.Arrays.{at}
 use Rattle.sharing_visits.specs.ArrayChains.{Walkable}
 use Rattle.sharing_visits.proofs.Visiting.{walk_most, walked_start, walked_turn, walked_pass, walked_end}
 use Rattle.sharing_visits.proofs.walk_heavy.Goals as goal
-use Rattle.sharing_visits.proofs.walk_heavy.Goals.{In-loop-x}
+use Rattle.sharing_visits.proofs.walk_heavy.Goals.{In-loop-x, then-h-loads, else-h-loads}
 
 pub loop-x-init : goal.loop-x-init
 loop-x-init c = walked_start c.args.loads.now c.args.h c.benches-benches.result c.args.marks.now c.requires.marks
@@ -28,10 +26,10 @@ walk-requires c = record { bench_chains = c.requires.bench_chains; walkable = be
 
 pub loop-x-preserved : goal.loop-x-preserved
 loop-x-preserved c =
-    ⊎_elim
-    (λ w. rw w.4 (walked_turn c.loop-x.invariant c.loop-x-test.true w.3.last.1.1.1.1.0 w.0.taken w.3.ensures))
-    (λ w. rw w.1 (walked_pass c.loop-x.invariant c.loop-x-test.true w.0.left))
-    c.if-h-loads.branch
+    elim c.if-h-loads.branch [
+      | then-h-loads w ↦ rw w.marks-is (walked_turn c.loop-x.invariant c.loop-x-test.true w.walk.new.marks w.if-h-loads.true w.walk.ensures)
+      | else-h-loads w ↦ rw w.marks-is (walked_pass c.loop-x.invariant c.loop-x-test.true w.if-h-loads.false)
+    ]
 
 pub returns : goal.returns
 returns c = walked_end c.loop-x.invariant c.args.s c.benches-benches.ensures (omega arith)
