@@ -3,22 +3,16 @@ use Prim.Native.Nat.{ℕ, ◌+◌, ◌-◌, ◌≤◌}
 use native.Mathlib.Omega.{arith}
 use mathlib.Core.Path.{◌≡◌, refl, sym, ap, subst, ◌∙◌}
 use mathlib.Core.Bool.{Bool, true, false, not, ◌&&◌, false≢true}
-use mathlib.Core.List.{List, [], ◌∷◌}
+use mathlib.Core.List.{List}
 use lib.Dec.{T, leb}
 use mir.Val.{Val}
 use denote.Laws.{Is}
 use denote.Struct.Laws as SL
-use types.Run.{OneOf}
-use denote.Enum.Declared.{tag_of}
-use Rattle.spec_lists.specs.Lists.{member}
 use Rattle.spec_lists.proofs.Tests.{tests_same, not_false, not→false, true→T, T→true, T-leb, leb_T}
-use Rattle.spec_lists.proofs.NumberLists.{in_member}
 use Rattle.spec_calls.specs.Tally.{most_count, counts_fit, raised, noted}
 use Rattle.spec_calls.proofs.Tally.{Fits32, counts_fit_lem, is_change, other_noted}
 use Rattle.board_answers.specs.Answered.{answer_of}
 use Rattle.board_answers.specs.declared.Answer.{Answer}
-use Rattle.board_answers.specs.contracts.Answer as told
-use Rattle.board_answers.proofs.Accepted.{of_arm}
 use Rattle.board_answers.specs.declared.Answer.TheVariants.{Refused, Blanked, Arrived, Closed, Load, Heaviest, TightSet, Sound, Level, NotLevel, Levelled, Stopped, Sheet, Between, NoneBetween}
 use Rattle.board_tally.specs.contracts.Tally as tally-type
 use Rattle.board_tally.proofs.Tally.TheLaws as tally-laws
@@ -76,27 +70,23 @@ module _ (t : Tally) (added : Added) (fit : Bool) (e : fit ≡ counts_fit (more 
         let f : counts_fit (more t added) ≡ false = sym e ∙ not→false fit (true→T (not fit) h) in
         record { tally = rw (n, f); refusal = rw (n, f) }
 
--- the tags of all answers but an arrival's and a closing's
-abbrev others : List ℕ
-others = 0 ∷ 1 ∷ 4 ∷ 5 ∷ 6 ∷ 7 ∷ 8 ∷ 9 ∷ 10 ∷ 11 ∷ 12 ∷ 13 ∷ 14 ∷ []
-
--- none of those is an arrival's or a closing's
-no_change : (a : Answer) → T (member (tag_of told.the_type a) others) → is_change (answer_of a) ≡ false
-no_change (Refused r) h = refl
-no_change Blanked h = refl
-no_change (Arrived holder rose moved) h = absurd h
-no_change (Closed fell moved) h = absurd h
-no_change (Load n) h = refl
-no_change (Heaviest n) h = refl
-no_change (TightSet benches inside) h = refl
-no_change Sound h = refl
-no_change Level h = refl
-no_change NotLevel h = refl
-no_change (Levelled paths) h = refl
-no_change (Stopped paths) h = refl
-no_change (Sheet length) h = refl
-no_change (Between job records) h = refl
-no_change (NoneBetween records) h = refl
+-- no answer but an arrival's and a closing's changes a count
+no_change : (a : Answer) → ((h r m : ℕ) → a ≡ Arrived h r m → ⊥) → ((f m : ℕ) → a ≡ Closed f m → ⊥) → is_change (answer_of a) ≡ false
+no_change (Refused r) h k = refl
+no_change Blanked h k = refl
+no_change (Arrived holder rose moved) h k = absurd (h holder rose moved refl)
+no_change (Closed fell moved) h k = absurd (k fell moved refl)
+no_change (Load n) h k = refl
+no_change (Heaviest n) h k = refl
+no_change (TightSet benches inside) h k = refl
+no_change Sound h k = refl
+no_change Level h k = refl
+no_change NotLevel h k = refl
+no_change (Levelled paths) h k = refl
+no_change (Stopped paths) h k = refl
+no_change (Sheet length) h k = refl
+no_change (Between job records) h k = refl
+no_change (NoneBetween records) h k = refl
 
 -- an arrival's answer adds to its own count and to the jobs moved ..
 pub arrival_adds : {a : Answer} {holder rose moved : ℕ} → a ≡ Arrived holder rose moved → RaisesBy (answer_of a) (record { arrivals = 1; closings = 0; moved = moved })
@@ -113,11 +103,10 @@ closing_adds e t h =
     ap (λ a. noted (tally_of t) (answer_of a)) e ∙ rw z
 
 -- .. and any other adds nothing
-pub other_adds : (a : Answer) → OneOf others (tag_of told.the_type a) → RaisesBy (answer_of a) (record { arrivals = 0; closings = 0; moved = 0 })
-other_adds a k t h =
-    let x = tag_of told.the_type a in
+pub other_adds : (a : Answer) → ((h r m : ℕ) → a ≡ Arrived h r m → ⊥) → ((f m : ℕ) → a ≡ Closed f m → ⊥) → RaisesBy (answer_of a) (record { arrivals = 0; closings = 0; moved = 0 })
+other_adds a j k t h =
     let l : t.arrivals + 0 ≡ t.arrivals = omega arith in
     let m : t.closings + 0 ≡ t.closings = omega arith in
     let n : t.moved + 0 ≡ t.moved = omega arith in
     let f : counts_fit (tally_of t) ≡ true = T→true (counts_fit (tally_of t)) h in
-    other_noted (tally_of t) (answer_of a) (no_change a (in_member x others (of_arm x others k))) ∙ rw (l, m, n, f)
+    other_noted (tally_of t) (answer_of a) (no_change a j k) ∙ rw (l, m, n, f)
