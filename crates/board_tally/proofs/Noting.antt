@@ -2,13 +2,13 @@
 use Prim.Native.Nat.{ℕ, ◌+◌, ◌-◌, ◌≤◌}
 use native.Mathlib.Omega.{arith}
 use mathlib.Core.Path.{◌≡◌, refl, sym, ap, subst, ◌∙◌}
-use mathlib.Core.Bool.{Bool, true, false, not, ◌&&◌, false≢true}
+use mathlib.Core.Bool.{Bool, true, false, ◌&&◌, false≢true}
 use mathlib.Core.List.{List}
 use lib.Dec.{T, leb}
 use mir.Val.{Val}
 use denote.Laws.{Is}
 use denote.Struct.Laws as SL
-use Rattle.spec_lists.proofs.Tests.{tests_same, not_false, not→false, true→T, T→true, T-leb, leb_T}
+use Rattle.spec_lists.proofs.Tests.{tests_same, true→T, T→true, T-leb, leb_T}
 use Rattle.spec_calls.specs.Tally.{most_count, counts_fit, raised, noted}
 use Rattle.spec_calls.proofs.Tally.{Fits32, counts_fit_lem, is_change, other_noted}
 use Rattle.board_answers.specs.Answered.{answer_of}
@@ -30,21 +30,21 @@ room_is n k h =
     )
 
 -- the first count has no room ..
-pub first_full : (x y z r : Bool) → r ≡ x → not r ≡ true → false ≡ (x && y && z)
+pub first_full : (x y z r : Bool) → r ≡ x → r ≡ false → false ≡ (x && y && z)
 first_full x y z false e h = λ i. e i && y && z
-first_full x y z true e h = absurd (false≢true h)
+first_full x y z true e h = absurd (false≢true (sym h))
 
 -- .. or the second ..
-pub second_full : (x y z r s : Bool) → r ≡ x → not r ≡ false → s ≡ y → not s ≡ true → false ≡ (x && y && z)
+pub second_full : (x y z r s : Bool) → r ≡ x → r ≡ true → s ≡ y → s ≡ false → false ≡ (x && y && z)
 second_full x y z true false e h f g = λ i. e i && f i && z
-second_full x y z true true e h f g = absurd (false≢true g)
-second_full x y z false s e h f g = absurd (false≢true (sym h))
+second_full x y z true true e h f g = absurd (false≢true (sym g))
+second_full x y z false s e h f g = absurd (false≢true h)
 
 -- .. or it is as the third says
-pub third_tells : (x y z r s u : Bool) → r ≡ x → not r ≡ false → s ≡ y → not s ≡ false → u ≡ z → u ≡ (x && y && z)
+pub third_tells : (x y z r s u : Bool) → r ≡ x → r ≡ true → s ≡ y → s ≡ true → u ≡ z → u ≡ (x && y && z)
 third_tells x y z true true u e h f g k = λ i. e i && f i && k i
-third_tells x y z false s u e h f g k = absurd (false≢true (sym h))
-third_tells x y z true false u e h f g k = absurd (false≢true (sym g))
+third_tells x y z false s u e h f g k = absurd (false≢true h)
+third_tells x y z true false u e h f g k = absurd (false≢true g)
 
 -- a tally that is passed has counts of 32 bits
 pub tally_fits : (t : Tally) (vs : List Val) → Is tally-type.the_row t vs → T (counts_fit (tally_of t))
@@ -54,20 +54,20 @@ tally_fits t vs is =
 
 module _ (t : Tally) (added : Added) (fit : Bool) (e : fit ≡ counts_fit (more t added)) where
   -- the raised counts have 32 bits
-  pub raises_fit : not fit ≡ false → Fits32 (more t added)
-  raises_fit h = (counts_fit_lem (more t added)).0 (subst T e (not_false fit h))
+  pub raises_fit : fit ≡ true → Fits32 (more t added)
+  raises_fit h = (counts_fit_lem (more t added)).0 (subst T e (true→T fit h))
 
   module _ (a : Answer) (n : noted (tally_of t) (answer_of a) ≡ raised (tally_of t) (more t added)) where
     -- all three are raised ..
-    pub counted_noted : not fit ≡ false → NotedAs (noted (tally_of t) (answer_of a)) (record { tally = record { arrivals = t.arrivals + added.arrivals; closings = t.closings + added.closings; moved = t.moved + added.moved }; note = Counted })
+    pub counted_noted : fit ≡ true → NotedAs (noted (tally_of t) (answer_of a)) (record { tally = record { arrivals = t.arrivals + added.arrivals; closings = t.closings + added.closings; moved = t.moved + added.moved }; note = Counted })
     counted_noted h =
-        let f : counts_fit (more t added) ≡ true = sym e ∙ T→true fit (not_false fit h) in
+        let f : counts_fit (more t added) ≡ true = sym e ∙ h in
         record { tally = rw (n, f); refusal = rw (n, f) }
 
     -- .. or it is 9, and the tally is left
-    pub full_noted : not fit ≡ true → NotedAs (noted (tally_of t) (answer_of a)) (record { tally = t; note = Full })
+    pub full_noted : fit ≡ false → NotedAs (noted (tally_of t) (answer_of a)) (record { tally = t; note = Full })
     full_noted h =
-        let f : counts_fit (more t added) ≡ false = sym e ∙ not→false fit (true→T (not fit) h) in
+        let f : counts_fit (more t added) ≡ false = sym e ∙ h in
         record { tally = rw (n, f); refusal = rw (n, f) }
 
 -- no answer but an arrival's and a closing's changes a count
