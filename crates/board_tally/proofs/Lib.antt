@@ -1,4 +1,3 @@
--- Noting an answer, and what the walks by hand share.
+-- Noting an answer, and the contracts as the equality of lists sees them.
 pub mod Noting
-pub mod Machine
 pub mod Contracts

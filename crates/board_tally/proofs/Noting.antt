@@ -2,23 +2,17 @@
 use Prim.Native.Nat.{ℕ, ◌+◌, ◌-◌, ◌≤◌}
 use native.Mathlib.Omega.{arith}
 use mathlib.Core.Path.{◌≡◌, refl, sym, ap, subst, ◌∙◌}
-use mathlib.Core.Bool.{Bool, true, false, not, ◌&&◌, false≢true}
-use mathlib.Core.List.{List, [], ◌∷◌}
+use mathlib.Core.Bool.{Bool, true, false, ◌&&◌, false≢true}
+use mathlib.Core.List.{List}
 use lib.Dec.{T, leb}
 use mir.Val.{Val}
 use denote.Laws.{Is}
 use denote.Struct.Laws as SL
-use types.Run.{OneOf}
-use denote.Enum.Declared.{tag_of}
-use Rattle.spec_lists.specs.Lists.{member}
-use Rattle.spec_lists.proofs.Tests.{tests_same, not_false, not→false, true→T, T→true, T-leb, leb_T}
-use Rattle.spec_lists.proofs.NumberLists.{in_member}
+use Rattle.spec_lists.proofs.Tests.{tests_same, true→T, T→true, T-leb, leb_T}
 use Rattle.spec_calls.specs.Tally.{most_count, counts_fit, raised, noted}
 use Rattle.spec_calls.proofs.Tally.{Fits32, counts_fit_lem, is_change, other_noted}
 use Rattle.board_answers.specs.Answered.{answer_of}
 use Rattle.board_answers.specs.declared.Answer.{Answer}
-use Rattle.board_answers.specs.contracts.Answer as told
-use Rattle.board_answers.proofs.Accepted.{of_arm}
 use Rattle.board_answers.specs.declared.Answer.TheVariants.{Refused, Blanked, Arrived, Closed, Load, Heaviest, TightSet, Sound, Level, NotLevel, Levelled, Stopped, Sheet, Between, NoneBetween}
 use Rattle.board_tally.specs.contracts.Tally as tally-type
 use Rattle.board_tally.proofs.Tally.TheLaws as tally-laws
@@ -36,21 +30,21 @@ room_is n k h =
     )
 
 -- the first count has no room ..
-pub first_full : (x y z r : Bool) → r ≡ x → not r ≡ true → false ≡ (x && y && z)
+pub first_full : (x y z r : Bool) → r ≡ x → r ≡ false → false ≡ (x && y && z)
 first_full x y z false e h = λ i. e i && y && z
-first_full x y z true e h = absurd (false≢true h)
+first_full x y z true e h = absurd (false≢true (sym h))
 
 -- .. or the second ..
-pub second_full : (x y z r s : Bool) → r ≡ x → not r ≡ false → s ≡ y → not s ≡ true → false ≡ (x && y && z)
+pub second_full : (x y z r s : Bool) → r ≡ x → r ≡ true → s ≡ y → s ≡ false → false ≡ (x && y && z)
 second_full x y z true false e h f g = λ i. e i && f i && z
-second_full x y z true true e h f g = absurd (false≢true g)
-second_full x y z false s e h f g = absurd (false≢true (sym h))
+second_full x y z true true e h f g = absurd (false≢true (sym g))
+second_full x y z false s e h f g = absurd (false≢true h)
 
 -- .. or it is as the third says
-pub third_tells : (x y z r s u : Bool) → r ≡ x → not r ≡ false → s ≡ y → not s ≡ false → u ≡ z → u ≡ (x && y && z)
+pub third_tells : (x y z r s u : Bool) → r ≡ x → r ≡ true → s ≡ y → s ≡ true → u ≡ z → u ≡ (x && y && z)
 third_tells x y z true true u e h f g k = λ i. e i && f i && k i
-third_tells x y z false s u e h f g k = absurd (false≢true (sym h))
-third_tells x y z true false u e h f g k = absurd (false≢true (sym g))
+third_tells x y z false s u e h f g k = absurd (false≢true h)
+third_tells x y z true false u e h f g k = absurd (false≢true g)
 
 -- a tally that is passed has counts of 32 bits
 pub tally_fits : (t : Tally) (vs : List Val) → Is tally-type.the_row t vs → T (counts_fit (tally_of t))
@@ -60,43 +54,39 @@ tally_fits t vs is =
 
 module _ (t : Tally) (added : Added) (fit : Bool) (e : fit ≡ counts_fit (more t added)) where
   -- the raised counts have 32 bits
-  pub raises_fit : not fit ≡ false → Fits32 (more t added)
-  raises_fit h = (counts_fit_lem (more t added)).0 (subst T e (not_false fit h))
+  pub raises_fit : fit ≡ true → Fits32 (more t added)
+  raises_fit h = (counts_fit_lem (more t added)).0 (subst T e (true→T fit h))
 
   module _ (a : Answer) (n : noted (tally_of t) (answer_of a) ≡ raised (tally_of t) (more t added)) where
     -- all three are raised ..
-    pub counted_noted : not fit ≡ false → NotedAs (noted (tally_of t) (answer_of a)) (record { tally = record { arrivals = t.arrivals + added.arrivals; closings = t.closings + added.closings; moved = t.moved + added.moved }; note = Counted })
+    pub counted_noted : fit ≡ true → NotedAs (noted (tally_of t) (answer_of a)) (record { tally = record { arrivals = t.arrivals + added.arrivals; closings = t.closings + added.closings; moved = t.moved + added.moved }; note = Counted })
     counted_noted h =
-        let f : counts_fit (more t added) ≡ true = sym e ∙ T→true fit (not_false fit h) in
+        let f : counts_fit (more t added) ≡ true = sym e ∙ h in
         record { tally = rw (n, f); refusal = rw (n, f) }
 
     -- .. or it is 9, and the tally is left
-    pub full_noted : not fit ≡ true → NotedAs (noted (tally_of t) (answer_of a)) (record { tally = t; note = Full })
+    pub full_noted : fit ≡ false → NotedAs (noted (tally_of t) (answer_of a)) (record { tally = t; note = Full })
     full_noted h =
-        let f : counts_fit (more t added) ≡ false = sym e ∙ not→false fit (true→T (not fit) h) in
+        let f : counts_fit (more t added) ≡ false = sym e ∙ h in
         record { tally = rw (n, f); refusal = rw (n, f) }
 
--- the tags of all answers but an arrival's and a closing's
-abbrev others : List ℕ
-others = 0 ∷ 1 ∷ 4 ∷ 5 ∷ 6 ∷ 7 ∷ 8 ∷ 9 ∷ 10 ∷ 11 ∷ 12 ∷ 13 ∷ 14 ∷ []
-
--- none of those is an arrival's or a closing's
-no_change : (a : Answer) → T (member (tag_of told.the_type a) others) → is_change (answer_of a) ≡ false
-no_change (Refused r) h = refl
-no_change Blanked h = refl
-no_change (Arrived holder rose moved) h = absurd h
-no_change (Closed fell moved) h = absurd h
-no_change (Load n) h = refl
-no_change (Heaviest n) h = refl
-no_change (TightSet benches inside) h = refl
-no_change Sound h = refl
-no_change Level h = refl
-no_change NotLevel h = refl
-no_change (Levelled paths) h = refl
-no_change (Stopped paths) h = refl
-no_change (Sheet length) h = refl
-no_change (Between job records) h = refl
-no_change (NoneBetween records) h = refl
+-- no answer but an arrival's and a closing's changes a count
+no_change : (a : Answer) → ((h r m : ℕ) → a ≡ Arrived h r m → ⊥) → ((f m : ℕ) → a ≡ Closed f m → ⊥) → is_change (answer_of a) ≡ false
+no_change (Refused r) h k = refl
+no_change Blanked h k = refl
+no_change (Arrived holder rose moved) h k = absurd (h holder rose moved refl)
+no_change (Closed fell moved) h k = absurd (k fell moved refl)
+no_change (Load n) h k = refl
+no_change (Heaviest n) h k = refl
+no_change (TightSet benches inside) h k = refl
+no_change Sound h k = refl
+no_change Level h k = refl
+no_change NotLevel h k = refl
+no_change (Levelled paths) h k = refl
+no_change (Stopped paths) h k = refl
+no_change (Sheet length) h k = refl
+no_change (Between job records) h k = refl
+no_change (NoneBetween records) h k = refl
 
 -- an arrival's answer adds to its own count and to the jobs moved ..
 pub arrival_adds : {a : Answer} {holder rose moved : ℕ} → a ≡ Arrived holder rose moved → RaisesBy (answer_of a) (record { arrivals = 1; closings = 0; moved = moved })
@@ -113,11 +103,10 @@ closing_adds e t h =
     ap (λ a. noted (tally_of t) (answer_of a)) e ∙ rw z
 
 -- .. and any other adds nothing
-pub other_adds : (a : Answer) → OneOf others (tag_of told.the_type a) → RaisesBy (answer_of a) (record { arrivals = 0; closings = 0; moved = 0 })
-other_adds a k t h =
-    let x = tag_of told.the_type a in
+pub other_adds : (a : Answer) → ((h r m : ℕ) → a ≡ Arrived h r m → ⊥) → ((f m : ℕ) → a ≡ Closed f m → ⊥) → RaisesBy (answer_of a) (record { arrivals = 0; closings = 0; moved = 0 })
+other_adds a j k t h =
     let l : t.arrivals + 0 ≡ t.arrivals = omega arith in
     let m : t.closings + 0 ≡ t.closings = omega arith in
     let n : t.moved + 0 ≡ t.moved = omega arith in
     let f : counts_fit (tally_of t) ≡ true = T→true (counts_fit (tally_of t)) h in
-    other_noted (tally_of t) (answer_of a) (no_change a (in_member x others (of_arm x others k))) ∙ rw (l, m, n, f)
+    other_noted (tally_of t) (answer_of a) (no_change a j k) ∙ rw (l, m, n, f)

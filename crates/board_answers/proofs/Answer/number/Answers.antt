@@ -8,4 +8,4 @@ pub returns-in-Refused : goal.returns-in-Refused
 returns-in-Refused c = c.number.ensures ∙ ap (λ a. returned (answer_of a)) (sym c.in-Refused.is)
 
 pub returns-in_default : goal.returns-in_default
-returns-in_default c = others_zero c.args.self c.in_default.keys2
+returns-in_default c = others_zero c.args.self c.in_default.not-Refused

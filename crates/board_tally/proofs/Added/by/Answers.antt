@@ -9,4 +9,4 @@ pub returns-in-Closed : goal.returns-in-Closed
 returns-in-Closed c = closing_adds c.in-Closed.is
 
 pub returns-in_default : goal.returns-in_default
-returns-in_default c = other_adds c.args.a c.in_default.keys3
+returns-in_default c = other_adds c.args.a c.in_default.not-Arrived c.in_default.not-Closed

@@ -13,14 +13,14 @@ room n k = leb (n + k) most_count
 pub returns-then-not-has_room : goal.returns-then-not-has_room
 returns-then-not-has_room c =
     first_full (room c.args.self.arrivals c.args.added.arrivals) (room c.args.self.closings c.args.added.closings) (room c.args.self.moved c.args.added.moved)
-    c.has_room.result c.has_room.ensures c.if-not-has_room.true-raw
+    c.has_room.result c.has_room.ensures c.if-not-has_room.true
 
 pub returns-then-not-has_room-2 : goal.returns-then-not-has_room-2
 returns-then-not-has_room-2 c =
     second_full (room c.args.self.arrivals c.args.added.arrivals) (room c.args.self.closings c.args.added.closings) (room c.args.self.moved c.args.added.moved)
-    c.has_room.result c.has_room-2.result c.has_room.ensures c.if-not-has_room.false-raw c.has_room-2.ensures c.if-not-has_room-2.true-raw
+    c.has_room.result c.has_room-2.result c.has_room.ensures c.if-not-has_room.false c.has_room-2.ensures c.if-not-has_room-2.true
 
 pub returns : goal.returns
 returns c =
     third_tells (room c.args.self.arrivals c.args.added.arrivals) (room c.args.self.closings c.args.added.closings) (room c.args.self.moved c.args.added.moved)
-    c.has_room.result c.has_room-2.result c.has_room-3.result c.has_room.ensures c.if-not-has_room.false-raw c.has_room-2.ensures c.if-not-has_room-2.false-raw c.has_room-3.ensures
+    c.has_room.result c.has_room-2.result c.has_room-3.result c.has_room.ensures c.if-not-has_room.false c.has_room-2.ensures c.if-not-has_room-2.false c.has_room-3.ensures

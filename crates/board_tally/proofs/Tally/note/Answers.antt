@@ -7,13 +7,13 @@ use Rattle.board_tally.proofs.Tally.note.Goals as goal
 use Rattle.board_tally.proofs.Tally.note.Goals.{Else-not-fits}
 
 pub returns-then-not-fits : goal.returns-then-not-fits
-returns-then-not-fits c = full_noted c.args.self c.by-added.result c.fits2.result c.fits2.ensures c.args.a (c.by-added.ensures c.args.self (tally_fits c.args.self _ c.well-formed.0)) c.if-not-fits.true-raw
+returns-then-not-fits c = full_noted c.args.self c.by-added.result c.fits.result c.fits.ensures c.args.a (c.by-added.ensures c.args.self (tally_fits c.args.self _ c.well_formed.0)) c.if-not-fits.true
 
 -- the raised counts have 32 bits
-fit : (c : Else-not-fits) → let b = c in Fits32 (more b.args.self b.by.result)
+fit : (c : Else-not-fits) → let b = c in Fits32 (more b.args.self b.by-added.result)
 fit c =
     let b = c in
-    raises_fit b.args.self b.by.result c.fits2.result c.fits2.ensures c.if-not-fits.false-raw
+    raises_fit b.args.self b.by-added.result c.fits.result c.fits.ensures c.if-not-fits.false
 
 pub overflow_cast-self : goal.overflow_cast-self
 overflow_cast-self c = omega (arith, (fit (goal.at.overflow_cast-self c).Else-not-fits).arrivals)
@@ -34,4 +34,4 @@ pub overflow_add-self-3 : goal.overflow_add-self-3
 overflow_add-self-3 c = record { fits = (fit (goal.at.overflow_add-self-3 c).Else-not-fits).moved }
 
 pub returns : goal.returns
-returns c = counted_noted c.args.self c.by-added.result c.fits2.result c.fits2.ensures c.args.a (c.by-added.ensures c.args.self (tally_fits c.args.self _ c.well-formed.0)) c.if-not-fits.false-raw
+returns c = counted_noted c.args.self c.by-added.result c.fits.result c.fits.ensures c.args.a (c.by-added.ensures c.args.self (tally_fits c.args.self _ c.well_formed.0)) c.if-not-fits.false
