@@ -1,10 +1,5 @@
 -- Chunks of input, and what is left of them.
-use Prim.Native.Nat.{ℕ, ◌+◌, ◌-◌, ◌≤◌, ◌<◌}
-use native.Mathlib.Omega.{arith}
-use mathlib.Core.Path.{◌≡◌, refl, ◌∙◌}
-use mathlib.Core.List.{List, ◌++◌}
-use lib.ListN.{length, take, drop, length-append, length-drop}
-use lib.Seq.{length-take-le}
+use Rattle.std.proofs.Common.{ℕ, ◌+◌, ◌-◌, ◌≤◌, ◌<◌, ◌≡◌, refl, ◌∙◌, List, ◌++◌, length, take, drop, arith, length-append, length-drop, length-take-le}
 use Rattle.counter_answer_lines.specs.AnswerLines.{line_most}
 use Rattle.counter_feed.specs.declared.Reader.{Reader}
 use Rattle.counter_feed.specs.Feeding.{Stands}

@@ -1,4 +1,4 @@
-// The counter program between two file descriptors: it reads and writes, and `counter_feed` does the rest.
+// The counter program between a reader and a writer: it reads and writes, and `counter_feed` does the rest.
 #![tactic(auto)]
 
 ghost use Rattle.std.specs.Prelude.{◌≡◌, ◌≤◌, length};
@@ -8,6 +8,7 @@ ghost use Rattle.counter_feed.specs.Feeding.{kept_most, Stands};
 ghost use Rattle.counter_io.specs.Serving.{Serves};
 
 use counter_feed::Reader;
+use std::io::{Read, Write};
 
 // The reader behind what was answered of a chunk, how many bytes that are, and whether the answers could be written.
 #[derive(Drop)]
@@ -31,24 +32,29 @@ fn line_bytes() -> [u8; Reader::KEPT_MOST]
     [0; Reader::KEPT_MOST]
 }
 
+// Makes 65536 bytes, which loops that move much data want.
+fn large_buffer() -> [u8; 65536]
+    ensures { length result ≡ 65536 }
+{
+    [0; 65536]
+}
+
 // Reads once, so many bytes at the most; 0 where the input ends or can't be read.
-fn read_some(input: i32, chunk: &mut [u8], most: usize) -> usize
+fn read_some<R: Read>(input: &mut R, chunk: &mut [u8], most: usize) -> usize
     ensures { result ≤ length chunk.new }
 {
     if most < chunk.len() {
         let part = &mut chunk[..most];
-        let got = libc::read(input, part);
-        return io::count(got, part);
+        return input.read(part).unwrap_or(0);
     }
-    let got = libc::read(input, chunk);
-    io::count(got, chunk)
+    input.read(chunk).unwrap_or(0)
 }
 
 // Answers the beginning of a chunk. What is answered is written before more is taken, so that each answer appears
 // as soon as its line is complete.
-fn answer_some(
+fn answer_some<W: Write>(
     r: Reader,
-    output: i32,
+    output: &mut W,
     chunk: &[u8],
     bytes: &mut [u8],
     line: &mut [u8],
@@ -60,7 +66,7 @@ fn answer_some(
 {
     let fed = counter_feed::feed(r, chunk, bytes, line, out);
     let written = fed.written;
-    let open = io::write_all(output, &out[..written]);
+    let open = output.write_all(&out[..written]).is_ok();
     let reader = fed.reader;
     Served {
         reader,
@@ -70,9 +76,9 @@ fn answer_some(
 }
 
 // Answers all of a chunk.
-fn answer(
+fn answer<W: Write>(
     r: Reader,
-    output: i32,
+    output: &mut W,
     chunk: &[u8],
     bytes: &mut [u8],
     line: &mut [u8],
@@ -100,10 +106,10 @@ fn answer(
 }
 
 // Reads once and answers; used is 0 where nothing more can be read or written.
-fn read_and_answer(
+fn read_and_answer<R: Read, W: Write>(
     r: Reader,
-    input: i32,
-    output: i32,
+    input: &mut R,
+    output: &mut W,
     most: usize,
     bytes: &mut [u8],
     line: &mut [u8],
@@ -136,9 +142,9 @@ fn read_and_answer(
 
 // Reads to the end of the input, at most so many bytes at a time, and answers. The loop counts down from a number
 // that no run uses up.
-fn converse(
-    input: i32,
-    output: i32,
+fn converse<R: Read, W: Write>(
+    input: &mut R,
+    output: &mut W,
     most: usize,
     bytes: &mut [u8],
     line: &mut [u8],
@@ -165,19 +171,19 @@ fn converse(
 }
 
 // Answers a last line without a line feed.
-fn end(r: Reader, output: i32, out: &mut [u8])
+fn end<W: Write>(r: Reader, output: &mut W, out: &mut [u8])
     requires { line_most ≤ length out.old }
 {
     let n = counter_feed::finish(r, out);
-    io::write_all(output, &out[..n]);
+    let _ = output.write_all(&out[..n]);
 }
 
 // Runs the counter program, which reads at most so many bytes at a time. An answer that can't be written ends it.
-pub fn serve(input: i32, output: i32, most: usize) {
+pub fn serve<R: Read, W: Write>(input: &mut R, output: &mut W, most: usize) {
     let mut bytes = own_bytes();
     let mut line = line_bytes();
-    let mut chunk = io::large_buffer();
-    let mut out = io::large_buffer();
+    let mut chunk = large_buffer();
+    let mut out = large_buffer();
     let s = converse(
         input, output, most, &mut bytes, &mut line, &mut chunk, &mut out,
     );

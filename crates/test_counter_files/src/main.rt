@@ -5,30 +5,38 @@
 // and 5 are the heaviest, and those below them have to be shared as well as if they stood alone.
 #![tactic(auto)]
 
-use libc::STDOUT_FILENO;
+use std::env::{Env, FillError};
+use std::fs::{File, Files};
+use std::io::{self, Eprint, Print};
 
-fn serve_file(path: &[u8], most: usize) {
-    let fd = os::open_read(path);
-    if fd < 0 {
-        os::fail(path);
-        return;
+fn serve_file<R: Files + Print + Eprint>(rt: &R, path: &str, most: usize) -> io::Result<()> {
+    match File::open(rt, path) {
+        Err(e) => eprintln!(rt; "{path}: {e}"),
+        Ok(mut file) => {
+            counter_io::serve(&mut file, &mut io::writer(rt), most);
+            Ok(())
+        }
     }
-    counter_io::serve(fd, STDOUT_FILENO, most);
-    libc::close(fd);
 }
 
-fn serve_argument(i: usize) {
-    let mut path = io::buffer();
-    let n = os::arg(i, &mut path);
-    serve_file(&path[..n], 65536);
-    serve_file(&path[..n], 1);
+// Gives an argument, in the room lent; none where there are no more. One that is too long for a path, or no text,
+// counts as empty.
+fn argument<'a>(rt: &impl Env, i: usize, room: &'a mut [u8; 4096]) -> Option<&'a str> {
+    match rt.arg(i, room) {
+        Ok(n) => Some(std::str::from_utf8(&room[..n]).unwrap_or("")),
+        Err(FillError::TooLong) => Some(""),
+        Err(FillError::NotPresent) => None,
+    }
 }
 
-fn main() {
-    let count = os::arg_count();
-    let mut i = 1;
-    while i < count {
-        serve_argument(i);
-        i += 1;
+fn main(rt: HostRuntime) -> io::Result<()> {
+    let mut room = [0; 4096];
+    for i in 1..usize::MAX {
+        let Some(path) = argument(&rt, i, &mut room) else {
+            break;
+        };
+        serve_file(&rt, path, 65536)?;
+        serve_file(&rt, path, 1)?;
     }
+    Ok(())
 }

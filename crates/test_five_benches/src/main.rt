@@ -8,7 +8,7 @@ ghost use Rattle.std.specs.Prelude.{◌<◌, ◌≤◌};
 
 use board_answers::Answer;
 use least::Least;
-use libc::STDOUT_FILENO;
+use std::io::{self, Print};
 
 mod least;
 
@@ -209,20 +209,20 @@ fn next_order(order: &mut [u8; JOBS]) -> usize {
     k - 1
 }
 
-fn print_count(n: u64, text: &[u8]) {
-    io::print_decimal(STDOUT_FILENO, n);
-    io::write_all(STDOUT_FILENO, text);
+fn print_count(rt: &impl Print, n: u64, text: &str) -> io::Result<()> {
+    print!(rt; "{n}{text}")
 }
 
-fn report(orders: u64, uneven: u64, compared: u64, other: u64) {
-    print_count(orders, b" orders, ");
-    print_count(uneven, b" that do not end with every load 2\n");
-    print_count(compared, b" tables on the way, with ");
-    print_count(least::SETS as u64, b" sets of jobs: ");
+fn report(rt: &impl Print, orders: u64, uneven: u64, compared: u64, other: u64) -> io::Result<()> {
+    print_count(rt, orders, " orders, ")?;
+    print_count(rt, uneven, " that do not end with every load 2\n")?;
+    print_count(rt, compared, " tables on the way, with ")?;
+    print_count(rt, least::SETS as u64, " sets of jobs: ")?;
     print_count(
+        rt,
         other,
-        b" with other jobs, or a heaviest load or an overhang that is not the second solver's least\n",
-    );
+        " with other jobs, or a heaviest load or an overhang that is not the second solver's least\n",
+    )
 }
 
 fn blank_tables() -> [u8; TABLES] {
@@ -233,7 +233,7 @@ fn blank_tables() -> [u8; TABLES] {
     tables
 }
 
-fn main() {
+fn main(rt: HostRuntime) -> io::Result<()> {
     let solved = least::of_every_set();
     let mut tables = blank_tables();
     let mut order = [1, 2, 3, 4, 5, 6, 7, 8, 9, 10];
@@ -253,5 +253,5 @@ fn main() {
         orders += 1;
         place = next_order(&mut order);
     }
-    report(orders, uneven, compared, other);
+    report(&rt, orders, uneven, compared, other)
 }

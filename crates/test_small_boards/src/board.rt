@@ -5,7 +5,7 @@ use test_solver::{Book, bytes};
 // No board here has more jobs.
 pub const MOST_JOBS: usize = 8;
 
-#[derive(Drop)]
+#[derive(Clone, Copy)]
 pub struct Board {
     // The table is the first `length` bytes.
     pub table: Table,

@@ -4,7 +4,7 @@ use board_answers::Answer;
 use test_solver::bytes;
 use test_solver::bytes::{SPACE, Table};
 
-#[derive(Drop)]
+#[derive(Clone, Copy)]
 pub enum Call {
     Blank(usize, usize),
     Arrival(usize, usize, usize),
@@ -20,7 +20,7 @@ pub enum Call {
 pub const NONE: usize = 1000;
 
 // What a call left and answered: the board, the list, the number that it returned, and its values.
-#[derive(Drop)]
+#[derive(Clone, Copy)]
 pub struct Reply {
     pub board: Board,
     pub list: Table,

@@ -9,8 +9,8 @@
 
 use board::{Board, MOST_JOBS};
 use counts::Counts;
-use libc::STDOUT_FILENO;
 use outcomes::Outcome;
+use std::io::{self, Print};
 use test_solver::bit;
 
 mod arrivals_and_closings;
@@ -103,30 +103,31 @@ fn run(seed: u64, before: Counts) -> Counts {
 }
 
 // Prints a byte of the report, or the count for a '#'.
-fn print_byte(byte: u8, count: u64) {
+fn print_byte(rt: &impl Print, byte: u8, count: u64) -> io::Result<()> {
     let text = [byte];
     if byte == b'#' {
-        io::print_decimal(STDOUT_FILENO, count);
+        print!(rt; "{count}")
     } else {
-        io::write_all(STDOUT_FILENO, &text);
+        rt.write_all(&text)
     }
 }
 
 // Prints the report, with the next count for each '#'.
-fn print(counts: Counts) {
+fn print(rt: &impl Print, counts: Counts) -> io::Result<()> {
     let text = REPORT;
     let mut place = 0;
     let mut i = 0;
     while i < text.len() {
         if place < counts::PLACES {
-            print_byte(text[i], counts[place]);
+            print_byte(rt, text[i], counts[place])?;
         }
         place = std::num::wrapping_add_usize(place, bit(text[i] == b'#'));
         i += 1;
     }
+    Ok(())
 }
 
-fn main() {
+fn main(rt: HostRuntime) -> io::Result<()> {
     let mut counted = [0; 29];
     let mut seed: u64 = 1;
     let mut n = 0;
@@ -136,5 +137,5 @@ fn main() {
         counted = more;
         n += 1;
     }
-    print(counted);
+    print(&rt, counted)
 }

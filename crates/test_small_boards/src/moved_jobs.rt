@@ -6,7 +6,7 @@ use test_solver::{bit, bytes};
 
 // A way along listed jobs that are handed over: the board so far, the bench that it came to, and the list without
 // these jobs.
-#[derive(Drop)]
+#[derive(Clone, Copy)]
 struct Way {
     board: Board,
     bench: usize,

@@ -5,7 +5,7 @@ use crate::{board_faults, counts};
 
 // The board after it, the place of `counts` for what it did, the jobs moved or paths turned, and the place for its
 // fault.
-#[derive(Drop)]
+#[derive(Clone, Copy)]
 pub struct Outcome {
     pub board: Board,
     pub what: usize,

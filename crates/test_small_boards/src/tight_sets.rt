@@ -8,7 +8,7 @@ use test_solver::{Book, Loads, MOST_BENCHES, bench_of, bit, bytes, excess, heavi
 type Marks = [bool; 6];
 
 // What the call answered, and the list as it left it.
-#[derive(Drop)]
+#[derive(Clone, Copy)]
 pub struct Reply {
     pub number: u32,
     benches: usize,
@@ -17,7 +17,7 @@ pub struct Reply {
 }
 
 // The set's benches, rising, as words at the beginning of a list, and how many they are.
-#[derive(Drop)]
+#[derive(Clone, Copy)]
 struct Listed {
     list: Table,
     benches: usize,

@@ -6,62 +6,78 @@
 // A file's name tells what damage was tried; where that changed nothing, the table is sound.
 #![tactic(auto)]
 
-use libc::STDOUT_FILENO;
+ghost use Rattle.std.specs.Prelude.{◌≤◌, length};
+
 use sharing_loads::Heaviest;
+use std::env::{Env, FillError};
+use std::fs::{File, Files};
+use std::io::{self, Eprint, Print, Read};
 use table_form::Form;
 use table_refusals::Refusal;
 use table_size::Size;
 
-fn print_sound(h: Heaviest) {
-    io::write_all(STDOUT_FILENO, b" sound H");
-    io::print_decimal(STDOUT_FILENO, h.load as u64);
-    io::write_all(STDOUT_FILENO, b" ");
-    io::print_decimal(STDOUT_FILENO, h.benches as u64);
-    io::write_all(STDOUT_FILENO, b"\n");
+fn print_sound(rt: &impl Print, h: Heaviest) -> io::Result<()> {
+    println!(rt; " sound H{} {}", h.load, h.benches)
 }
 
 // Prints a refusal twice: as the form check's answer, and in place of the heaviest load.
-fn print_refused(r: Refusal) {
-    let number = r.number() as u64;
-    io::write_all(STDOUT_FILENO, b" ");
-    io::print_decimal(STDOUT_FILENO, number);
-    io::write_all(STDOUT_FILENO, b" ");
-    io::print_decimal(STDOUT_FILENO, number);
-    io::write_all(STDOUT_FILENO, b"\n");
+fn print_refused(rt: &impl Print, r: Refusal) -> io::Result<()> {
+    let number = r.number();
+    println!(rt; " {number} {number}")
 }
 
-fn print_table(t: &[u8]) {
+fn print_table(rt: &impl Print, t: &[u8]) -> io::Result<()> {
     let mut loads = [0u16; Size::MOST_BENCHES + 1];
     match table_form::check(t, &mut loads) {
-        Form::Refused(r) => print_refused(r),
-        Form::Sound(s, _) => print_sound(sharing_loads::find_heaviest(t, s, &loads)),
+        Form::Refused(r) => print_refused(rt, r),
+        Form::Sound(s, _) => print_sound(rt, sharing_loads::find_heaviest(t, s, &loads)),
     }
 }
 
-fn print_file(path: &[u8]) {
-    let fd = os::open_read(path);
-    if fd < 0 {
-        os::fail(path);
-        return;
+// Reads until the bytes are full, the input ends or a read fails, and counts the bytes read.
+fn read_full(input: &mut impl Read, bytes: &mut [u8]) -> usize
+    ensures { result ≤ length bytes.new }
+{
+    let mut done = 0;
+    while done < bytes.len() {
+        let n = input.read(&mut bytes[done..]).unwrap_or(0);
+        if n == 0 {
+            break;
+        }
+        done += n;
     }
-    let mut bytes = io::large_buffer();
-    let n = io::read_full(fd, &mut bytes);
-    libc::close(fd);
-    io::write_all(STDOUT_FILENO, path);
-    print_table(&bytes[..n]);
+    done
 }
 
-fn print_argument(i: usize) {
-    let mut path = io::buffer();
-    let n = os::arg(i, &mut path);
-    print_file(&path[..n]);
+fn print_file<R: Files + Print + Eprint>(rt: &R, path: &str) -> io::Result<()> {
+    match File::open(rt, path) {
+        Err(e) => eprintln!(rt; "{path}: {e}"),
+        Ok(mut file) => {
+            let mut bytes = [0; 65536];
+            let n = read_full(&mut file, &mut bytes);
+            print!(rt; "{path}")?;
+            print_table(rt, &bytes[..n])
+        }
+    }
 }
 
-fn main() {
-    let count = os::arg_count();
-    let mut i = 1;
-    while i < count {
-        print_argument(i);
-        i += 1;
+// Gives an argument, in the room lent; none where there are no more. One that is too long for a path, or no text,
+// counts as empty.
+fn argument<'a>(rt: &impl Env, i: usize, room: &'a mut [u8; 4096]) -> Option<&'a str> {
+    match rt.arg(i, room) {
+        Ok(n) => Some(std::str::from_utf8(&room[..n]).unwrap_or("")),
+        Err(FillError::TooLong) => Some(""),
+        Err(FillError::NotPresent) => None,
     }
+}
+
+fn main(rt: HostRuntime) -> io::Result<()> {
+    let mut room = [0; 4096];
+    for i in 1..usize::MAX {
+        let Some(path) = argument(&rt, i, &mut room) else {
+            break;
+        };
+        print_file(&rt, path)?;
+    }
+    Ok(())
 }
