@@ -1,14 +1,11 @@
 -- What a record says to the walk that reads it.
 use Prim.Native.Nat.{ℕ}
-use native.Mathlib.Omega.{arith}
 use mathlib.Core.Path.{◌≡◌, sym, ap, ◌∙◌, subst}
 use mathlib.Core.Logic.{◌⊎◌, inl, inr, ⊎_elim}
 use mathlib.Core.Bool.{Bool, true, cond}
-use mathlib.Core.List.{List, [], ◌∷◌}
+use mathlib.Core.List.{List}
 use lib.Dec.{T, eqb}
 use borrow.Author.Tests.{ne_eqb}
-use types.Run.{OneOf}
-use denote.Enum.Declared.{tag_of}
 use Rattle.spec_lists.specs.Lists.{member, In}
 use Rattle.spec_lists.proofs.Tests.{T→true, never→false, both, left, right, T-eqb, eqb_T}
 use Rattle.spec_lists.proofs.Elements.{in_nth}
@@ -24,7 +21,6 @@ use Rattle.table_records.specs.declared.Record.{Record}
 use Rattle.table_record_form.specs.Kinds.{kind_of}
 use Rattle.table_record_form.specs.declared.Kind.{Kind}
 use Rattle.table_record_form.specs.declared.Kind.TheVariants.{Fitting}
-use Rattle.table_record_form.specs.contracts.Kind as kind
 use Rattle.table_record_form.proofs.KindOfRecord.{fitting_tests, tests_fitting, fitting_fits}
 use Rattle.table_pair.specs.Walking.{step_at}
 use Rattle.table_pair.specs.declared.Step.{Step}

@@ -1,6 +1,5 @@
 -- One chain from its head. Invariant: what is left of the walk from job j on is the whole walk. The measure is the number of
 -- jobs that may still be on the chain.
-use Prim.Native.Nat.{◌-◌}
 use mathlib.Core.Path.{◌≡◌}
 use Rattle.spec_lists.specs.Lists.{nth}
 use Rattle.table_words.specs.Bytes.{layout_in}

@@ -1,4 +1,4 @@
-use Prim.Native.Nat.{◌-◌, ◌≤◌}
+use Prim.Native.Nat.{◌≤◌}
 use native.Mathlib.Omega.{arith}
 use Rattle.table_chain_form.proofs.Lengths.{walks_start, walks_broken, walks_less, walks_turn, walks_end, walks_lengths}
 use Rattle.table_chain_form.proofs.walk_all.Goals as goal

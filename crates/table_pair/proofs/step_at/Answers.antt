@@ -1,7 +1,6 @@
 -- A record is told by its kind and its holder; one that x holds names x, so only y is looked for.
 use mathlib.Core.Path.{◌≡◌, sym, ◌∙◌}
 use mathlib.Core.Logic.{⊎_elim, inl, inr}
-use borrow.Author.Tests.{eqb-true, eqb-false}
 use Rattle.table_records.specs.Records.{entry_of}
 use Rattle.table_record_form.specs.Kinds.{kind_of}
 use Rattle.table_record_form.specs.declared.Kind.TheVariants.{Fitting}

@@ -4,7 +4,7 @@ use native.Mathlib.Omega.{arith}
 use mathlib.Core.Path.{sym, ◌∙◌, subst}
 use mathlib.Core.Logic.{⊎_elim}
 use lib.Dec.{T}
-use borrow.Author.Tests.{eqb-true, eqb-false, leb-true, leb-false, not-true, not-false}
+use borrow.Author.Tests.{eqb-true, eqb-false, leb-true}
 use Rattle.spec_lists.proofs.Tests.{true→T}
 use Rattle.table_record_form.proofs.KindOfRecord.{AllZero, Fits, vacant_kind, fitting_kind, unfit_kind}
 use Rattle.table_record_form.proofs.kind_of.Goals as goal

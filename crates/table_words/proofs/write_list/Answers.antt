@@ -1,4 +1,3 @@
-use Prim.Native.Nat.{◌-◌}
 use native.Mathlib.Omega.{arith}
 use Rattle.table_words.proofs.Bytes.{listing_start, listing_turn, listing_end}
 use Rattle.table_words.proofs.write_list.Goals as goal

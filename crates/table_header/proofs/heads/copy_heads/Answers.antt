@@ -1,4 +1,3 @@
-use Prim.Native.Nat.{◌-◌}
 use native.Mathlib.Omega.{arith}
 use Rattle.table_header.proofs.Copying.{heads_start, heads_turn, heads_end}
 use Rattle.table_header.proofs.heads.copy_heads.Goals as goal

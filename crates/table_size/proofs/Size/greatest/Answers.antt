@@ -1,4 +1,4 @@
-use Rattle.std.proofs.Common.{◌-◌, get_or, arith}
+use Rattle.std.proofs.Common.{get_or, arith}
 use Rattle.table_size.proofs.Highest.{highest_start, highest_turn, highest_end}
 use Rattle.table_size.proofs.Size.greatest.Goals as goal
 
