@@ -12,6 +12,7 @@ use Rattle.spec_table.specs.Board.{names_fit}
 use Rattle.spec_table.specs.Table.{words, Entry, vacant, filled, holder_in, Layout, layout, chains, standing_in, entry_fits, placed, only_standing, formed, fits, sound, entry_words}
 use Rattle.spec_lists.proofs.Tests.{T→true, not_false, both, left, right, five, T-eqb, eqb_T, within_low, within_both}
 use Rattle.spec_lists.proofs.Elements.{in_filter, filter_in, all_in, in_all, each_in, in_each, in_nth, nth_within, in_enumerate, in_enumerate_nth, enumerate_nth}
+use Rattle.spec_table.proofs.ChainJobs.{on_chain_filled}
 
 -- empty records
 
@@ -91,7 +92,7 @@ formed_is l t =
     record {
       entry = λ e i f. let r = in_enumerate 1 e es i in all_in (fit_in l) (r.0, e) (standing_in es) p.0 (in_filter full (r.0, e) (enumerate 1 es) r.1 f);
       place = here p.1;
-      only = λ c i j k. all_in (λ j. filled (nth es j vacant)) j c (all_in (only_standing es) c (chains l) p.2 i) k;
+      only = λ c i. on_chain_filled es c (all_in (only_standing es) c (chains l) p.2 i);
       standing = T-eqb l.standing (length (standing_in es)) p.3;
       spare = T-eqb l.spare 0 p.4;
     }

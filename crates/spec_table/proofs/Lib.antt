@@ -7,6 +7,7 @@ pub mod Held
 pub mod Limits
 pub mod Words
 pub mod Places
+pub mod ChainJobs
 pub mod Clauses
 pub mod Sound
 pub mod ChainEnds
