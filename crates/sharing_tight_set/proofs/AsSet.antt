@@ -9,7 +9,7 @@ use mathlib.Core.List.{List, [], ◌∷◌, ◌++◌, append-nil}
 use lib.Dec.{T, T_not}
 use lib.ListN.{length, set, replicate, length-append}
 use lib.Seq.{get_or-set_same, get_or-set_other}
-use Rattle.spec_lists.specs.Lists.{bit, within, count, member, range, total, filter, In}
+use Rattle.spec_lists.specs.Lists.{bit, within, member, range, total, filter, In}
 use Rattle.spec_table.specs.Board.{Board, load}
 use Rattle.spec_sharing.specs.Paths.{Step, steps}
 use Rattle.spec_sharing.specs.Sharing.{tight_set, inside}

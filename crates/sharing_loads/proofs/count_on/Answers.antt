@@ -1,4 +1,3 @@
-use Prim.Native.Nat.{◌-◌}
 use native.Mathlib.Omega.{arith}
 use mathlib.Core.Path.{refl}
 use Rattle.sharing_loads.proofs.CountingLoads.{on_start, on_few, on_turn, more_few, on_end}

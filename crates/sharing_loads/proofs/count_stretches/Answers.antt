@@ -1,4 +1,3 @@
-use Prim.Native.Nat.{◌-◌}
 use native.Mathlib.Omega.{arith}
 use Rattle.sharing_loads.proofs.CountingLoads.{not_ended}
 use Rattle.sharing_loads.proofs.count_stretches.Goals as goal

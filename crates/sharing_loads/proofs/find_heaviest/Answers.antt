@@ -1,4 +1,3 @@
-use Prim.Native.Nat.{◌-◌}
 use native.Mathlib.Omega.{arith}
 use Rattle.sharing_loads.proofs.CountingLoads.{counts_on, not_ended, standing_few, count_start, count_ends_lem}
 use Rattle.sharing_loads.proofs.find_heaviest.Goals as goal
@@ -15,9 +14,8 @@ count_stretches-long-requires c = record { limits = c.requires.sound_table.size.
 pub count_stretches-c-requires : goal.count_stretches-c-requires
 count_stretches-c-requires c = record { limits = c.requires.sound_table.size.limits; count_of = c.count_stretches-long.ensures.count_of_2; not_before = c.count_stretches-long.ensures.not_before_2; le_stretch = omega arith }
 
--- ?? whole ensures: c.count-stretches2.ensures
 pub loop-c-init : goal.loop-c-init
-loop-c-init c = c.count_stretches-c.ensures
+loop-c-init c = (c.count_stretches-c.ensures.count_of_2, c.count_stretches-c.ensures.not_before_2)
 
 pub count_on-c-requires : goal.count_on-c-requires
 count_on-c-requires c = record { limits = c.requires.sound_table.size.limits; count_of = c.loop-c.invariant.0; more_bound = counts_on c.loop-c.invariant.0 c.loop-c-test.true }

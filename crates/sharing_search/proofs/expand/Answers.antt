@@ -1,7 +1,6 @@
 use native.Mathlib.Omega.{arith}
 use mathlib.Core.Path.{◌≡◌, sym}
 use mathlib.Core.Logic.{inl, inr}
-use borrow.Author.Tests.{ltb-true, ltb-false}
 use Rattle.spec_table.specs.Board.{holder_of}
 use Rattle.spec_table.specs.Table.{decode}
 use Rattle.table_size.specs.Sizes.{JobIn}
@@ -35,10 +34,10 @@ pub loop-j-smaller : goal.loop-j-smaller
 loop-j-smaller c = expand_less c.requires.in_order c.requires.bench_in c.requires.by_index c.loop-j.invariant c.loop-j-test.true c.next_job-j.ensures
 
 pub loop-j-preserved : goal.loop-j-preserved
-loop-j-preserved c = expand_turn c.requires.in_order c.requires.bench_in c.requires.by_index c.loop-j.invariant c.loop-j-test.true (ltb-true c.loop-j.j c.args.limit c.if-j-limit.true-raw) c.other-y.ensures c.discover-found.ensures c.next_job-j.ensures
+loop-j-preserved c = expand_turn c.requires.in_order c.requires.bench_in c.requires.by_index c.loop-j.invariant c.loop-j-test.true c.if-j-limit.true c.other-y.ensures c.discover-found.ensures c.next_job-j.ensures
 
 pub returns-else-j-limit : goal.returns-else-j-limit
-returns-else-j-limit c = let both = expand_end c.requires.in_order c.requires.bench_in c.requires.by_index c.loop-j.invariant (inr (ltb-false c.loop-j.j c.args.limit c.if-j-limit.false-raw)) in record { first_from = both.0; grown = both.1.0; searching = both.1.1 }
+returns-else-j-limit c = let both = expand_end c.requires.in_order c.requires.bench_in c.requires.by_index c.loop-j.invariant (inr c.if-j-limit.false) in record { first_from = both.0; grown = both.1.0; searching = both.1.1 }
 
 pub returns-after-loop-j : goal.returns-after-loop-j
 returns-after-loop-j c = let both = expand_end c.requires.in_order c.requires.bench_in c.requires.by_index c.loop-j.invariant (inl c.loop-j-test.false) in record { first_from = both.0; grown = both.1.0; searching = both.1.1 }

@@ -1,7 +1,6 @@
-use Prim.Native.Nat.{◌+◌, ◌-◌, ◌<◌}
+use Prim.Native.Nat.{◌+◌, ◌<◌}
 use native.Mathlib.Omega.{arith}
 use mathlib.Core.Logic.{inl, inr}
-use borrow.Author.Tests.{eqb-false}
 use Rattle.spec_table.specs.Table.{most_benches}
 use Rattle.table_size.specs.Sizes.{BenchIn}
 use Rattle.graph_lists.specs.Arrays.{at}
@@ -55,7 +54,7 @@ pub loop-done-preserved : goal.loop-done-preserved
 loop-done-preserved c = sweep_turn c.requires.at_level c.loop-done.invariant c.loop-done-test.true c.first_job-job.ensures c.expand-e.ensures.grown c.expand-e.ensures.searching
 
 pub returns-else-came-goal-eq0 : goal.returns-else-came-goal-eq0
-returns-else-came-goal-eq0 c = let both = sweep_end c.requires.at_level c.loop-done.invariant c.args.goal (inr (eqb-false (at c.loop-done.branch c.args.goal) 0 c.if-came-goal-eq0.false-raw)) in record { grown = both.0; level = both.1 }
+returns-else-came-goal-eq0 c = let both = sweep_end c.requires.at_level c.loop-done.invariant c.args.goal (inr c.if-came-goal-eq0.false) in record { grown = both.0; level = both.1 }
 
 pub returns-after-loop-done : goal.returns-after-loop-done
 returns-after-loop-done c = let both = sweep_end c.requires.at_level c.loop-done.invariant c.args.goal (inl c.loop-done-test.false) in record { grown = both.0; level = both.1 }

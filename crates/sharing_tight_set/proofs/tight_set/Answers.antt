@@ -1,6 +1,5 @@
 -- The marked benches are the tight set: those of the height where no bench has less, and else what was brought in, too.
 use mathlib.Core.Path.{◌≡◌, subst}
-use mathlib.Core.Logic.{⊎_elim}
 use mathlib.Core.Bool.{Bool}
 use Rattle.spec_table.specs.Table.{decode}
 use Rattle.spec_sharing.specs.Sharing.{tight_set}
@@ -10,7 +9,7 @@ use Rattle.sharing_steps.proofs.AsSteps.{loads_in}
 use Rattle.sharing_tight_set.specs.MarkedSets.{marked, Lighter}
 use Rattle.sharing_tight_set.proofs.AsSet.{all_tight, measured_tight}
 use Rattle.sharing_tight_set.proofs.tight_set.Goals as goal
-use Rattle.sharing_tight_set.proofs.tight_set.Goals.{Joined-mark_heavy}
+use Rattle.sharing_tight_set.proofs.tight_set.Goals.{Joined-mark_heavy, then-mark_heavy, else-mark_heavy}
 
 pub mark_heavy-requires : goal.mark_heavy-requires
 mark_heavy-requires c = record { limits = c.requires.sound_table.size.limits; loads_in = loads_in (sound_holds_board _ _ c.requires.sound_table) c.requires.loaded; marks_value = c.requires.marks_value }
@@ -19,14 +18,13 @@ pub measure-requires : goal.measure-requires
 measure-requires c = record { limits = c.requires.sound_table.size.limits; loads_in = loads_in (sound_holds_board _ _ c.requires.sound_table) c.requires.loaded }
 
 -- the marked benches are the tight set
-tight : (c : Joined-mark_heavy) → let start = c in marked start.args.s c.if-mark_heavy.marks ≡ tight_set (decode start.args.t.now) start.args.h
+tight : (c : Joined-mark_heavy) → marked c.args.s c.if-mark_heavy.marks ≡ tight_set (decode c.args.t.now) c.args.h
 tight c =
-    let start = c in
-    let Less = Lighter start.args.s start.args.loads.now start.args.h in
-    ⊎_elim
-    (λ w. rw w.3 w.2.ensures)
-    (λ w. rw w.1 (all_tight start.args.h (sound_holds_board _ _ start.requires.0) start.requires.1.0 c.mark_heavy.ensures.heavy_marked (subst (λ (z : Bool). Tells Less z) w.0.left c.mark_heavy.ensures.tells)))
-    c.if-mark_heavy.branch
+    let Less = Lighter c.args.s c.args.loads.now c.args.h in
+    elim c.if-mark_heavy.branch [
+      | then-mark_heavy w ↦ rw w.marks-is w.mark_closure.ensures
+      | else-mark_heavy w ↦ rw w.marks-is (all_tight c.args.h (sound_holds_board _ _ c.requires.sound_table) c.requires.loaded c.mark_heavy.ensures.heavy_marked (subst (λ (z : Bool). Tells Less z) w.if-mark_heavy.false c.mark_heavy.ensures.tells))
+    ]
 
 pub returns : goal.returns
 returns c = measured_tight c.args.h c.if-mark_heavy.marks (sound_holds_board _ _ c.requires.sound_table) c.requires.loaded (tight (goal.at.returns c).Joined-mark_heavy) c.measure.ensures

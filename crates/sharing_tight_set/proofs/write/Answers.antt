@@ -1,7 +1,6 @@
-use Prim.Native.Nat.{◌+◌, ◌-◌, ◌*◌, ◌<◌}
+use Prim.Native.Nat.{◌+◌, ◌*◌, ◌<◌}
 use native.Mathlib.Omega.{arith}
 use mathlib.Core.Path.{◌≡◌, ◌∙◌}
-use mathlib.Core.Logic.{⊎_elim}
 use mathlib.Core.Bool.{true, cond}
 use lib.ListN.{length}
 use Rattle.spec_lists.specs.Lists.{bit}
@@ -9,7 +8,7 @@ use Rattle.table_words.specs.Bytes.{set_word}
 use Rattle.sharing_visits.specs.Marks.{mark}
 use Rattle.sharing_tight_set.proofs.AsSet.{passing_few, write_start, write_room, write_turn, write_end}
 use Rattle.sharing_tight_set.proofs.write.Goals as goal
-use Rattle.sharing_tight_set.proofs.write.Goals.{In-loop-x}
+use Rattle.sharing_tight_set.proofs.write.Goals.{In-loop-x, then-marks-x, else-marks-x}
 
 pub loop-x-init : goal.loop-x-init
 loop-x-init c = (omega arith, write_start c.args.list.now c.args.marks.now)
@@ -27,8 +26,8 @@ overflow_add-count c = omega (arith, c.loop-x.invariant.1.counted, passing_few (
 
 pub loop-x-preserved : goal.loop-x-preserved
 loop-x-preserved c =
-    let e : c.if-marks-x.list ≡ cond (mark c.args.marks.now c.loop-x.x) (set_word c.loop-x.list c.loop-x.count c.loop-x.x) c.loop-x.list = ⊎_elim (λ w. rw w.0.taken (w.5 ∙ w.2.ensures)) (λ w. rw w.0.left w.1) c.if-marks-x.branch in
-    let f : c.if-marks-x.count ≡ c.loop-x.count + bit (mark c.args.marks.now c.loop-x.x) = ⊎_elim (λ w. rw w.0.taken w.6) (λ w. rw w.0.left (omega (arith, w.2))) c.if-marks-x.branch in
+    let e : c.if-marks-x.list ≡ cond (mark c.args.marks.now c.loop-x.x) (set_word c.loop-x.list c.loop-x.count c.loop-x.x) c.loop-x.list = elim c.if-marks-x.branch [ then-marks-x w ↦ rw w.if-marks-x.true (w.list-is ∙ w.write.ensures) | else-marks-x w ↦ rw w.if-marks-x.false w.list-is ] in
+    let f : c.if-marks-x.count ≡ c.loop-x.count + bit (mark c.args.marks.now c.loop-x.x) = elim c.if-marks-x.branch [ then-marks-x w ↦ rw w.if-marks-x.true w.count-is | else-marks-x w ↦ rw w.if-marks-x.false (omega (arith, w.count-is)) ] in
     (omega arith, write_turn c.if-marks-x.list c.if-marks-x.count c.loop-x.invariant.1 (room (goal.at.loop-x-preserved c).In-loop-x) e f)
 
 pub shape_of-list : goal.shape_of-list
