@@ -8,7 +8,7 @@ use Rattle.board_changes.proofs.levelling.Goals as goal
 use Rattle.board_changes.proofs.levelling.Goals.{In-Sound-2}
 
 -- the checked table is sound, and the loads are its
-checked : (c : In-Sound-2) → FoundSound c.args.t.now c.check_with.new.1.1.0 c.in-Sound.s c.in-Sound.rising
+checked : (c : In-Sound-2) → FoundSound c.args.t.now c.check_with.new.loads c.in-Sound.s c.in-Sound.rising
 checked c = rw c.in-Sound.is at c.check_with.ensures.form_of.says
 
 pub relevel-l-requires : goal.relevel-l-requires

@@ -8,7 +8,7 @@ use Rattle.board_questions.proofs.heaviest.Goals as goal
 use Rattle.board_questions.proofs.heaviest.Goals.{In-Sound}
 
 -- the table is sound, with these loads
-found : (c : In-Sound) → FoundSound c.args.t.now c.check.new.1.0 c.in-Sound.s c.in-Sound.field-1
+found : (c : In-Sound) → FoundSound c.args.t.now c.check.new.loads c.in-Sound.s c.in-Sound.field-1
 found c = rw c.in-Sound.is at c.check.ensures.says
 
 pub find_heaviest-requires : goal.find_heaviest-requires

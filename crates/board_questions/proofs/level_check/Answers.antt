@@ -10,7 +10,7 @@ use Rattle.board_questions.proofs.level_check.Goals as goal
 use Rattle.board_questions.proofs.level_check.Goals.{In-Sound}
 
 -- the table is sound, with these loads
-found : (c : In-Sound) → FoundSound c.args.t.now c.check_with.new.1.1.0 c.in-Sound.s c.in-Sound.rising
+found : (c : In-Sound) → FoundSound c.args.t.now c.check_with.new.loads c.in-Sound.s c.in-Sound.rising
 found c = rw c.in-Sound.is at c.check_with.ensures.form_of.says
 
 pub is_level-requires : goal.is_level-requires

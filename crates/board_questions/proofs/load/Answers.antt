@@ -19,7 +19,7 @@ use Rattle.board_questions.proofs.load.Goals as goal
 use Rattle.board_questions.proofs.load.Goals.{In-Sound, Then-has_bench}
 
 -- the table is sound, with these loads
-found : (c : In-Sound) → FoundSound c.args.t.now c.check.new.1.0 c.in-Sound.s c.in-Sound.field-1
+found : (c : In-Sound) → FoundSound c.args.t.now c.check.new.loads c.in-Sound.s c.in-Sound.field-1
 found c = rw c.in-Sound.is at c.check.ensures.says
 
 -- it has the bench
@@ -27,7 +27,7 @@ bench : (c : Then-has_bench) → BenchIn c.in-Sound.s c.args.bench
 bench c = bench_in _ _ (true→T _ (sym c.has_bench.ensures ∙ c.if-has_bench.true))
 
 -- the load that is read
-read : (c : Then-has_bench) → get_or c.check.new.1.0 c.args.bench 0 ≡ load (decode c.args.t.now).holders c.args.bench
+read : (c : Then-has_bench) → get_or c.check.new.loads c.args.bench 0 ≡ load (decode c.args.t.now).holders c.args.bench
 read c = let f = found c in load_at (sound_holds_board _ _ f.sound) f.loaded (bench c)
 
 -- the bench has a place in the array

@@ -13,5 +13,5 @@ returns-then-number-ne0 c =
 
 pub returns : goal.returns
 returns c =
-    let w = wrote_accepted (values_of c.args.repeated) (answer_of c.args.a) [] c.number-number.ensures c.if-number-ne0.false c.beginning-end.ensures.wrote (wrote_start c.beginning-end.new.0 c.beginning-end.result) c.byte.ensures in
+    let w = wrote_accepted (values_of c.args.repeated) (answer_of c.args.a) [] c.number-number.ensures c.if-number-ne0.false c.beginning-end.ensures.wrote (wrote_start c.beginning-end.new.out c.beginning-end.result) c.byte.ensures in
     record { wrote = w; short = omega arith }

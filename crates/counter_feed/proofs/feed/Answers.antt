@@ -25,7 +25,7 @@ pub take_byte-h-requires : goal.take_byte-h-requires
 take_byte-h-requires c = record { stands = c.loop-used.invariant.0.stands; line_most_in_bounds = room (goal.at.take_byte-h-requires c).Then-out-at-ge-LINE_MOST }
 
 pub loop-used-preserved : goal.loop-used-preserved
-loop-used-preserved c = (feeding_turn c.loop-used.invariant.0 c.take_byte-h.new.1.1.0 c.take_byte-h.new.1.1.1.0 c.take_byte-h.new.1.1.1.1.0 c.take_byte-h.result c.loop-used-test.true (room (goal.at.loop-used-preserved c).Then-out-at-ge-LINE_MOST) c.take_byte-h.ensures, c.loop-used.invariant.1)
+loop-used-preserved c = (feeding_turn c.loop-used.invariant.0 c.take_byte-h.new.bytes c.take_byte-h.new.line c.take_byte-h.new.out c.take_byte-h.result c.loop-used-test.true (room (goal.at.loop-used-preserved c).Then-out-at-ge-LINE_MOST) c.take_byte-h.ensures, c.loop-used.invariant.1)
 
 pub returns-else-out-at-ge-LINE_MOST : goal.returns-else-out-at-ge-LINE_MOST
 returns-else-out-at-ge-LINE_MOST c = feeding_end c.loop-used.invariant.0 c.loop-used.invariant.1 (inr (full (goal.at.returns-else-out-at-ge-LINE_MOST c).Else-out-at-ge-LINE_MOST))

@@ -9,4 +9,4 @@ pub refusal-requires : goal.refusal-requires
 refusal-requires c = c.requires
 
 pub returns : goal.returns
-returns c = finishes_line c.args.r c.args.out.now c.refusal.new.0 c.refusal.result c.number.result c.if-r-eq0.false c.requires c.number.ensures c.refusal.ensures.wrote c.refusal.ensures.short
+returns c = finishes_line c.args.r c.args.out.now c.refusal.new.out c.refusal.result c.number.result c.if-r-eq0.false c.requires c.number.ensures c.refusal.ensures.wrote c.refusal.ensures.short

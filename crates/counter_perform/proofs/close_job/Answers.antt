@@ -8,7 +8,7 @@ pub slice_bounds-closing-end-2 : goal.slice_bounds-closing-end-2
 slice_bounds-closing-end-2 c = table_long c.requires.room
 
 pub write_listing-requires : goal.write_listing-requires
-write_listing-requires c = record { line_most_in_bounds = search rules; le_k = omega arith; k_in_bounds = closing_fits _ _ c.closing-a.ensures; list_len_bound = list_short c.closing-a.new.1.1.0 c.zero_list-list.ensures c.closing-a.auto.1.1.0 }
+write_listing-requires c = record { line_most_in_bounds = search rules; le_k = omega arith; k_in_bounds = closing_fits _ _ c.closing-a.ensures; list_len_bound = list_short c.closing-a.new.list c.zero_list-list.ensures c.closing-a.auto.list }
 
 pub returns : goal.returns
-returns c = closing_replies c.requires.room c.zero_list-list.ensures c.noted.ensures.length c.noted.ensures.tally c.closing-a.auto.0 c.args.job c.closing-a.ensures c.one.ensures c.write_listing.ensures
+returns c = closing_replies c.requires.room c.zero_list-list.ensures c.noted.ensures.length c.noted.ensures.tally c.closing-a.auto.t c.args.job c.closing-a.ensures c.one.ensures c.write_listing.ensures

@@ -34,4 +34,4 @@ pub returns-in-Misfit : goal.returns-in-Misfit
 returns-in-Misfit c = misfit_replies c.requires.room c.args.benches c.args.jobs (sym c.new.ensures.value ∙ c.in-Misfit.is) c.refuse.ensures
 
 pub returns-in-Fit : goal.returns-in-Fit
-returns-in-Fit c = table_replies c.requires.room c.args.benches c.args.jobs (asked (goal.at.returns-in-Fit c).In-Fit-2) c.bytes-length.ensures c.blank-a.ensures c.blank-a.auto.0 c.new-tally.ensures c.two.ensures c.write_answer.ensures
+returns-in-Fit c = table_replies c.requires.room c.args.benches c.args.jobs (asked (goal.at.returns-in-Fit c).In-Fit-2) c.bytes-length.ensures c.blank-a.ensures c.blank-a.auto.t c.new-tally.ensures c.two.ensures c.write_answer.ensures

@@ -3,4 +3,4 @@ use Rattle.jobboard.proofs.Reports.{reported_number}
 use Rattle.jobboard.proofs.jobboard_check.Goals as goal
 
 pub returns : goal.returns
-returns c = reported_number c.form_check_lem.ensures c.number.ensures
+returns c = reported_number c.form_check.ensures c.number.ensures

@@ -3,4 +3,4 @@ use Rattle.jobboard.proofs.Reports.{reported_values}
 use Rattle.jobboard.proofs.jobboard_tight_set.Goals as goal
 
 pub returns : goal.returns
-returns c = reported_values _ _ c.tight_set_lem.ensures tt c.two.ensures
+returns c = reported_values _ _ c.tight_set.ensures tt c.two.ensures

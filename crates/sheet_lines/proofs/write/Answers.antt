@@ -1,4 +1,3 @@
-use Prim.Native.Nat.{◌-◌}
 use native.Mathlib.Omega.{arith}
 use mathlib.Core.Path.{refl, ◌∙◌}
 use Rattle.sheet_lines.proofs.AllLines.{benches_few, load_few, sheet_start, first_most, bench_room, bench_turn, sheet_end}
@@ -41,7 +40,7 @@ loop-x-preserved c =
     let own = c.loop-x.invariant.0 c.args.s c.benches-benches.ensures c.requires.0 c.requires.1 in (
       λ s e b z. bench_turn z c.loop-x.x c.loop-x.invariant.1 (omega arith) (c.loop-x.invariant.0 s e b z) (omega (arith, own.ends, c.requires.2, c.loop-x.invariant.2)) c.write_bench-at.ensures,
       omega arith,
-      c.write_bench-at.auto.0 ∙ c.loop-x.invariant.2,
+      c.write_bench-at.auto.page ∙ c.loop-x.invariant.2,
     )
 
 pub shape_of-page : goal.shape_of-page

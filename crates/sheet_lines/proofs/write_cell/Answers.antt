@@ -1,12 +1,12 @@
 -- Blanks for 0; else the job's number, and the job that stands at it.
 use Prim.Native.Nat.{◌≤◌}
 use native.Mathlib.Omega.{arith}
-use mathlib.Core.Path.{refl, sym}
+use mathlib.Core.Path.{sym}
 use Rattle.sheet_lines.proofs.ListedJobs.{cell_job, after_job, list_most, next_most}
 use Rattle.sheet_lines.proofs.write_cell.Goals as goal
 
 pub returns-then-j-eq0 : goal.returns-then-j-eq0
-returns-then-j-eq0 c = let both = rw c.if-j-eq0.true (c.write_five_blanks.ensures, refl) in record { page_after = both.0; value = both.1 }
+returns-then-j-eq0 c = record { page_after = rw c.if-j-eq0.true c.write_five_blanks.ensures; value = rw c.if-j-eq0.true }
 
 pub write_number-requires : goal.write_number-requires
 write_number-requires c = record { n_bound = omega (arith, list_most c.requires.listed.1); at_in_bounds = c.requires.at_in_bounds }

@@ -14,7 +14,7 @@ pub write_jobs-requires : goal.write_jobs-requires
 write_jobs-requires c = record { listed = c.requires.listed; at_in_bounds = omega arith }
 
 pub shape_of-page : goal.shape_of-page
-shape_of-page c = c.write_jobs.auto.0 ∙ c.write_number.auto.0 ∙ c.write_bench_number.auto.0
+shape_of-page c = c.write_jobs.auto.page ∙ c.write_number.auto.page ∙ c.write_bench_number.auto.page
 
 pub returns : goal.returns
 returns c = first_written c.requires.x_bound c.requires.load_bound (omega arith) c.write_bench_number.ensures c.write_number.ensures c.write_jobs.ensures

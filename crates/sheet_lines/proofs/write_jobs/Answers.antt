@@ -1,4 +1,3 @@
-use Prim.Native.Nat.{◌-◌}
 use native.Mathlib.Omega.{arith}
 use mathlib.Core.Path.{refl, ◌∙◌}
 use lib.ListN.{length-set}
@@ -14,12 +13,11 @@ write_cell-j-requires c =
     record { listed = (cells.left, cells.from); at_in_bounds = omega arith }
 
 pub loop-cells-preserved : goal.loop-cells-preserved
-loop-cells-preserved c =
-    (
-      λ js l. rw c.write_cell-j.ensures.value (cells_turn (omega arith) (omega arith) (c.loop-cells.invariant.0 js l) c.write_cell-j.ensures.page_after),
-      c.write_cell-j.auto.0 ∙ c.loop-cells.invariant.1,
-      omega arith,
-    )
+loop-cells-preserved c = (
+  λ js l. rw c.write_cell-j.ensures.value (cells_turn (omega arith) (omega arith) (c.loop-cells.invariant.0 js l) c.write_cell-j.ensures.page_after),
+  c.write_cell-j.auto.page ∙ c.loop-cells.invariant.1,
+  omega arith,
+)
 
 pub shape_of-page : goal.shape_of-page
 shape_of-page c = simp length-set c.loop-cells.invariant.1
