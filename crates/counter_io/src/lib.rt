@@ -32,7 +32,7 @@ fn line_bytes() -> [u8; Reader::KEPT_MOST]
     [0; Reader::KEPT_MOST]
 }
 
-// Makes 65536 bytes, which loops that move much data want.
+// Makes room for a chunk of the input, and as much for the output.
 fn large_buffer() -> [u8; 65536]
     ensures { length result ≡ 65536 }
 {
