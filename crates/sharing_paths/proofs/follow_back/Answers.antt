@@ -16,13 +16,13 @@ holds c = sound_holds_board c.args.t.now c.args.s c.requires.in_order.sound
 place : (c : In-loop-left) → c.loop-left.x < most_benches + 1
 place c =
     let (course, found, queue, k) = c.requires.by_index in
-    followed_place (holds c) k (c.loop-left.invariant.1 course found queue k) c.loop-left-test.true
+    followed_place (sound_holds_board c.args.t.now c.args.s c.requires.in_order.sound) k (c.loop-left.invariant.1 course found queue k) c.loop-left-test.true
 
 -- so is the place of its job
 room : (c : In-loop-left) → c.loop-left.left < most_benches + 1
 room c =
     let (course, found, queue, k) = c.requires.by_index in
-    followed_room (holds c) k (c.loop-left.invariant.1 course found queue k)
+    followed_room (sound_holds_board c.args.t.now c.args.s c.requires.in_order.sound) k (c.loop-left.invariant.1 course found queue k)
 
 pub loop-left-init : goal.loop-left-init
 loop-left-init c = (c.requires.path_len, λ course found queue k. followed_start (holds (goal.at.loop-left-init c).Start) k c.args.path.now)
@@ -47,7 +47,9 @@ overflow_cast-j c =
 pub origin-x-requires : goal.origin-x-requires
 origin-x-requires c =
     let (course, found, queue, k) = c.requires.by_index in
-    let both = (holds (goal.at.origin-x-requires c).Start, followed_led (holds (goal.at.origin-x-requires c).Start) k (c.loop-left.invariant.1 course found queue k) c.loop-left-test.true c.if-left-gt0.true) in record { holds_board = both.0; y_value = both.1.0; y_nonzero = both.1.1 }
+    let h = holds (goal.at.origin-x-requires c).Start in
+    let led = followed_led h k (c.loop-left.invariant.1 course found queue k) c.loop-left-test.true c.if-left-gt0.true in
+    record { holds_board = h; y_value = led.0; y_nonzero = led.1 }
 
 pub loop-left-smaller-then-left-gt0 : goal.loop-left-smaller-then-left-gt0
 loop-left-smaller-then-left-gt0 c = left_less c.loop-left.left c.loop-left-test.true
