@@ -3,7 +3,7 @@ use native.Mathlib.Omega.{arith}
 use mathlib.Core.Path.{refl}
 use mathlib.Core.Logic.{inl, inr}
 use Rattle.sharing_arrival.proofs.enter.Goals as goal
-use Rattle.sharing_arrival.proofs.enter.Goals.{then-found-ne0+else-path-j, else-found-ne0}
+use Rattle.sharing_arrival.proofs.enter.Goals.{else-found-ne0-via-then-found-ne0+else-path-j, else-found-ne0-via-else-found-ne0}
 
 pub overflow_cast-path : goal.overflow_cast-path
 overflow_cast-path c = omega (arith, (c.requires.by_index 0 (omega arith)).most, c.requires.holds_board.size.limits.jobs_most)
@@ -15,4 +15,12 @@ pub returns-then-path-j : goal.returns-then-path-j
 returns-then-path-j c = inl (c.if-found-ne0.true, c.if-path-j.true, refl, c.bench_after-holder.ensures)
 
 pub returns : goal.returns
-returns c = inr (elim c.if-found-ne0.branch [ then-found-ne0+else-path-j w ↦ inr w.if-path-j.false | else-found-ne0 w ↦ inl w.if-found-ne0.false ], refl, refl)
+returns c =
+    inr (
+      elim c.else-found-ne0.branch [
+        | else-found-ne0-via-then-found-ne0+else-path-j w ↦ inr w.if-path-j.false
+        | else-found-ne0-via-else-found-ne0 w ↦ inl w.if-found-ne0.false
+      ],
+      refl,
+      refl,
+    )

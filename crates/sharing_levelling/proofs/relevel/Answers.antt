@@ -1,11 +1,10 @@
 use Prim.Native.Nat.{◌-◌}
 use native.Mathlib.Omega.{arith}
-use mathlib.Core.Logic.{⊎_elim}
 use Rattle.spec_table.specs.Table.{decode}
 use Rattle.table_copies.proofs.Ordering.{table_loaded}
 use Rattle.sharing_levelling.proofs.Flipping.{order_loads, same_board, Shifts, flipping_start, flipping_few, flipping_route, flipping_order, flipping_shifts, flipping_turn, flipping_end}
 use Rattle.sharing_levelling.proofs.relevel.Goals as goal
-use Rattle.sharing_levelling.proofs.relevel.Goals.{After-hand_along}
+use Rattle.sharing_levelling.proofs.relevel.Goals.{After-hand_along, then-loop-x-test+else-paths-allowance, else-loop-x-test}
 
 pub first_start-x-requires : goal.first_start-x-requires
 first_start-x-requires c =
@@ -75,4 +74,7 @@ shape_of-t c = omega (arith, c.loop-x.invariant.in_order.sound.size.long, c.requ
 pub returns : goal.returns
 returns c =
     flipping_end c.loop-x.invariant c.args.t.now c.put_in_order.ensures.board
-    (λ h. ⊎_elim (λ w. absurd (omega (arith, h, ltb-false c.loop-x.paths c.args.allowance w.1.left))) (λ w. w.left) c.loop-x-test.branch)
+    (λ h. elim c.loop-x-test.branch [
+      | then-loop-x-test+else-paths-allowance w ↦ absurd (omega (arith, h, w.if-paths-allowance.false))
+      | else-loop-x-test w ↦ w.loop-x-test.false
+    ])

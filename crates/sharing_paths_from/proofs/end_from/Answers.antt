@@ -6,7 +6,7 @@ use Rattle.graph_lists.specs.Arrays.{at}
 use Rattle.sharing_paths_from.specs.ArrivalSearch.{course_from, FirstLevel}
 use Rattle.sharing_paths_from.proofs.Levels.{Looked, level_small, levels_start, levels_weighed, levels_small, levels_lower, levels_same, levels_end, looked_few, looked_end, looked_level, looked_turn}
 use Rattle.sharing_paths_from.proofs.end_from.Goals as goal
-use Rattle.sharing_paths_from.proofs.end_from.Goals.{After-expand_level-more, After-lightest_among-y, Joined-n-bound, Start, then-n-bound, else-n-bound}
+use Rattle.sharing_paths_from.proofs.end_from.Goals.{After-lightest_among-y, Joined-n-bound, Start, then-n-bound, else-n-bound}
 
 -- on the board that the contract speaks of, the numbers of bench and goal are small
 small : (c : Start) → (c.args.x ≤ most_benches) × (c.args.goal ≤ most_benches) × (1 ≤ at c.args.loads.now c.args.x)
@@ -65,16 +65,16 @@ expand_level-more-requires c =
     record { in_order = c.requires.in_order; goal_le_most_benches = (small (goal.at.expand_level-more-requires c).Start).1; at_level = (course_from b c.loop-begin.begin c.loop-begin.end c.loop-begin.level, looked_level k (looked (goal.at.expand_level-more-requires c).Joined-n-bound b job other k) c.if-bound-low.false) }
 
 -- the level's number is small
-few : (c : After-expand_level-more) → (c.loop-begin.level < c.loop-begin.end) × (c.loop-begin.end ≤ most_benches)
+few : (c : Joined-n-bound) → (c.loop-begin.level < c.loop-begin.end) × (c.loop-begin.end ≤ most_benches)
 few c =
     let (b, job, other, k) = c.requires.by_index in
     looked_few k (looked c b job other k)
 
 pub overflow_add-level : goal.overflow_add-level
-overflow_add-level c = omega (arith, few (goal.at.overflow_add-level c).After-expand_level-more)
+overflow_add-level c = omega (arith, few (goal.at.overflow_add-level c).Joined-n-bound)
 
 pub loop-begin-smaller : goal.loop-begin-smaller
-loop-begin-smaller c = omega (arith, few (goal.at.loop-begin-smaller c).After-expand_level-more, c.loop-begin-test.true)
+loop-begin-smaller c = omega (arith, few (goal.at.loop-begin-smaller c).Joined-n-bound, c.loop-begin-test.true)
 
 pub loop-begin-preserved : goal.loop-begin-preserved
 loop-begin-preserved c =

@@ -3,7 +3,7 @@ use native.Mathlib.Omega.{arith}
 use Rattle.table_size.specs.Sizes.{BenchIn}
 use Rattle.sharing_start.proofs.Starting.{searched_past, searched_turn, searched_stop, searched_all, searched_none}
 use Rattle.sharing_start.proofs.start_among.Goals as goal
-use Rattle.sharing_start.proofs.start_among.Goals.{In-loop-x, then-loads-x, else-loads-x}
+use Rattle.sharing_start.proofs.start_among.Goals.{In-loop-x, then-loads-x+else-searched-ne0, else-loads-x}
 
 pub loop-x-init : goal.loop-x-init
 loop-x-init c = c.requires.searched
@@ -40,7 +40,7 @@ loop-x-smaller c = omega (arith, c.loop-x-test.true)
 pub loop-x-preserved : goal.loop-x-preserved
 loop-x-preserved c =
     elim c.if-loads-x.branch [
-      | then-loads-x w ↦ rw (w.found-is, w.queue-is, w.came-is) (searched_turn w.search_from-searched.ensures w.if-loads-x.true w.if-searched-ne0.false)
+      | then-loads-x+else-searched-ne0 w ↦ rw (w.found-is, w.queue-is, w.came-is) (searched_turn w.search_from-searched.ensures w.if-loads-x.true w.if-searched-ne0.false)
       | else-loads-x w ↦ rw (w.found-is, w.queue-is, w.came-is) (searched_past c.loop-x.invariant c.requires.loaded (bench (goal.at.loop-x-preserved c).In-loop-x).most w.if-loads-x.false)
     ]
 
