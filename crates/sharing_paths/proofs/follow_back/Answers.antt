@@ -55,23 +55,21 @@ pub loop-left-smaller-then-left-gt0 : goal.loop-left-smaller-then-left-gt0
 loop-left-smaller-then-left-gt0 c = left_less c.loop-left.left c.loop-left-test.true
 
 pub loop-left-preserved-then-left-gt0 : goal.loop-left-preserved-then-left-gt0
-loop-left-preserved-then-left-gt0 c =
-    (
-      rw length-set c.loop-left.invariant.0,
-      λ course found queue k.
-          followed_turn (holds (goal.at.loop-left-preserved-then-left-gt0 c).Start) k (c.loop-left.invariant.1 course found queue k) c.loop-left-test.true c.loop-left.invariant.0 (λ m. c.origin-x.ensures),
-    )
+loop-left-preserved-then-left-gt0 c = (
+  rw length-set c.loop-left.invariant.0,
+  λ course found queue k.
+      followed_turn (holds (goal.at.loop-left-preserved-then-left-gt0 c).Start) k (c.loop-left.invariant.1 course found queue k) c.loop-left-test.true c.loop-left.invariant.0 (λ m. c.origin-x.ensures),
+)
 
 pub loop-left-smaller : goal.loop-left-smaller
 loop-left-smaller c = left_less c.loop-left.left c.loop-left-test.true
 
 pub loop-left-preserved : goal.loop-left-preserved
-loop-left-preserved c =
-    (
-      rw length-set c.loop-left.invariant.0,
-      λ course found queue k.
-          followed_turn (holds (goal.at.loop-left-preserved c).Start) k (c.loop-left.invariant.1 course found queue k) c.loop-left-test.true c.loop-left.invariant.0 (λ m. absurd (omega (arith, c.if-left-gt0.false))),
-    )
+loop-left-preserved c = (
+  rw length-set c.loop-left.invariant.0,
+  λ course found queue k.
+      followed_turn (holds (goal.at.loop-left-preserved c).Start) k (c.loop-left.invariant.1 course found queue k) c.loop-left-test.true c.loop-left.invariant.0 (λ m. absurd (omega (arith, c.if-left-gt0.false))),
+)
 
 pub returns : goal.returns
 returns c = record { path_len_2 = c.loop-left.invariant.0; path_after = λ course found queue k. followed_end (holds (goal.at.returns c).Start) k (c.loop-left.invariant.1 course found queue k) c.loop-left-test.false }
