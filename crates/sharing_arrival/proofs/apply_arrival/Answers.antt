@@ -8,28 +8,31 @@ use Rattle.sharing_arrival.proofs.apply_arrival.Goals as goal
 use Rattle.sharing_arrival.proofs.apply_arrival.Goals.{Start}
 
 -- the job goes where the code says
--- ?? whole requires: c.requires
 entered : (c : Start) → Entered (decode c.args.t.now) c.args.j (c.args.first ∷ c.args.second ∷ []) c.args.path.now (arrive (decode c.args.t.now) c.args.j (c.args.first ∷ c.args.second ∷ [])) c.args.found c.args.intake.holder c.args.intake.place
 entered c =
-    let (k, (m, (x, f, e))) = c.requires in
-    taking_entered k.sound m f (rising_table_lem k.sound k.bytes) e
+    let (x, f, e) = c.requires.by_index in
+    let k = c.requires.in_order in
+    taking_entered k.sound c.requires.may_arrive f (rising_table_lem k.sound k.bytes) e
 
--- ?? whole requires: c.before.before.before.requires
 pub add_job-requires : goal.add_job-requires
 add_job-requires c =
-    let (k, (m, (x, f, e))) = c.requires in
+    let (x, f, e) = c.requires.by_index in
+    let k = c.requires.in_order in
+    let m = c.requires.may_arrive in
     let o = rising_table_lem k.sound k.bytes in
     record { in_order = k; fillable = taking_fills k.sound m f o (entered (goal.at.add_job-requires c).Start); j_value = taking_free k.sound m f o }
 
--- ?? whole requires: c.before.before.before.before.before.before.before.requires
 pub hand_along-requires : goal.hand_along-requires
 hand_along-requires c =
-    let (k, (m, (x, f, e))) = c.requires in
+    let (x, f, e) = c.requires.by_index in
+    let k = c.requires.in_order in
+    let m = c.requires.may_arrive in
     let n = entered (goal.at.hand_along-requires c).Start in
     record { in_order = c.add_job.ensures.in_order; n_le_most_benches = f.found.few; path_len = f.found.long; by_index = (n.start, n.left, taking_route k.sound m f (rising_table_lem k.sound k.bytes) n c.add_job.ensures) }
 
--- ?? whole requires: c.before.before.before.before.before.before.before.before.before.before.requires
 pub returns : goal.returns
 returns c =
-    let (k, (m, (x, f, e))) = c.requires in
+    let (x, f, e) = c.requires.by_index in
+    let k = c.requires.in_order in
+    let m = c.requires.may_arrive in
     taking_done k.sound m f (rising_table_lem k.sound k.bytes) (entered (goal.at.returns c).Start) c.add_job.ensures c.hand_along.ensures

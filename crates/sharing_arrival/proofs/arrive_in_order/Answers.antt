@@ -15,23 +15,22 @@ use Rattle.sharing_arrival.proofs.arrive_in_order.Goals.{After-enter-intake}
 pub lighter-x-requires : goal.lighter-x-requires
 lighter-x-requires c = record { t = named_within c.requires.in_order.sound c.requires.may_arrive (inl refl); t_2 = named_within c.requires.in_order.sound c.requires.may_arrive (inr (inl refl)) }
 
--- ?? whole requires: c.before.before.before.before.before.before.before.requires
 pub find_arrival-found-requires : goal.find_arrival-found-requires
 find_arrival-found-requires c =
-    let (o, (m, (l, long))) = c.requires in
-    record { in_order = o; may_arrive = m; loaded = l; x_value = c.lighter-x.ensures (decode c.args.t.now) l; path_len = long }
+    let l = c.requires.loaded in
+    record { in_order = c.requires.in_order; may_arrive = c.requires.may_arrive; loaded = l; x_value = c.lighter-x.ensures (decode c.args.t.now) l; path_len = c.requires.path_len }
 
--- ?? whole requires: c.before.before.before.before.before.before.before.before.before.before.requires
 pub enter-intake-requires : goal.enter-intake-requires
 enter-intake-requires c =
-    let (o, (m, rest)) = c.requires in
+    let o = c.requires.in_order in
+    let m = c.requires.may_arrive in
     record { holds_board = order_holds o; jobs_le_most_benches = c.find_arrival-found.ensures.found.few; path_len = c.find_arrival-found.ensures.found.long; by_index = taking_jobs o.sound m c.find_arrival-found.ensures }
 
 -- the place is one of the path's, or behind them
--- ?? whole requires: c.before.before.before.before.before.before.before.before.before.before.before.requires
 placed : (c : After-enter-intake) → c.enter-intake.result.place ≤ c.find_arrival-found.result.jobs
 placed c =
-    let (o, (m, rest)) = c.requires in
+    let o = c.requires.in_order in
+    let m = c.requires.may_arrive in
     let n = taking_entered o.sound m c.find_arrival-found.ensures (rising_table_lem o.sound o.bytes) c.enter-intake.ensures in
     omega (arith, entered_number n)
 
@@ -41,10 +40,10 @@ overflow_sub-moved c = placed (goal.at.overflow_sub-moved c).After-enter-intake
 pub overflow_mul-moved : goal.overflow_mul-moved
 overflow_mul-moved c = omega (arith, c.find_arrival-found.ensures.found.few)
 
--- ?? whole requires: c.before.before.before.before.before.before.before.before.before.before.before.before.requires
 pub returns-then-list-moved : goal.returns-then-list-moved
 returns-then-list-moved c =
-    let (o, (m, rest)) = c.requires in
+    let o = c.requires.in_order in
+    let m = c.requires.may_arrive in
     let n = taking_entered o.sound m c.find_arrival-found.ensures (rising_table_lem o.sound o.bytes) c.enter-intake.ensures in
     entered_short n refl c.if-list-moved.true refl
 
@@ -60,15 +59,13 @@ slice_bounds-write_list-start c = placed (goal.at.slice_bounds-write_list-start 
 pub slice_bounds-write_list-end : goal.slice_bounds-write_list-end
 slice_bounds-write_list-end c = omega (arith, c.find_arrival-found.ensures.found.few, c.find_arrival-found.ensures.found.long)
 
--- ?? whole requires: c.before.before.before.before.before.before.before.before.before.before.before.before.before.before.before.before.before.before.before.before.before.requires
 pub apply_arrival-requires : goal.apply_arrival-requires
 apply_arrival-requires c =
-    let (o, (m, rest)) = c.requires in
-    record { in_order = o; may_arrive = m; by_index = (_, c.find_arrival-found.ensures, c.enter-intake.ensures) }
+    record { in_order = c.requires.in_order; may_arrive = c.requires.may_arrive; by_index = (_, c.find_arrival-found.ensures, c.enter-intake.ensures) }
 
--- ?? whole requires: c.before.before.before.before.before.before.before.before.before.before.before.before.before.before.before.before.before.before.before.before.before.before.before.before.requires
 pub returns : goal.returns
 returns c =
-    let (o, (m, rest)) = c.requires in
+    let o = c.requires.in_order in
+    let m = c.requires.may_arrive in
     let n = taking_entered o.sound m c.find_arrival-found.ensures (rising_table_lem o.sound o.bytes) c.enter-intake.ensures in
     entered_made n refl c.if-list-moved.false c.apply_arrival.ensures c.write_list.ensures

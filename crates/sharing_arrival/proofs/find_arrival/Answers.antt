@@ -41,15 +41,14 @@ overflow_add-other c = omega (arith, arriving_small c.requires.in_order.sound c.
 pub overflow_sub-other : goal.overflow_sub-other
 overflow_sub-other c = (arriving_other c.requires.in_order.sound c.requires.may_arrive (one (goal.at.overflow_sub-other c).Start)).0
 
--- ?? whole requires: c.before.before.before.before.requires
 pub find_from-requires : goal.find_from-requires
 find_from-requires c =
-    let (o, (m, (l, (lightest, long)))) = c.requires in
+    let o = c.requires.in_order in
+    let m = c.requires.may_arrive in
+    let l = c.requires.loaded in
     let g = one (goal.at.find_from-requires c).Start in
-    record { in_order = o; bench_in = arriving_bench o.sound m g; loads_in = arriving_loads_in o.sound m g l; path_len = long; with_job = (put (decode c.args.t.now) c.args.j (c.args.first ∷ c.args.second ∷ []) c.args.x, arriving_with o.sound m g, arriving_loads o.sound m g l) }
+    record { in_order = o; bench_in = arriving_bench o.sound m g; loads_in = arriving_loads_in o.sound m g l; path_len = c.requires.path_len; with_job = (put (decode c.args.t.now) c.args.j (c.args.first ∷ c.args.second ∷ []) c.args.x, arriving_with o.sound m g, arriving_loads o.sound m g l) }
 
--- ?? whole requires: c.before.before.before.before.before.requires
 pub returns : goal.returns
 returns c =
-    let (o, (m, (l, (lightest, long)))) = c.requires in
-    arriving_found o.sound m (one (goal.at.returns c).Start) l lightest c.find_from.ensures
+    arriving_found c.requires.in_order.sound c.requires.may_arrive (one (goal.at.returns c).Start) c.requires.loaded c.requires.x_value c.find_from.ensures

@@ -7,14 +7,12 @@ use Rattle.sharing_changes.proofs.do_in_copy.Goals as goal
 pub copy_in_order-requires : goal.copy_in_order-requires
 copy_in_order-requires c = record { sound_table = c.requires.sound_table; copy_len = c.requires.copy_len }
 
--- ?? whole requires: c.before.before.before.before.before.before.before.before.before.before.before.before.requires
 pub do_in_order-requires : goal.do_in_order-requires
 do_in_order-requires c =
-    let (z, (m, (l, (long, room)))) = c.requires in
-    record { in_order = c.copy_in_order.ensures.in_order; may_do = may_copied c.args.t.now c.copy_in_order.ensures c.args.task m; loaded = table_loaded c.copy_in_order.ensures l; path_len = long }
+    record { in_order = c.copy_in_order.ensures.in_order; may_do = may_copied c.args.t.now c.copy_in_order.ensures c.args.task c.requires.may_do; loaded = table_loaded c.copy_in_order.ensures c.requires.loaded; path_len = c.requires.path_len }
 
 pub copy_back-requires : goal.copy_back-requires
-copy_back-requires c = sym (c.do_in_order.auto.0 ∙ c.copy_in_order.auto.1.1.0 ∙ c.requires.copy_len)
+copy_back-requires c = sym (c.do_in_order.auto.t ∙ c.copy_in_order.auto.copy ∙ c.requires.copy_len)
 
 pub returns-in-Refused : goal.returns-in-Refused
 returns-in-Refused c = refused_copied c.args.t.now c.copy_in_order.ensures _ _ _ c.args.task c.in-Refused.r (rw c.in-Refused.is at c.do_in_order.ensures)

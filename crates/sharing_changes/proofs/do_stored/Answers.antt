@@ -5,11 +5,9 @@ use Rattle.sharing_changes.proofs.do_stored.Goals as goal
 pub bytes-n-requires : goal.bytes-n-requires
 bytes-n-requires c = c.requires.sound_table.size.limits
 
--- ?? whole requires: c.before.before.before.before.before.before.before.before.requires
 pub do_in_copy-requires : goal.do_in_copy-requires
 do_in_copy-requires c =
-    let (z, (m, (l, long))) = c.requires in
-    record { sound_table = z; may_do = m; loaded = l; path_len = long; copy_len = room_long z.size c.bytes-n.ensures }
+    record { sound_table = c.requires.sound_table; may_do = c.requires.may_do; loaded = c.requires.loaded; path_len = c.requires.path_len; copy_len = room_long c.requires.sound_table.size c.bytes-n.ensures }
 
 pub returns : goal.returns
 returns c = c.do_in_copy.ensures

@@ -32,15 +32,14 @@ overflow_sub-loads c = closing_some c.requires.in_order.sound c.requires.t c.hol
 pub bounds-loads-x-2 : goal.bounds-loads-x-2
 bounds-loads-x-2 c = small (goal.at.bounds-loads-x-2 c).After-holder-x
 
--- ?? whole requires: c.before.before.before.before.before.before.before.requires
 pub find_to-requires : goal.find_to-requires
 find_to-requires c =
-    let (o, (p, (l, long))) = c.requires in
+    let o = c.requires.in_order in
+    let p = c.requires.t in
+    let l = c.requires.loaded in
     let top = closing_top o.sound p c.holder-x.ensures l c.greatest-top.ensures in
-    record { in_order = o; bench_in = closing_bench o.sound p c.holder-x.ensures; loads_in = closing_loads_in o.sound p c.holder-x.ensures l; loads_bound = top; path_len = long; without_job = (put (decode c.args.t.now) c.args.j [] 0, closing_without o.sound p c.holder-x.ensures, closing_loads o.sound p c.holder-x.ensures l) }
+    record { in_order = o; bench_in = closing_bench o.sound p c.holder-x.ensures; loads_in = closing_loads_in o.sound p c.holder-x.ensures l; loads_bound = top; path_len = c.requires.path_len; without_job = (put (decode c.args.t.now) c.args.j [] 0, closing_without o.sound p c.holder-x.ensures, closing_loads o.sound p c.holder-x.ensures l) }
 
--- ?? whole requires: c.before.before.before.before.before.before.before.before.requires
 pub returns : goal.returns
 returns c =
-    let (o, (p, (l, long))) = c.requires in
-    closing_found o.sound p c.holder-x.ensures l c.find_to.ensures
+    closing_found c.requires.in_order.sound c.requires.t c.holder-x.ensures c.requires.loaded c.find_to.ensures

@@ -1,12 +1,10 @@
-use Prim.Native.Nat.{◌-◌, ◌<◌}
+use Prim.Native.Nat.{◌-◌}
 use native.Mathlib.Omega.{arith}
-use mathlib.Core.Logic.{⊎_elim}
-use borrow.Author.Tests.{ltb-true, ltb-false}
 use Rattle.spec_table.specs.Table.{decode}
 use Rattle.table_copies.proofs.Ordering.{table_loaded}
 use Rattle.sharing_levelling.proofs.Flipping.{order_loads, same_board, Shifts, flipping_start, flipping_few, flipping_route, flipping_order, flipping_shifts, flipping_turn, flipping_end}
 use Rattle.sharing_levelling.proofs.relevel.Goals as goal
-use Rattle.sharing_levelling.proofs.relevel.Goals.{After-hand_along, Then-paths-allowance}
+use Rattle.sharing_levelling.proofs.relevel.Goals.{After-hand_along, then-loop-x-test+else-paths-allowance, else-loop-x-test}
 
 pub first_start-x-requires : goal.first_start-x-requires
 first_start-x-requires c =
@@ -24,12 +22,8 @@ hand_along-requires c =
     let n = flipping_few c.loop-x.invariant c.loop-x-test.true c.find_from-found.ensures in
     record { in_order = c.loop-x.invariant.in_order; n_le_most_benches = n.0; path_len = n.1; by_index = flipping_route c.loop-x.invariant c.loop-x-test.true c.find_from-found.ensures }
 
--- in the loop the allowance is not used up
-less : (c : Then-paths-allowance) → c.loop-x.paths < c.args.allowance
-less c = ltb-true c.loop-x.paths c.args.allowance c.if-paths-allowance.true-raw
-
 -- the loads can follow the path
-shifts : (c : After-hand_along) → Shifts (decode c.hand_along.new.0) c.loop-x.loads c.loop-x.x c.find_from-found.result.bench
+shifts : (c : After-hand_along) → Shifts (decode c.hand_along.new.t) c.loop-x.loads c.loop-x.x c.find_from-found.result.bench
 shifts c =
     flipping_shifts c.loop-x.invariant c.loop-x-test.true c.find_from-found.ensures c.hand_along.ensures
 
@@ -58,7 +52,7 @@ pub bounds-loads-y-in-loop-x : goal.bounds-loads-y-in-loop-x
 bounds-loads-y-in-loop-x c = (shifts (goal.at.bounds-loads-y-in-loop-x c).After-hand_along).end
 
 pub overflow_add-paths : goal.overflow_add-paths
-overflow_add-paths c = omega (arith, less (goal.at.overflow_add-paths c).Then-paths-allowance, c.ranges.allowance)
+overflow_add-paths c = omega (arith, c.if-paths-allowance.true, c.ranges.allowance)
 
 pub first_start-x-requires-in-loop-x : goal.first_start-x-requires-in-loop-x
 first_start-x-requires-in-loop-x c =
@@ -68,13 +62,11 @@ first_start-x-requires-in-loop-x c =
     record { in_order = o; loads_in = order_loads o l; loaded = l; queue_len = n.1 }
 
 pub loop-x-smaller : goal.loop-x-smaller
-loop-x-smaller c = omega (arith, less (goal.at.loop-x-smaller c).Then-paths-allowance)
+loop-x-smaller c = omega (arith, c.if-paths-allowance.true)
 
 pub loop-x-preserved : goal.loop-x-preserved
 loop-x-preserved c =
-    let less-test = c in
-    let test = less-test in
-    flipping_turn test.loop.invariant test.loop-test.true c.find_from-found.ensures c.hand_along.ensures (less (goal.at.loop-x-preserved less).Then-paths-allowance-test) (shifts (goal.at.loop-x-preserved c).After-hand_along).loaded c.first_start-x-in-loop-x.ensures.queue_len_2 c.first_start-x-in-loop-x.ensures.start_of
+    flipping_turn c.loop-x.invariant c.loop-x-test.true c.find_from-found.ensures c.hand_along.ensures c.if-paths-allowance.true (shifts (goal.at.loop-x-preserved c).After-hand_along).loaded c.first_start-x-in-loop-x.ensures.queue_len_2 c.first_start-x-in-loop-x.ensures.start_of
 
 pub shape_of-t : goal.shape_of-t
 shape_of-t c = omega (arith, c.loop-x.invariant.in_order.sound.size.long, c.requires.sound_table.size.long)
@@ -82,4 +74,7 @@ shape_of-t c = omega (arith, c.loop-x.invariant.in_order.sound.size.long, c.requ
 pub returns : goal.returns
 returns c =
     flipping_end c.loop-x.invariant c.args.t.now c.put_in_order.ensures.board
-    (λ h. ⊎_elim (λ w. absurd (omega (arith, h, ltb-false c.loop-x.paths c.args.allowance w.1.left))) (λ w. w.left) c.loop-x-test.branch)
+    (λ h. elim c.loop-x-test.branch [
+      | then-loop-x-test+else-paths-allowance w ↦ absurd (omega (arith, h, w.if-paths-allowance.false))
+      | else-loop-x-test w ↦ w.loop-x-test.false
+    ])

@@ -16,13 +16,13 @@ holds c = sound_holds_board c.args.t.now c.args.s c.requires.in_order.sound
 place : (c : In-loop-left) → c.loop-left.x < most_benches + 1
 place c =
     let (course, found, queue, k) = c.requires.by_index in
-    followed_place (holds c) k (c.loop-left.invariant.1 course found queue k) c.loop-left-test.true
+    followed_place (sound_holds_board c.args.t.now c.args.s c.requires.in_order.sound) k (c.loop-left.invariant.1 course found queue k) c.loop-left-test.true
 
 -- so is the place of its job
 room : (c : In-loop-left) → c.loop-left.left < most_benches + 1
 room c =
     let (course, found, queue, k) = c.requires.by_index in
-    followed_room (holds c) k (c.loop-left.invariant.1 course found queue k)
+    followed_room (sound_holds_board c.args.t.now c.args.s c.requires.in_order.sound) k (c.loop-left.invariant.1 course found queue k)
 
 pub loop-left-init : goal.loop-left-init
 loop-left-init c = (c.requires.path_len, λ course found queue k. followed_start (holds (goal.at.loop-left-init c).Start) k c.args.path.now)
@@ -47,29 +47,29 @@ overflow_cast-j c =
 pub origin-x-requires : goal.origin-x-requires
 origin-x-requires c =
     let (course, found, queue, k) = c.requires.by_index in
-    let both = (holds (goal.at.origin-x-requires c).Start, followed_led (holds (goal.at.origin-x-requires c).Start) k (c.loop-left.invariant.1 course found queue k) c.loop-left-test.true c.if-left-gt0.true) in record { holds_board = both.0; y_value = both.1.0; y_nonzero = both.1.1 }
+    let h = holds (goal.at.origin-x-requires c).Start in
+    let led = followed_led h k (c.loop-left.invariant.1 course found queue k) c.loop-left-test.true c.if-left-gt0.true in
+    record { holds_board = h; y_value = led.0; y_nonzero = led.1 }
 
 pub loop-left-smaller-then-left-gt0 : goal.loop-left-smaller-then-left-gt0
 loop-left-smaller-then-left-gt0 c = left_less c.loop-left.left c.loop-left-test.true
 
 pub loop-left-preserved-then-left-gt0 : goal.loop-left-preserved-then-left-gt0
-loop-left-preserved-then-left-gt0 c =
-    (
-      rw length-set c.loop-left.invariant.0,
-      λ course found queue k.
-          followed_turn (holds (goal.at.loop-left-preserved-then-left-gt0 c).Start) k (c.loop-left.invariant.1 course found queue k) c.loop-left-test.true c.loop-left.invariant.0 (λ m. c.origin-x.ensures),
-    )
+loop-left-preserved-then-left-gt0 c = (
+  rw length-set c.loop-left.invariant.0,
+  λ course found queue k.
+      followed_turn (holds (goal.at.loop-left-preserved-then-left-gt0 c).Start) k (c.loop-left.invariant.1 course found queue k) c.loop-left-test.true c.loop-left.invariant.0 (λ m. c.origin-x.ensures),
+)
 
 pub loop-left-smaller : goal.loop-left-smaller
 loop-left-smaller c = left_less c.loop-left.left c.loop-left-test.true
 
 pub loop-left-preserved : goal.loop-left-preserved
-loop-left-preserved c =
-    (
-      rw length-set c.loop-left.invariant.0,
-      λ course found queue k.
-          followed_turn (holds (goal.at.loop-left-preserved c).Start) k (c.loop-left.invariant.1 course found queue k) c.loop-left-test.true c.loop-left.invariant.0 (λ m. absurd (omega (arith, c.if-left-gt0.false))),
-    )
+loop-left-preserved c = (
+  rw length-set c.loop-left.invariant.0,
+  λ course found queue k.
+      followed_turn (holds (goal.at.loop-left-preserved c).Start) k (c.loop-left.invariant.1 course found queue k) c.loop-left-test.true c.loop-left.invariant.0 (λ m. absurd (omega (arith, c.if-left-gt0.false))),
+)
 
 pub returns : goal.returns
 returns c = record { path_len_2 = c.loop-left.invariant.0; path_after = λ course found queue k. followed_end (holds (goal.at.returns c).Start) k (c.loop-left.invariant.1 course found queue k) c.loop-left-test.false }

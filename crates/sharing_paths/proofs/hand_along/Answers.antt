@@ -1,4 +1,4 @@
-use Prim.Native.Nat.{◌+◌, ◌-◌}
+use Prim.Native.Nat.{◌+◌}
 use native.Mathlib.Omega.{arith}
 use mathlib.Core.Path.{sym, ◌∙◌}
 use Rattle.spec_table.specs.Table.{decode}
@@ -8,7 +8,7 @@ use Rattle.sharing_paths.proofs.hand_along.Goals as goal
 use Rattle.sharing_paths.proofs.hand_along.Goals.{At-loop-done}
 
 pub loop-done-init : goal.loop-done-init
-loop-done-init c = handing_start c.requires.in_order k
+loop-done-init c = λ x r k. handing_start c.requires.in_order k
 
 -- the route that there is, as far as it has gone
 handing : (c : At-loop-done) → Handing (decode c.args.t.now) c.requires.by_index.1 c.loop-done.t c.args.s c.args.path.now c.loop-done.done c.args.n c.args.end
@@ -30,10 +30,10 @@ hand_job-requires c =
     record { in_order = h.in_order; t = handing_named h c.loop-done-test.true c.bench_after-y.ensures }
 
 pub loop-done-preserved : goal.loop-done-preserved
-loop-done-preserved c = handing_turn (c.loop-done.invariant x r k) c.loop-done-test.true c.bench_after-y.ensures c.hand_job.ensures
+loop-done-preserved c = λ x r k. handing_turn (c.loop-done.invariant x r k) c.loop-done-test.true c.bench_after-y.ensures c.hand_job.ensures
 
 pub shape_of-t : goal.shape_of-t
 shape_of-t c = (handing (goal.at.shape_of-t c).At-loop-done).in_order.sound.size.long ∙ sym c.requires.in_order.sound.size.long
 
 pub returns : goal.returns
-returns c = handing_end (c.loop-done.invariant x r k) c.loop-done-test.false
+returns c = λ x r k. handing_end (c.loop-done.invariant x r k) c.loop-done-test.false

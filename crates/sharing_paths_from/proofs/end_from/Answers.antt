@@ -1,20 +1,14 @@
 use Prim.Native.Nat.{ℕ, ◌-◌, ◌≤◌, ◌<◌}
 use native.Mathlib.Omega.{arith}
-use mathlib.Core.Logic.{⊎_elim}
 use Rattle.spec_table.specs.Board.{Board}
 use Rattle.spec_table.specs.Table.{most_benches, decode}
 use Rattle.graph_lists.specs.Arrays.{at}
 use Rattle.sharing_paths_from.specs.ArrivalSearch.{course_from, FirstLevel}
 use Rattle.sharing_paths_from.proofs.Levels.{Looked, level_small, levels_start, levels_weighed, levels_small, levels_lower, levels_same, levels_end, looked_few, looked_end, looked_level, looked_turn}
 use Rattle.sharing_paths_from.proofs.end_from.Goals as goal
-use Rattle.sharing_paths_from.proofs.end_from.Goals.{After-expand_level-more, After-lightest_among-y, Joined-n-bound, Start}
+use Rattle.sharing_paths_from.proofs.end_from.Goals.{After-lightest_among-y, Joined-n-bound, Start, then-n-bound, else-n-bound}
 
--- a board of which the contract speaks ..
--- ?? tie
-abbrev First : tie.Start invariant-loop decreases-loop → Board → ℕ → ℕ → Type 0
-First c b job other = let a = c.args in FirstLevel (decode a.t.now) b a.s a.loads.now a.x job other a.goal a.end a.queue.now a.came.now
-
--- .. and the one that there is: the numbers of bench and goal are small
+-- on the board that the contract speaks of, the numbers of bench and goal are small
 small : (c : Start) → (c.args.x ≤ most_benches) × (c.args.goal ≤ most_benches) × (1 ≤ at c.args.loads.now c.args.x)
 small c = let (b, job, other, k) = c.requires.by_index in level_small k
 
@@ -24,11 +18,14 @@ lightest-small c =
     let (b, job, other, k) = c.requires.by_index in
     levels_small k (c.loop-begin.invariant b job other k) c.lightest_among-y.ensures
 
--- the level was looked at
-looked : (c : Joined-n-bound) (b : Board) (job other : ℕ) → First c b job other → Looked b c.args.s.benches c.args.loads.now c.args.x c.args.goal c.if-n-bound.best c.if-n-bound.bound c.loop-begin.begin c.loop-begin.end c.loop-begin.level c.loop-begin.queue c.loop-begin.branch
+-- the level was looked at, on each such board
+looked : (c : Joined-n-bound) (b : Board) (job other : ℕ) → FirstLevel (decode c.args.t.now) b c.args.s c.args.loads.now c.args.x job other c.args.goal c.args.end c.args.queue.now c.args.came.now → Looked b c.args.s.benches c.args.loads.now c.args.x c.args.goal c.if-n-bound.best c.if-n-bound.bound c.loop-begin.begin c.loop-begin.end c.loop-begin.level c.loop-begin.queue c.loop-begin.came
 looked c b job other k =
     let h = c.loop-begin.invariant b job other k in
-    ⊎_elim (λ m. rw (m.1, m.2) (levels_lower k h c.loop-begin-test.true c.lightest_among-y.ensures m.0.taken)) (λ m. rw (m.1, m.2) (levels_same k h c.loop-begin-test.true c.lightest_among-y.ensures m.0.left)) c.if-n-bound.branch
+    elim c.if-n-bound.branch [
+      | then-n-bound w ↦ rw (w.best-is, w.bound-is) (levels_lower k h c.loop-begin-test.true c.lightest_among-y.ensures w.if-n-bound.true)
+      | else-n-bound w ↦ rw (w.best-is, w.bound-is) (levels_same k h c.loop-begin-test.true c.lightest_among-y.ensures w.if-n-bound.false)
+    ]
 
 pub offset_bounds-loads-goal : goal.offset_bounds-loads-goal
 offset_bounds-loads-goal c = omega (arith, small (goal.at.offset_bounds-loads-goal c).Start)
@@ -68,16 +65,16 @@ expand_level-more-requires c =
     record { in_order = c.requires.in_order; goal_le_most_benches = (small (goal.at.expand_level-more-requires c).Start).1; at_level = (course_from b c.loop-begin.begin c.loop-begin.end c.loop-begin.level, looked_level k (looked (goal.at.expand_level-more-requires c).Joined-n-bound b job other k) c.if-bound-low.false) }
 
 -- the level's number is small
-few : (c : After-expand_level-more) → (c.loop-begin.level < c.loop-begin.end) × (c.loop-begin.end ≤ most_benches)
+few : (c : Joined-n-bound) → (c.loop-begin.level < c.loop-begin.end) × (c.loop-begin.end ≤ most_benches)
 few c =
     let (b, job, other, k) = c.requires.by_index in
     looked_few k (looked c b job other k)
 
 pub overflow_add-level : goal.overflow_add-level
-overflow_add-level c = omega (arith, few (goal.at.overflow_add-level c).After-expand_level-more)
+overflow_add-level c = omega (arith, few (goal.at.overflow_add-level c).Joined-n-bound)
 
 pub loop-begin-smaller : goal.loop-begin-smaller
-loop-begin-smaller c = omega (arith, few (goal.at.loop-begin-smaller c).After-expand_level-more, c.loop-begin-test.true)
+loop-begin-smaller c = omega (arith, few (goal.at.loop-begin-smaller c).Joined-n-bound, c.loop-begin-test.true)
 
 pub loop-begin-preserved : goal.loop-begin-preserved
 loop-begin-preserved c =

@@ -8,21 +8,15 @@ use Rattle.sharing_paths_from.proofs.Finding.{nothing_found, first_level, path_f
 use Rattle.sharing_paths_from.proofs.find_from.Goals as goal
 use Rattle.sharing_paths_from.proofs.find_from.Goals.{After-begin_with-found, After-end_from-end}
 
--- a board of which the contract speaks
--- ?? tie
-abbrev Joined : tie.Start → Board → Type 0
-Joined c b = let a = c.args in WithJob (decode a.t.now) b a.s a.x a.job a.other
-
--- the first level was found ..
-begun : (c : After-begin_with-found) (b : Board) → let start = c in Joined start b → Loaded b start.args.loads.now → FirstLevel (decode start.args.t.now) b start.args.s start.args.loads.now start.args.x start.args.job start.args.other c.lightest-goal.result c.begin_with-found.result c.begin_with-found.new.1.1.1.1.1.0 c.begin_with-found.new.1.1.1.1.1.1.0
+-- the first level was found, on each board of which the contract speaks ..
+begun : (c : After-begin_with-found) (b : Board) → WithJob (decode c.args.t.now) b c.args.s c.args.x c.args.job c.args.other → Loaded b c.args.loads.now → FirstLevel (decode c.args.t.now) b c.args.s c.args.loads.now c.args.x c.args.job c.args.other c.lightest-goal.result c.begin_with-found.result c.begin_with-found.new.queue c.begin_with-found.new.came
 begun c b j l =
-    let start = c in
-    first_level j start.requires.1.0 l c.lightest-goal.ensures c.if-loads-x.false (c.begin_with-found.ensures b j)
+    first_level j c.requires.bench_in l c.lightest-goal.ensures c.if-loads-x.false (c.begin_with-found.ensures b j)
 
 -- .. then the end
-ended : (c : After-end_from-end) (b : Board) → Joined c b → Loaded b c.args.loads.now → EndFound (decode c.args.t.now) b c.args.s.benches c.args.x c.end_from-end.new.1.1.1.1.1.1.0 c.end_from-end.new.1.1.1.1.1.1.1.0 c.end_from-end.result
+ended : (c : After-end_from-end) (b : Board) → WithJob (decode c.args.t.now) b c.args.s c.args.x c.args.job c.args.other → Loaded b c.args.loads.now → EndFound (decode c.args.t.now) b c.args.s.benches c.args.x c.end_from-end.new.queue c.end_from-end.new.came c.end_from-end.result
 ended c b j l =
-    c.end_from-end.ensures b c.args.job c.args.other (begun c b j l)
+    c.end_from-end.ensures b c.args.job c.args.other (first_level j c.requires.bench_in l c.lightest-goal.ensures c.if-loads-x.false (c.begin_with-found.ensures b j))
 
 pub overflow_add-loads : goal.overflow_add-loads
 overflow_add-loads c = omega (arith, c.requires.loads_in.most c.lightest-goal.result c.lightest-goal.ensures.is.least, c.requires.in_order.sound.size.limits.jobs_most)

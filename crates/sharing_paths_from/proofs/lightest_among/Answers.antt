@@ -1,11 +1,10 @@
 use Prim.Native.Nat.{◌-◌, ◌≤◌}
 use native.Mathlib.Omega.{arith}
-use mathlib.Core.Logic.{⊎_elim}
 use Rattle.spec_table.specs.Table.{most_benches, most_jobs}
 use Rattle.graph_lists.specs.Arrays.{at}
 use Rattle.sharing_paths_from.proofs.Choosing.{among_start, among_next, among_lower, among_same, among_end}
 use Rattle.sharing_paths_from.proofs.lightest_among.Goals as goal
-use Rattle.sharing_paths_from.proofs.lightest_among.Goals.{In-loop-i}
+use Rattle.sharing_paths_from.proofs.lightest_among.Goals.{In-loop-i, then-loads-y, else-loads-y}
 
 pub overflow_cast-low : goal.overflow_cast-low
 overflow_cast-low c = omega (arith, (among_start c.requires).bench)
@@ -37,8 +36,10 @@ overflow_add-loads c = omega (arith, next (goal.at.overflow_add-loads c).In-loop
 
 pub loop-i-preserved : goal.loop-i-preserved
 loop-i-preserved c =
-    ⊎_elim (λ h. rw h.1 (among_lower c.requires c.loop-i.invariant c.loop-i-test.true h.0.taken))
-    (λ h. rw h.1 (among_same c.requires c.loop-i.invariant c.loop-i-test.true h.0.left)) c.if-loads-y.branch
+    elim c.if-loads-y.branch [
+      | then-loads-y w ↦ rw w.low-is (among_lower c.requires c.loop-i.invariant c.loop-i-test.true w.if-loads-y.true)
+      | else-loads-y w ↦ rw w.low-is (among_same c.requires c.loop-i.invariant c.loop-i-test.true w.if-loads-y.false)
+    ]
 
 pub returns : goal.returns
 returns c = among_end c.loop-i.invariant c.loop-i-test.false

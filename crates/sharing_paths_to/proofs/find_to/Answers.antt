@@ -56,18 +56,16 @@ returns-then-top-least c =
 pub loop-load-init : goal.loop-load-init
 loop-load-init c = λ board without loaded. begun (goal.at.loop-load-init c).Start board without loaded c.benches-came.ensures
 
--- ?? whole requires: c.before.before.before.before.before.before.before.before.requires
 pub search_round-round-requires : goal.search_round-round-requires
 search_round-round-requires c =
-    let (order, (bench, (loads, (top, (long, (board, without, loaded)))))) = c.requires in
-    record { in_order = order; loads_in = loads; x_bound = c.loop-load-test.true; rounds = (board, c.loop-load.invariant board without loaded) }
+    let (board, without, loaded) = c.requires.without_job in
+    record { in_order = c.requires.in_order; loads_in = c.requires.loads_in; x_bound = c.loop-load-test.true; rounds = (board, c.loop-load.invariant board without loaded) }
 
--- ?? whole requires: c.before.before.before.before.before.before.before.before.before.before.before.before.before.requires
 pub path_to-requires : goal.path_to-requires
 path_to-requires c =
-    let (order, (bench, (loads, (top, (long, (board, without, loaded)))))) = c.requires in
+    let (board, without, loaded) = c.requires.without_job in
     let found = (c.search_round-round.ensures board (c.loop-load.invariant board without loaded)).some c.if-round-ne0.true in
-    record { in_order = order; path_len = found.behind.searching.queue_long; n_nonzero = c.if-round-ne0.true; by_index = (board, c.search_round-round.result.found, _, without, found) }
+    record { in_order = c.requires.in_order; path_len = found.behind.searching.queue_long; n_nonzero = c.if-round-ne0.true; by_index = (board, c.search_round-round.result.found, _, without, found) }
 
 pub returns-then-round-ne0 : goal.returns-then-round-ne0
 returns-then-round-ne0 c =

@@ -13,17 +13,16 @@ holds : (c : Start) → HoldsBoard c.args.t.now c.args.s
 holds c = sound_holds_board c.args.t.now c.args.s c.requires.in_order.sound
 
 -- the path's first job is one of the table
--- ?? whole requires: c.before.before.before.requires
-job : (c : After-follow_back) → JobIn c.args.s (at c.follow_back.new.1.1.1.1.1.0 0)
+job : (c : After-follow_back) → JobIn c.args.s (at c.follow_back.new.path 0)
 job c =
-    let (order, (long, (some, (board, found, queue, without, k)))) = c.requires in
-    path_job c.follow_back.new.1.1.1.1.1.0 (holds c) without k some (c.follow_back.ensures.path_after k.course found queue k.behind)
+    let (board, found, queue, without, k) = c.requires.by_index in
+    let h = sound_holds_board c.args.t.now c.args.s c.requires.in_order.sound in
+    path_job c.follow_back.new.path h without k c.requires.n_nonzero (c.follow_back.ensures.path_after k.course found queue k.behind)
 
--- ?? whole requires: c.before.before.requires
 pub follow_back-requires : goal.follow_back-requires
 follow_back-requires c =
-    let (order, (long, (some, (board, found, queue, without, k)))) = c.requires in
-    record { in_order = order; path_len = long; by_index = (k.course, found, queue, k.behind) }
+    let (board, found, queue, without, k) = c.requires.by_index in
+    record { in_order = c.requires.in_order; path_len = c.requires.path_len; by_index = (k.course, found, queue, k.behind) }
 
 pub overflow_cast-path : goal.overflow_cast-path
 overflow_cast-path c = omega (arith, job (goal.at.overflow_cast-path c).After-follow_back, c.requires.in_order.sound.size.limits.jobs_most)
@@ -34,4 +33,4 @@ holder-bench-requires c = record { holds_board = holds (goal.at.holder-bench-req
 pub returns : goal.returns
 returns c =
     λ board found queue without k.
-    path_found c.follow_back.new.1.1.1.1.1.0 (holds (goal.at.returns c).Start) without k c.requires.n_nonzero (c.follow_back.ensures.path_after k.course found queue k.behind) c.follow_back.ensures.path_len_2 c.holder-bench.ensures
+    path_found c.follow_back.new.path (holds (goal.at.returns c).Start) without k c.requires.n_nonzero (c.follow_back.ensures.path_after k.course found queue k.behind) c.follow_back.ensures.path_len_2 c.holder-bench.ensures

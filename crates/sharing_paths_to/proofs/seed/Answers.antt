@@ -1,12 +1,11 @@
 use Prim.Native.Nat.{◌+◌, ◌-◌, ◌<◌}
 use native.Mathlib.Omega.{arith}
 use mathlib.Core.Path.{sym}
-use mathlib.Core.Logic.{⊎_elim}
 use Rattle.spec_table.specs.Table.{most_benches}
 use Rattle.graph_lists.specs.Arrays.{at}
 use Rattle.sharing_paths_to.proofs.Seeding.{seeding_start, seeding_few, seeding_other, seeding_turn, seeding_end, one_less}
 use Rattle.sharing_paths_to.proofs.seed.Goals as goal
-use Rattle.sharing_paths_to.proofs.seed.Goals.{In-loop-x}
+use Rattle.sharing_paths_to.proofs.seed.Goals.{In-loop-x, then-loads-x, else-loads-x}
 
 -- a bench's number is a place of the arrays
 place : (c : In-loop-x) → c.loop-x.x < most_benches + 1
@@ -44,8 +43,10 @@ loop-x-preserved c =
       λ s b board y e l r.
           let k = c.loop-x.invariant.2 s b board y e l r in
           let m = rw (← e) at c.loop-x-test.true in
-          ⊎_elim (λ w. rw (w.4, w.5, w.6) (seeding_turn k m w.0.taken w.3.ensures))
-          (λ w. rw (w.1, w.2, w.3) (seeding_other k m w.0.left)) c.if-loads-x.branch,
+          elim c.if-loads-x.branch [
+            | then-loads-x w ↦ rw (w.end-is, w.queue-is, w.came-is) (seeding_turn k m w.if-loads-x.true w.discover-end.ensures)
+            | else-loads-x w ↦ rw (w.end-is, w.queue-is, w.came-is) (seeding_other k m w.if-loads-x.false)
+          ],
     )
 
 pub returns : goal.returns

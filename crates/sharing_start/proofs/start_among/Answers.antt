@@ -1,10 +1,9 @@
 use Prim.Native.Nat.{◌-◌, ◌<◌}
 use native.Mathlib.Omega.{arith}
-use mathlib.Core.Logic.{⊎_elim}
 use Rattle.table_size.specs.Sizes.{BenchIn}
 use Rattle.sharing_start.proofs.Starting.{searched_past, searched_turn, searched_stop, searched_all, searched_none}
 use Rattle.sharing_start.proofs.start_among.Goals as goal
-use Rattle.sharing_start.proofs.start_among.Goals.{In-loop-x}
+use Rattle.sharing_start.proofs.start_among.Goals.{In-loop-x, then-loads-x+else-searched-ne0, else-loads-x}
 
 pub loop-x-init : goal.loop-x-init
 loop-x-init c = c.requires.searched
@@ -27,7 +26,7 @@ pub overflow_cast-loads : goal.overflow_cast-loads
 overflow_cast-loads c = omega (arith, c.requires.loads_in.most c.loop-x.x c.loop-x.invariant.least, c.requires.in_order.sound.size.limits.jobs_most)
 
 pub search_from-searched-requires : goal.search_from-searched-requires
-search_from-searched-requires c = record { in_order = c.requires.in_order; loaded = c.requires.loaded; bench_in = bench (goal.at.search_from-searched-requires c).In-loop-x; bound = omega (arith, c.requires.le_load); searched = rw c.if-loads-x.true c.loop-x.invariant }
+search_from-searched-requires c = record { in_order = c.requires.in_order; loaded = c.requires.loaded; bench_in = bench (goal.at.search_from-searched-requires c).In-loop-x; bound = rw c.if-loads-x.true c.requires.le_load; searched = rw c.if-loads-x.true c.loop-x.invariant }
 
 pub returns-then-searched-ne0 : goal.returns-then-searched-ne0
 returns-then-searched-ne0 c = searched_stop c.search_from-searched.ensures c.if-searched-ne0.true
@@ -40,9 +39,10 @@ loop-x-smaller c = omega (arith, c.loop-x-test.true)
 
 pub loop-x-preserved : goal.loop-x-preserved
 loop-x-preserved c =
-    ⊎_elim (λ w. rw (w.6, w.7, w.8) (searched_turn w.3.ensures w.0.taken w.5.left))
-    (λ w. rw (w.1, w.2, w.3) (searched_past c.loop-x.invariant c.requires.loaded (bench (goal.at.loop-x-preserved c).In-loop-x).most w.0.left))
-    c.if-loads-x.branch
+    elim c.if-loads-x.branch [
+      | then-loads-x+else-searched-ne0 w ↦ rw (w.found-is, w.queue-is, w.came-is) (searched_turn w.search_from-searched.ensures w.if-loads-x.true w.if-searched-ne0.false)
+      | else-loads-x w ↦ rw (w.found-is, w.queue-is, w.came-is) (searched_past c.loop-x.invariant c.requires.loaded (bench (goal.at.loop-x-preserved c).In-loop-x).most w.if-loads-x.false)
+    ]
 
 pub returns : goal.returns
 returns c = searched_none (searched_all c.loop-x.invariant (omega (arith, c.loop-x-test.false, c.benches-benches.ensures)))
