@@ -1,8 +1,7 @@
-use Prim.Native.Nat.{◌+◌, ◌-◌, ◌<◌}
+use Prim.Native.Nat.{◌+◌, ◌<◌}
 use native.Mathlib.Omega.{arith}
 use mathlib.Core.Path.{sym}
 use Rattle.spec_table.specs.Table.{most_benches}
-use Rattle.graph_lists.specs.Arrays.{at}
 use Rattle.sharing_paths_to.proofs.Seeding.{seeding_start, seeding_few, seeding_other, seeding_turn, seeding_end, one_less}
 use Rattle.sharing_paths_to.proofs.seed.Goals as goal
 use Rattle.sharing_paths_to.proofs.seed.Goals.{In-loop-x, then-loads-x, else-loads-x}
@@ -36,18 +35,17 @@ pub loop-x-smaller : goal.loop-x-smaller
 loop-x-smaller c = one_less c.loop-x-test.true
 
 pub loop-x-preserved : goal.loop-x-preserved
-loop-x-preserved c =
-    (
-      omega arith,
-      omega (arith, c.loop-x-test.true),
-      λ s b board y e l r.
-          let k = c.loop-x.invariant.2 s b board y e l r in
-          let m = rw (← e) at c.loop-x-test.true in
-          elim c.if-loads-x.branch [
-            | then-loads-x w ↦ rw (w.end-is, w.queue-is, w.came-is) (seeding_turn k m w.if-loads-x.true w.discover-end.ensures)
-            | else-loads-x w ↦ rw (w.end-is, w.queue-is, w.came-is) (seeding_other k m w.if-loads-x.false)
-          ],
-    )
+loop-x-preserved c = (
+  omega arith,
+  omega (arith, c.loop-x-test.true),
+  λ s b board y e l r.
+      let k = c.loop-x.invariant.2 s b board y e l r in
+      let m = rw (← e) at c.loop-x-test.true in
+      elim c.if-loads-x.branch [
+        | then-loads-x w ↦ rw (w.end-is, w.queue-is, w.came-is) (seeding_turn k m w.if-loads-x.true w.discover-end.ensures)
+        | else-loads-x w ↦ rw (w.end-is, w.queue-is, w.came-is) (seeding_other k m w.if-loads-x.false)
+      ],
+)
 
 pub returns : goal.returns
 returns c =

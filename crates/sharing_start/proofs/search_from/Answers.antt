@@ -1,6 +1,5 @@
-use Prim.Native.Nat.{◌-◌, ◌<◌}
+use Prim.Native.Nat.{◌<◌}
 use native.Mathlib.Omega.{arith}
-use Rattle.graph_lists.specs.Arrays.{at}
 use Rattle.sharing_search.proofs.Steps.{search_most}
 use Rattle.sharing_start.proofs.Starting.{seeking_start, seeking_level, seeking_end, level_queued, level_long, level_first, level_turn, searched_some, searched_none}
 use Rattle.sharing_start.proofs.search_from.Goals as goal

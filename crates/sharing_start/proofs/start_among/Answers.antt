@@ -1,4 +1,4 @@
-use Prim.Native.Nat.{◌-◌, ◌<◌}
+use Prim.Native.Nat.{◌<◌}
 use native.Mathlib.Omega.{arith}
 use Rattle.table_size.specs.Sizes.{BenchIn}
 use Rattle.sharing_start.proofs.Starting.{searched_past, searched_turn, searched_stop, searched_all, searched_none}
