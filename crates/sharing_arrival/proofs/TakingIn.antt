@@ -12,7 +12,7 @@ use lib.ListN.{length, take, drop, length-map}
 use Rattle.spec_lists.specs.Lists.{within, In, update}
 use Rattle.spec_table.specs.Board.{Board, Valid, names_of, holder_of, stands, put, held_by, names_fit}
 use Rattle.spec_table.specs.Table.{in_list, Storable, decode, encode}
-use Rattle.spec_sharing.specs.Paths.{Step, BenchPath, path_by, jobs, last, IsPath, hand_over, flip}
+use Rattle.spec_sharing.specs.Paths.{Step, BenchPath, path_by, IsPath, hand_over, flip}
 use Rattle.spec_sharing.specs.Sharing.{Change, arrival_choice, after_arrival, arrive}
 use Rattle.spec_calls.specs.Calls.{MayArrive}
 use Rattle.spec_lists.proofs.Tests.{true→T, not→false}
