@@ -1,43 +1,52 @@
 -- Each test is one of document 01's refusals, in its order; past them the arrival is the rule's, or its list is too short.
-use mathlib.Core.Logic.{⊎_elim, inl, inr}
+use mathlib.Core.Path.{ap}
+use mathlib.Core.Logic.{inl, inr}
+use mathlib.Core.Bool.{not}
 use mathlib.Core.List.{[], ◌∷◌}
-use borrow.Author.Tests.{eqb-true}
+use borrow.Author.Tests.{ne_eqb}
 use Rattle.spec_table.specs.Table.{decode}
 use Rattle.spec_calls.specs.Calls.{MayArrive}
 use Rattle.sharing_effects.specs.declared.Attempt.TheVariants.{Refused, Made}
 use Rattle.board_changes.proofs.ChangeOutcomes.{Numbered, arrival_number, bench_wrong, arrival_bench, readable, arrival_numbered, arrival_standing, may_arrive, arrival_left}
 use Rattle.board_changes.proofs.arrival_on.Goals as goal
 use Rattle.board_changes.proofs.arrival_on.Goals.{Else-first-second, Else-stands}
+use Rattle.board_changes.proofs.arrival_on.Goals.{then-not-has_bench-via-then-not-has_bench, then-not-has_bench-via-else-not-has_bench+then-not-has_bench-2, then-not-has_bench-via-else-not-has_bench+else-not-has_bench-2+then-first-second}
 
 pub returns-then-not-has_job : goal.returns-then-not-has_job
-returns-then-not-has_job c = arrival_number c.requires.found_sound.sound c.args.list.now c.args.job c.args.first c.args.second c.has_job.ensures c.if-not-has_job.true-raw
+returns-then-not-has_job c = arrival_number c.requires.found_sound.sound c.args.list.now c.args.job c.args.first c.args.second c.has_job.ensures (ap not c.if-not-has_job.true)
 
 pub returns-then-not-has_bench : goal.returns-then-not-has_bench
 returns-then-not-has_bench c =
-    arrival_bench c.requires.found_sound.sound c.args.list.now c.args.job c.args.first c.args.second c.has_job.ensures c.if-not-has_job.false-raw
-    (⊎_elim (λ w. inl (bench_wrong c.requires.found_sound.sound c.args.first c.has_bench.ensures w.taken)) (⊎_elim (λ w. inr (inl (bench_wrong c.requires.found_sound.sound c.args.second w.1.ensures w.2.taken))) (λ w. inr (inr (eqb-true c.args.first c.args.second w.3.taken)))) c.then-not-has_bench.either)
+    arrival_bench c.requires.found_sound.sound c.args.list.now c.args.job c.args.first c.args.second c.has_job.ensures (ap not c.if-not-has_job.false)
+    (
+      elim c.then-not-has_bench.branch [
+        then-not-has_bench-via-then-not-has_bench w ↦ inl (bench_wrong c.requires.found_sound.sound c.args.first c.has_bench.ensures (ap not w.if-not-has_bench.true))
+      | then-not-has_bench-via-else-not-has_bench+then-not-has_bench-2 w ↦ inr (inl (bench_wrong c.requires.found_sound.sound c.args.second w.has_bench-else-not-has_bench.ensures (ap not w.if-not-has_bench-2.true)))
+      | then-not-has_bench-via-else-not-has_bench+else-not-has_bench-2+then-first-second w ↦ inr (inr w.if-first-second.true)
+      ]
+    )
 
 pub stands-requires : goal.stands-requires
-stands-requires c = let both = readable c.requires.found_sound.sound c.args.job c.has_job.ensures c.if-not-has_job.false-raw in record { holds_board = both.0; job_in = both.1 }
+stands-requires c = let both = readable c.requires.found_sound.sound c.args.job c.has_job.ensures (ap not c.if-not-has_job.false) in record { holds_board = both.0; job_in = both.1 }
 
 -- the numbers passed
 passes : (c : Else-first-second) → let a = c.args in Numbered (decode a.t.now) a.job a.first a.second
 passes c =
     let a = c.args in
-    arrival_numbered c.requires.found_sound.sound a.job a.first a.second c.has_job.ensures c.if-not-has_job.false-raw c.has_bench.ensures c.if-not-has_bench.false-raw c.has_bench-else-not-has_bench.ensures c.if-not-has_bench-2.false-raw c.if-first-second.false-raw
+    arrival_numbered c.requires.found_sound.sound a.job a.first a.second c.has_job.ensures (ap not c.if-not-has_job.false) c.has_bench.ensures (ap not c.if-not-has_bench.false) c.has_bench-else-not-has_bench.ensures (ap not c.if-not-has_bench-2.false) (ne_eqb c.args.first c.args.second c.if-first-second.false)
 
 pub returns-then-stands : goal.returns-then-stands
 returns-then-stands c = arrival_standing c.requires.found_sound.sound c.args.list.now c.args.job c.args.first c.args.second (passes (goal.at.returns-then-stands c).Else-first-second) c.stands.ensures c.if-stands.true
 
 -- and no such job stands
-may : (c : Else-stands) → MayArrive (decode c.args.t.now) c.args.job (c.args.first ∷ c.args.second ∷ [])
-may c = may_arrive (passes c) c.stands.ensures c.if-stands.false
+may : (c : Else-stands) → Numbered (decode c.args.t.now) c.args.job c.args.first c.args.second → MayArrive (decode c.args.t.now) c.args.job (c.args.first ∷ c.args.second ∷ [])
+may c n = may_arrive n c.stands.ensures c.if-stands.false
 
 pub arrive-requires : goal.arrive-requires
-arrive-requires c = record { sound_table = c.requires.found_sound.sound; variant = c.requires.found_sound.bytes; may_arrive = may (goal.at.arrive-requires c).Else-stands; loaded = c.requires.found_sound.loaded; path_len = c.requires.path_len }
+arrive-requires c = record { sound_table = c.requires.found_sound.sound; variant = c.requires.found_sound.bytes; may_arrive = may (goal.at.arrive-requires c).Else-stands (passes (goal.at.arrive-requires c).Else-first-second); loaded = c.requires.found_sound.loaded; path_len = c.requires.path_len }
 
 pub returns-in-Refused : goal.returns-in-Refused
-returns-in-Refused c = arrival_left c.requires.found_sound.sound c.args.list.now c.args.job c.args.first c.args.second (Refused c.in-Refused.r) (may (goal.at.returns-in-Refused c).Else-stands) (rw c.in-Refused.is at c.arrive.ensures)
+returns-in-Refused c = arrival_left c.requires.found_sound.sound c.args.list.now c.args.job c.args.first c.args.second (Refused c.in-Refused.r) (may (goal.at.returns-in-Refused c).Else-stands (passes (goal.at.returns-in-Refused c).Else-first-second)) (rw c.in-Refused.is at c.arrive.ensures)
 
 pub returns-in-Made : goal.returns-in-Made
-returns-in-Made c = arrival_left c.requires.found_sound.sound c.args.list.now c.args.job c.args.first c.args.second (Made c.in-Made.e) (may (goal.at.returns-in-Made c).Else-stands) (rw c.in-Made.is at c.arrive.ensures)
+returns-in-Made c = arrival_left c.requires.found_sound.sound c.args.list.now c.args.job c.args.first c.args.second (Made c.in-Made.e) (may (goal.at.returns-in-Made c).Else-stands (passes (goal.at.returns-in-Made c).Else-first-second)) (rw c.in-Made.is at c.arrive.ensures)

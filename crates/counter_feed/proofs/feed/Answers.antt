@@ -1,8 +1,7 @@
-use Prim.Native.Nat.{◌+◌, ◌-◌, ◌≤◌, ◌<◌}
+use Prim.Native.Nat.{◌+◌, ◌≤◌, ◌<◌}
 use native.Mathlib.Omega.{arith}
 use mathlib.Core.Logic.{inl, inr}
 use lib.ListN.{length}
-use borrow.Author.Tests.{leb-true, leb-false}
 use Rattle.counter_answer_lines.specs.AnswerLines.{line_most}
 use Rattle.counter_feed.proofs.Consuming.{feeding_start, feeding_turn, feeding_end}
 use Rattle.counter_feed.proofs.feed.Goals as goal
@@ -14,12 +13,12 @@ loop-used-init c = (feeding_start c.args.r c.args.chunk.now c.args.bytes.now c.a
 -- there is no room for another reply
 full : (c : Else-out-at-ge-LINE_MOST) → length c.loop-used.out < c.loop-used.at + line_most
 full c =
-    omega (arith, leb-false line_most (length c.loop-used.out - c.loop-used.at) c.if-out-at-ge-LINE_MOST.false-raw, c.loop-used.invariant.0.written)
+    omega (arith, c.if-out-at-ge-LINE_MOST.false, c.loop-used.invariant.0.written)
 
 -- there is room for another reply
 room : (c : Then-out-at-ge-LINE_MOST) → c.loop-used.at + line_most ≤ length c.loop-used.out
 room c =
-    omega (arith, leb-true line_most (length c.loop-used.out - c.loop-used.at) c.if-out-at-ge-LINE_MOST.true-raw, c.loop-used.invariant.0.written)
+    omega (arith, c.if-out-at-ge-LINE_MOST.true, c.loop-used.invariant.0.written)
 
 pub take_byte-h-requires : goal.take_byte-h-requires
 take_byte-h-requires c = record { stands = c.loop-used.invariant.0.stands; line_most_in_bounds = room (goal.at.take_byte-h-requires c).Then-out-at-ge-LINE_MOST }

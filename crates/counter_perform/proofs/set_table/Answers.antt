@@ -8,10 +8,10 @@ use Rattle.table_size.proofs.Sizes.{fit_sizing}
 use Rattle.counter_state.specs.State.{table_most}
 use Rattle.counter_perform.proofs.Performing.{part_long, size_within, misfit_replies, table_replies}
 use Rattle.counter_perform.proofs.set_table.Goals as goal
-use Rattle.counter_perform.proofs.set_table.Goals.{After-bytes-length, In-Fit-2}
+use Rattle.counter_perform.proofs.set_table.Goals.{After-bytes-length, In-Fit}
 
 -- the size that `new` returned is for these benches and jobs ..
-asked : (c : In-Fit-2) → sizing c.args.benches c.args.jobs ≡ Fit c.in-Fit.s
+asked : (c : In-Fit) → sizing c.args.benches c.args.jobs ≡ Fit c.in-Fit.s
 asked c = sym c.new.ensures.value ∙ c.in-Fit.is
 
 -- .. and its bytes are among the program's
@@ -20,7 +20,7 @@ within c =
     size_within c.args.benches c.args.jobs (asked c) c.bytes-length.ensures
 
 pub bytes-length-requires : goal.bytes-length-requires
-bytes-length-requires c = (fit_sizing c.args.benches c.args.jobs c.in-Fit.s (asked (goal.at.bytes-length-requires c).In-Fit-2)).0
+bytes-length-requires c = (fit_sizing c.args.benches c.args.jobs c.in-Fit.s (asked (goal.at.bytes-length-requires c).In-Fit)).0
 
 pub slice_bounds-blank-end : goal.slice_bounds-blank-end
 slice_bounds-blank-end c =
@@ -34,4 +34,4 @@ pub returns-in-Misfit : goal.returns-in-Misfit
 returns-in-Misfit c = misfit_replies c.requires.room c.args.benches c.args.jobs (sym c.new.ensures.value ∙ c.in-Misfit.is) c.refuse.ensures
 
 pub returns-in-Fit : goal.returns-in-Fit
-returns-in-Fit c = table_replies c.requires.room c.args.benches c.args.jobs (asked (goal.at.returns-in-Fit c).In-Fit-2) c.bytes-length.ensures c.blank-a.ensures c.blank-a.auto.t c.new-tally.ensures c.two.ensures c.write_answer.ensures
+returns-in-Fit c = table_replies c.requires.room c.args.benches c.args.jobs (asked (goal.at.returns-in-Fit c).In-Fit) c.bytes-length.ensures c.blank-a.ensures c.blank-a.auto.t c.new-tally.ensures c.two.ensures c.write_answer.ensures
