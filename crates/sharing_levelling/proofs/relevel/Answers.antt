@@ -1,4 +1,3 @@
-use Prim.Native.Nat.{◌-◌}
 use native.Mathlib.Omega.{arith}
 use Rattle.spec_table.specs.Table.{decode}
 use Rattle.table_copies.proofs.Ordering.{table_loaded}

@@ -5,24 +5,25 @@ use Rattle.spec_table.specs.Table.{decode}
 use Rattle.sharing_paths_from.specs.ArrivalSearch.{WithJob, course_from}
 use Rattle.sharing_paths_from.proofs.Beginning.{Begun, Entered, begun_start, begun_below, begun_kept, begun_few, begun_turn, begun_same, begun_above, begun_end}
 use Rattle.sharing_paths_from.proofs.begin_with.Goals as goal
-use Rattle.sharing_paths_from.proofs.begin_with.Goals.{After-expand-below, Joined-job-ne0, then-job-ne0, else-job-ne0}
+use Rattle.sharing_paths_from.proofs.begin_with.Goals.{After-discover-start, After-expand-below, Joined-job-ne0, then-job-ne0, else-job-ne0}
 
--- x is found, then what its jobs below the new one lead to, on each board of which the contract speaks ..
-below : (c : After-expand-below) (b : Board) → WithJob (decode c.args.t.now) b c.args.s c.args.x c.args.job c.args.other → Begun b c.args.s.benches c.args.x c.args.job c.expand-below.result.found c.expand-below.new.queue c.expand-below.new.came
-below c b j =
-    let k = begun_start j c.requires.bench_in c.requires.queue_len c.requires.came_value c.discover-start.ensures in
+-- on each board of which the contract speaks x is found ..
+started : (c : After-discover-start) (b : Board) → WithJob (decode c.args.t.now) b c.args.s c.args.x c.args.job c.args.other → Begun b c.args.s.benches c.args.x 0 c.discover-start.result c.discover-start.new.queue c.discover-start.new.came
+started c b j =
+    begun_start j c.requires.bench_in c.requires.queue_len c.requires.came_value c.discover-start.ensures
+
+-- .. then what its jobs below the new one lead to
+below : (c : After-expand-below) (b : Board) → WithJob (decode c.args.t.now) b c.args.s c.args.x c.args.job c.args.other → Begun b c.args.s.benches c.args.x 0 c.discover-start.result c.discover-start.new.queue c.discover-start.new.came → Begun b c.args.s.benches c.args.x c.args.job c.expand-below.result.found c.expand-below.new.queue c.expand-below.new.came
+below c b j k =
     let m = begun_below j c.first_job-first.ensures k in
     begun_kept k c.expand-below.ensures.grown (c.expand-below.ensures.searching (course_from b 0 1 0) 0 m)
 
 -- .. and the new one
-entered : (c : Joined-job-ne0) (b : Board) → (j : WithJob (decode c.args.t.now) b c.args.s c.args.x c.args.job c.args.other) → Entered j c.if-job-ne0.found c.if-job-ne0.queue c.if-job-ne0.came
-entered c b j =
-    let k = begun_start j c.requires.bench_in c.requires.queue_len c.requires.came_value c.discover-start.ensures in
-    let m = begun_below j c.first_job-first.ensures k in
-    let n = begun_kept k c.expand-below.ensures.grown (c.expand-below.ensures.searching (course_from b 0 1 0) 0 m) in
+entered : (c : Joined-job-ne0) (b : Board) → (j : WithJob (decode c.args.t.now) b c.args.s c.args.x c.args.job c.args.other) → Begun b c.args.s.benches c.args.x c.args.job c.expand-below.result.found c.expand-below.new.queue c.expand-below.new.came → Entered j c.if-job-ne0.found c.if-job-ne0.queue c.if-job-ne0.came
+entered c b j k =
     elim c.if-job-ne0.branch [
-      | then-job-ne0 w ↦ rw (w.found-is, w.queue-is, w.came-is) (begun_turn j w.if-job-ne0.true n w.discover-found.ensures)
-      | else-job-ne0 w ↦ rw (w.found-is, w.queue-is, w.came-is) (begun_same j w.if-job-ne0.false n)
+      | then-job-ne0 w ↦ rw (w.found-is, w.queue-is, w.came-is) (begun_turn j w.if-job-ne0.true k w.discover-found.ensures)
+      | else-job-ne0 w ↦ rw (w.found-is, w.queue-is, w.came-is) (begun_same j w.if-job-ne0.false k)
     ]
 
 pub discover-start-requires : goal.discover-start-requires
@@ -34,22 +35,25 @@ first_job-first-requires c = record { in_order = c.requires.in_order; bench_in =
 pub expand-below-requires : goal.expand-below-requires
 expand-below-requires c =
     let (b, j) = c.requires.with_job in
-    record { in_order = c.requires.in_order; bench_in = c.requires.bench_in; by_index = (course_from b 0 1 0, 0, begun_below j c.first_job-first.ensures (begun_start j c.requires.bench_in c.requires.queue_len c.requires.came_value c.discover-start.ensures)) }
+    record { in_order = c.requires.in_order; bench_in = c.requires.bench_in; by_index = (course_from b 0 1 0, 0, begun_below j c.first_job-first.ensures (started (goal.at.expand-below-requires c).After-discover-start b j)) }
 
 pub discover-found-requires : goal.discover-found-requires
 discover-found-requires c =
     let (b, j) = c.requires.with_job in
-    record { y_le_most_benches = j.leads; found_le_most_benches = begun_few (below (goal.at.discover-found-requires c).After-expand-below b j) }
+    let at = goal.at.discover-found-requires c in
+    record { y_le_most_benches = j.leads; found_le_most_benches = begun_few (below at.After-expand-below b j (started at.After-discover-start b j)) }
 
 pub expand-rest-requires : goal.expand-rest-requires
 expand-rest-requires c =
     let (b, j) = c.requires.with_job in
-    let k = entered (goal.at.expand-rest-requires c).Joined-job-ne0 b j in
+    let at = goal.at.expand-rest-requires c in
+    let k = entered at.Joined-job-ne0 b j (below at.After-expand-below b j (started at.After-discover-start b j)) in
     record { in_order = c.requires.in_order; bench_in = c.requires.bench_in; by_index = (course_from b 0 1 0, k.0, begun_above j c.requires.bench_in c.expand-below.ensures.first_from k) }
 
 pub returns : goal.returns
 returns c =
     λ b j.
-    let k = entered (goal.at.returns c).Joined-job-ne0 b j in
+    let at = goal.at.returns c in
+    let k = entered at.Joined-job-ne0 b j (below at.After-expand-below b j (started at.After-discover-start b j)) in
     let m = begun_above j c.requires.bench_in c.expand-below.ensures.first_from k in
     begun_end (begun_kept k.2 c.expand-rest.ensures.grown (c.expand-rest.ensures.searching (course_from b 0 1 0) k.0 m))

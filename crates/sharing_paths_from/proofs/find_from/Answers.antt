@@ -3,20 +3,15 @@ use native.Mathlib.Omega.{arith}
 use Rattle.spec_table.specs.Board.{Board}
 use Rattle.spec_table.specs.Table.{decode}
 use Rattle.table_board.specs.BoardView.{Loaded}
-use Rattle.sharing_paths_from.specs.ArrivalSearch.{WithJob, FirstLevel, EndFound}
+use Rattle.sharing_paths_from.specs.ArrivalSearch.{WithJob, FirstLevel}
 use Rattle.sharing_paths_from.proofs.Finding.{nothing_found, first_level, path_found}
 use Rattle.sharing_paths_from.proofs.find_from.Goals as goal
-use Rattle.sharing_paths_from.proofs.find_from.Goals.{After-begin_with-found, After-end_from-end}
+use Rattle.sharing_paths_from.proofs.find_from.Goals.{After-begin_with-found}
 
--- the first level was found, on each board of which the contract speaks ..
+-- the first level was found, on each board of which the contract speaks
 begun : (c : After-begin_with-found) (b : Board) → WithJob (decode c.args.t.now) b c.args.s c.args.x c.args.job c.args.other → Loaded b c.args.loads.now → FirstLevel (decode c.args.t.now) b c.args.s c.args.loads.now c.args.x c.args.job c.args.other c.lightest-goal.result c.begin_with-found.result c.begin_with-found.new.queue c.begin_with-found.new.came
 begun c b j l =
     first_level j c.requires.bench_in l c.lightest-goal.ensures c.if-loads-x.false (c.begin_with-found.ensures b j)
-
--- .. then the end
-ended : (c : After-end_from-end) (b : Board) → WithJob (decode c.args.t.now) b c.args.s c.args.x c.args.job c.args.other → Loaded b c.args.loads.now → EndFound (decode c.args.t.now) b c.args.s.benches c.args.x c.end_from-end.new.queue c.end_from-end.new.came c.end_from-end.result
-ended c b j l =
-    c.end_from-end.ensures b c.args.job c.args.other (first_level j c.requires.bench_in l c.lightest-goal.ensures c.if-loads-x.false (c.begin_with-found.ensures b j))
 
 pub overflow_add-loads : goal.overflow_add-loads
 overflow_add-loads c = omega (arith, c.requires.loads_in.most c.lightest-goal.result c.lightest-goal.ensures.is.least, c.requires.in_order.sound.size.limits.jobs_most)
@@ -39,11 +34,11 @@ end_from-end-requires c =
 pub follow_back-requires : goal.follow_back-requires
 follow_back-requires c =
     let (b, j, l) = c.requires.with_job in
-    let e = ended (goal.at.follow_back-requires c).After-end_from-end b j l in
+    let e = c.end_from-end.ensures b c.args.job c.args.other (begun (goal.at.follow_back-requires c).After-begin_with-found b j l) in
     record { in_order = c.requires.in_order; path_len = e.behind.searching.queue_long; by_index = (e.course, e.found, _, e.behind) }
 
 pub returns : goal.returns
 returns c =
     λ b j l.
-    let e = ended (goal.at.returns c).After-end_from-end b j l in
+    let e = c.end_from-end.ensures b c.args.job c.args.other (begun (goal.at.returns c).After-begin_with-found b j l) in
     path_found j c.requires.bench_in e c.follow_back.ensures.path_len_2 (c.follow_back.ensures.path_after e.course e.found _ e.behind)
