@@ -17,7 +17,7 @@ asked c = sym c.new.ensures.value ∙ c.in-Fit.is
 -- .. and its bytes are among the program's
 within : (c : After-bytes-length) → c.bytes-length.result ≤ table_most
 within c =
-    size_within c.args.benches c.args.jobs (asked c) c.bytes-length.ensures
+    size_within c.args.benches c.args.jobs (sym c.new.ensures.value ∙ c.in-Fit.is) c.bytes-length.ensures
 
 pub bytes-length-requires : goal.bytes-length-requires
 bytes-length-requires c = (fit_sizing c.args.benches c.args.jobs c.in-Fit.s (asked (goal.at.bytes-length-requires c).In-Fit)).0
