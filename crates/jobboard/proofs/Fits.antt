@@ -9,7 +9,7 @@ use lib.Dec.{T, eqb}
 use lib.ListN.{length}
 use Rattle.spec_lists.specs.Lists.{bit, member, all, empty}
 use Rattle.spec_table.specs.Board.{Board, holder_of, names_of, stands, load, heaviest}
-use Rattle.spec_table.specs.Table.{most_benches, most_jobs, words, Layout, layout, fits, sound, decode, Storable}
+use Rattle.spec_table.specs.Table.{most_benches, most_jobs, words, Layout, layout, fits, decode, Storable}
 use Rattle.spec_pair.specs.Pair.{records_read, job_found}
 use Rattle.spec_sharing.specs.Sharing.{Levelled, close, relevel, level, tight_set, inside}
 use Rattle.spec_calls.specs.Answers.{Answer, Outcome, is_refused, refused, arrived, closed, said, level_yes, level_no, levelled, stopped}

@@ -19,11 +19,11 @@ pub returns-then-not-has_bench : goal.returns-then-not-has_bench
 returns-then-not-has_bench c =
     arrival_bench c.requires.found_sound.sound c.args.list.now c.args.job c.args.first c.args.second c.has_job.ensures (ap not c.if-not-has_job.false)
     (
-      elim c.then-not-has_bench.branch [
-        then-not-has_bench-via-then-not-has_bench w ↦ inl (bench_wrong c.requires.found_sound.sound c.args.first c.has_bench.ensures (ap not w.if-not-has_bench.true))
+    elim c.then-not-has_bench.branch [
+      | then-not-has_bench-via-then-not-has_bench w ↦ inl (bench_wrong c.requires.found_sound.sound c.args.first c.has_bench.ensures (ap not w.if-not-has_bench.true))
       | then-not-has_bench-via-else-not-has_bench+then-not-has_bench-2 w ↦ inr (inl (bench_wrong c.requires.found_sound.sound c.args.second w.has_bench-else-not-has_bench.ensures (ap not w.if-not-has_bench-2.true)))
       | then-not-has_bench-via-else-not-has_bench+else-not-has_bench-2+then-first-second w ↦ inr (inr w.if-first-second.true)
-      ]
+    ]
     )
 
 pub stands-requires : goal.stands-requires
