@@ -36,11 +36,14 @@ returns-in-Rising c = record { due_len = c.pass_over.ensures.due_len; form_of = 
 
 pub returns-then-is_formed : goal.returns-then-is_formed
 returns-then-is_formed c =
-    record { due_len = c.pass_over.ensures.due_len; form_of = formed_answered
+    record {
+      due_len = c.pass_over.ensures.due_len;
+      form_of = formed_answered
           (sized (goal.at.returns-then-is_formed c).In-Fit)
           (sym c.is_formed.ensures.value ∙ c.if-is_formed.true)
           (c.is_formed.ensures.chain_lengths (true→T _ c.if-is_formed.true))
-          (ended (goal.at.returns-then-is_formed c).In-Ended).other }
+          (ended (goal.at.returns-then-is_formed c).In-Ended).other;
+    }
 
 pub returns-else-is_formed : goal.returns-else-is_formed
 returns-else-is_formed c = record { due_len = c.pass_over.ensures.due_len; form_of = unformed_answered (sized (goal.at.returns-else-is_formed c).In-Fit) _ (sym c.is_formed.ensures.value ∙ c.if-is_formed.false) }

@@ -20,17 +20,22 @@ passed c = rw c.in-All.is at c.meet_all.ensures.reached_as
 
 pub returns-then-none_due : goal.returns-then-none_due
 returns-then-none_due c =
-    record { due_len = c.meet_all.ensures.due_len; pass_of = passed_rising
+    record {
+      due_len = c.meet_all.ensures.due_len;
+      pass_of = passed_rising
           c.requires.size_of
           (passed (goal.at.returns-then-none_due c).In-All)
           (c.none_due.ensures.0 (true→T _ c.if-none_due.true))
           (sym c.standing_word.ensures ∙ c.if-standing_word-count.true)
           (sym c.spare_word.ensures ∙ c.if-spare_word-eq0.true)
-          (λ i. omega (arith, c.type_inv.t i)) }
+          (λ i. omega (arith, c.type_inv.t i));
+    }
 
 pub returns-else-spare_word-eq0 : goal.returns-else-spare_word-eq0
 returns-else-spare_word-eq0 c =
-    record { due_len = c.meet_all.ensures.due_len; pass_of = record {
+    record {
+      due_len = c.meet_all.ensures.due_len;
+      pass_of = record {
         other = λ k. elim c.else-spare_word-eq0.branch [
           | else-spare_word-eq0-via-then-spare_word-eq0+then-standing_word-count+else-none_due w ↦ subst T w.if-none_due.false (w.none_due.ensures.1 (rw c.in-All.is at (c.meet_all.ensures.all_in_turn k)))
           | else-spare_word-eq0-via-then-spare_word-eq0+else-standing_word-count w ↦ w.if-standing_word-count.false (w.standing_word.ensures ∙ encoded_standing k (passed (goal.at.returns-else-spare_word-eq0 c).In-All))
@@ -38,4 +43,5 @@ returns-else-spare_word-eq0 c =
         ];
         counted = rw c.jobs.ensures (passed (goal.at.returns-else-spare_word-eq0 c).In-All).records;
         by_bench = c.meet_all.ensures.by_bench;
-      } }
+      };
+    }

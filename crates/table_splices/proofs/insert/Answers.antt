@@ -17,12 +17,16 @@ word c = elim c.if-first-holder.branch [
 pub write_record-requires : goal.write_record-requires
 write_record-requires c =
     let small = name_small c.args.s c.args.j (c.args.first ∷ c.args.second ∷ []) c.args.holder in
-    record { size_of = c.requires.in_order.sound.size; job_in = c.requires.fillable.job; record_fits = record {
-          first = small 0 c.requires.in_order.sound.size.limits c.requires.fillable (omega arith);
-          second = small 1 c.requires.in_order.sound.size.limits c.requires.fillable (omega arith);
-          holder = chosen_small c.args.first c.args.holder c.if-first-holder.word (word (goal.at.write_record-requires c).Joined-first-holder);
-          next = behind_small c.requires.in_order.sound.size.limits c.requires.gap_of;
-        } }
+    record {
+      size_of = c.requires.in_order.sound.size;
+      job_in = c.requires.fillable.job;
+      record_fits = record {
+        first = small 0 c.requires.in_order.sound.size.limits c.requires.fillable (omega arith);
+        second = small 1 c.requires.in_order.sound.size.limits c.requires.fillable (omega arith);
+        holder = chosen_small c.args.first c.args.holder c.if-first-holder.word (word (goal.at.write_record-requires c).Joined-first-holder);
+        next = behind_small c.requires.in_order.sound.size.limits c.requires.gap_of;
+      };
+    }
 
 pub link-requires : goal.link-requires
 link-requires c = record { size_of = c.write_record.ensures.size; bench_in = fillable_bench c.requires.fillable; i_le_jobs = before_few c.requires.gap_of; n_bound = omega (arith, c.requires.fillable.job.most, c.requires.in_order.sound.size.limits.jobs_most) }
