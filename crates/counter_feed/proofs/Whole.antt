@@ -10,7 +10,7 @@ use Rattle.counter_feed.specs.Feeding.{place_of, Stands, Begins, Finishes, Feedi
 use Rattle.counter_feed.specs.declared.Reader.{Reader}
 
 -- calls of `feed` are a run of the definition
-feedings_run : {a b : Place} {inputs texts : List (List ℕ)} → Feedings b a inputs texts → ConsumesAll b a inputs texts
+feedings_run : {b a : Place} {inputs texts : List (List ℕ)} → Feedings b a inputs texts → ConsumesAll b a inputs texts
 feedings_run over = ended
 feedings_run (fed f s) = then f.consumes (feedings_run s)
 
