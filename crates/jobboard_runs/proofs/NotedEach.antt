@@ -1,13 +1,13 @@
 -- The tally's equality, by the contracts of `Tally::new` and `Tally::note`.
 use Prim.Native.Nat.{ℕ, ◌+◌}
 use mathlib.Core.Path.{◌≡◌, refl, sym, ap, subst, ◌∙◌}
-use mathlib.Core.List.{List, [], ◌∷◌}
+use mathlib.Core.List.{List}
 use mathlib.Core.Option.{none}
 use contract.Lifetimes.{Lfts}
 use Rattle.spec_table.specs.Board.{standing}
 use Rattle.spec_table.specs.Table.{decode}
 use Rattle.spec_calls.specs.Answers.{Outcome, is_refused, said, blanked}
-use Rattle.spec_calls.specs.Calls.{Call, blanking}
+use Rattle.spec_calls.specs.Calls.{Call}
 use Rattle.spec_calls.specs.JobBook.{table_after, Runs, AsDefined}
 use Rattle.spec_calls.specs.Tally as paper
 use Rattle.spec_calls.specs.Tally.{zero_tally, noted, tally_after, NoNine}
