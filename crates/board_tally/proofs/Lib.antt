@@ -1,3 +1,4 @@
--- Noting an answer, and the contracts as the equality of lists sees them.
+-- Noting an answer, and tallies, answers and notes as machine values.
 pub mod Noting
+pub mod Machine
 pub mod Contracts
