@@ -16,7 +16,7 @@ use Rattle.board_questions.proofs.form_check.Reads as check-form
 use Rattle.board_questions.proofs.level_check.Reads as check-level
 use Rattle.board_questions.proofs.load.Reads as load
 use Rattle.board_questions.proofs.heaviest.Reads as heaviest
-use Rattle.board_questions.proofs.tight_set.Reads as tight_set_lem
+use Rattle.board_questions.proofs.tight_set.Reads as tight-set
 use Rattle.board_sheet.proofs.sheet.Reads as wall-sheet
 use Rattle.board_pair.proofs.between.Reads as between-benches
 
@@ -46,7 +46,7 @@ pub data Done : Call → List ℕ → Outcome → Type 0 where
       Done (ask heaviest_load []) a.0.now (left_by r a.0.now [])
   -- table, height, list
   byTightSet :
-      (κs : Lfts 2) (a : _) (r : _) (s : _) → tight_set_lem.Post κs a r s →
+      (κs : Lfts 2) (a : _) (r : _) (s : _) → tight-set.Post κs a r s →
       Done (ask (tight_set_of a.1.0) a.1.1.0.now) a.0.now (left_by r a.0.now s.1.1.0.now)
   -- table
   byFormCheck :
