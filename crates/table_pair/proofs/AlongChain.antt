@@ -120,7 +120,7 @@ pub record Along (t : List ℕ) (s : Size) (x y : ℕ) (met : Option ℕ) (befor
   pub all : read + room ≡ s.jobs
   pub rest : rest_of (layout_in t) x y met before read (suc room) j ≡ whole_of (layout_in t) x y met
 
--- before the met job nothing is read ..
+-- before the first job nothing is read ..
 pub along_start : {t : List ℕ} {s : Size} {x j : ℕ} (y : ℕ) (met : Option ℕ) → SizeOf t s → HeadOf t x j → Along t s x y met 0 0 j
 along_start {t} {s} {x} {j} y met size h =
     let l = layout_in t in
