@@ -1,8 +1,8 @@
 // The table's chains copied, in the order they stand, to arrays that a walk reads without the table.
 #![tactic(auto)]
 
-ghost use Rattle.std.specs.Prelude.{◌≡◌, ◌+◌, length, replicate};
-ghost use Rattle.spec_table.specs.Table.{most_benches, most_jobs};
+ghost use Rattle.std.specs.Prelude.{◌≡◌, ◌+◌, replicate};
+ghost use Rattle.spec_table.specs.Table.{most_benches};
 ghost use Rattle.table_size.specs.Sizes.{SoundTable};
 ghost use Rattle.sharing_chains.specs.StoredChains.{StoredJobs, StoredChains};
 
@@ -16,22 +16,16 @@ fn copy_jobs(
     next: &mut [u16; Size::MOST_JOBS + 1],
     to: &mut [u16; Size::MOST_JOBS + 1],
 )
-    requires sound_table { SoundTable t.now s }
-    requires next_len { length next.old ≡ most_jobs + 1 }
-    requires to_len { length to.old ≡ most_jobs + 1 }
+    requires { SoundTable t.now s }
     ensures { StoredJobs t.now next.new to.new }
 {
-    let jobs = s.jobs();
-    let mut done = 0;
-    while done < jobs {
-        let j = done + 1;
+    for j in 1..s.jobs() + 1 {
         let holder = jobs::holder(t, s, j);
         if holder != 0 {
             let other = sharing_steps::other(t, s, j, holder);
             next[j] = table_chains::next(t, s, j) as u16;
             to[j] = other as u16;
         }
-        done += 1;
     }
 }
 
@@ -45,8 +39,6 @@ pub fn copy_chains(
 )
     requires sound_table { SoundTable t.now s }
     requires head_value { head.old ≡ replicate (most_benches + 1) 0 }
-    requires next_len { length next.old ≡ most_jobs + 1 }
-    requires to_len { length to.old ≡ most_jobs + 1 }
     ensures { StoredChains t.now s head.new next.new to.new }
 {
     table_chains::copy_heads(t, s, head);
