@@ -16,12 +16,5 @@ pub fn wanted_among(
     requires { QueuedIn queue.now begin end }
     ensures { Tells (WantedIn queue.now begin end key.now limit) result }
 {
-    let mut i = begin;
-    while i < end {
-        if key[queue[i] as usize] <= limit {
-            return true;
-        }
-        i += 1;
-    }
-    false
+    (begin..end).any(|i| key[usize::from(queue[i])] <= limit)
 }

@@ -1,8 +1,8 @@
 // The jobs of each bench, listed in rising order.
 #![tactic(auto)]
 
-ghost use Rattle.std.specs.Prelude.{◌≡◌, ◌+◌, length, replicate};
-ghost use Rattle.spec_table.specs.Table.{most_benches, most_jobs, decode};
+ghost use Rattle.std.specs.Prelude.{◌≡◌, ◌+◌, replicate};
+ghost use Rattle.spec_table.specs.Table.{most_benches, decode};
 ghost use Rattle.table_size.specs.Sizes.{SoundTable};
 ghost use Rattle.sheet_jobs.specs.JobLists.{JobLists};
 
@@ -19,14 +19,11 @@ pub fn list_jobs(
 )
     requires sound_table { SoundTable t.now s }
     requires head_value { head.old ≡ replicate (most_benches + 1) 0 }
-    requires next_len { length next.old ≡ most_jobs + 1 }
     ensures { JobLists (decode t.now) head.new next.new }
 {
-    let mut j = s.jobs();
-    while 0 < j {
+    for j in (1..s.jobs() + 1).rev() {
         let x = jobs::holder(t, s, j);
         next[j] = head[x];
         head[x] = j as u16;
-        j -= 1;
     }
 }
