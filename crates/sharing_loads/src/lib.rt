@@ -41,20 +41,15 @@ fn count_on(s: Size, loads: &[u16; Size::MOST_BENCHES + 1], c: Count, more: usiz
     ensures count_of_2 { CountOf s loads.now result }
     ensures benches_value { result.benches ≡ c.benches + more }
 {
-    let benches = c.benches;
+    let benches = c.benches + more;
     let mut best = c.best;
     let mut left = c.left;
-    let mut done = 0;
-    while done < more {
-        done += 1;
-        let n = loads[benches + done];
+    for &n in &loads[c.benches + 1..benches + 1] {
         left -= n;
-        if best < n {
-            best = n;
-        }
+        best = best.max(n);
     }
     Count {
-        benches: benches + more,
+        benches,
         best,
         left,
     }
@@ -104,7 +99,7 @@ pub fn find_heaviest(t: &[u8], s: Size, loads: &[u16; Size::MOST_BENCHES + 1]) -
         c = count_on(s, loads, c, 1);
     }
     Heaviest {
-        load: c.best as usize,
+        load: usize::from(c.best),
         benches: c.benches,
     }
 }
@@ -114,14 +109,11 @@ pub fn lightest(s: Size, loads: &[u16; Size::MOST_BENCHES + 1]) -> usize
     requires { Limits s }
     ensures { Lightest s loads.now result }
 {
-    let benches = s.benches();
     let mut low = 1;
-    let mut x = 2;
-    while x <= benches {
+    for x in 2..s.benches() + 1 {
         if loads[x] < loads[low] {
             low = x;
         }
-        x += 1;
     }
     low
 }
@@ -132,15 +124,12 @@ pub fn next_lower(s: Size, loads: &[u16; Size::MOST_BENCHES + 1], load: usize) -
     requires loads_in { LoadsIn s loads.now }
     ensures { NextLower s loads.now load result }
 {
-    let benches = s.benches();
     let mut lower = 0;
-    let mut x = 1;
-    while x <= benches {
-        let n = loads[x] as usize;
-        if n < load && lower < n {
-            lower = n;
+    for &n in &loads[1..s.benches() + 1] {
+        let n = usize::from(n);
+        if n < load {
+            lower = lower.max(n);
         }
-        x += 1;
     }
     lower
 }
