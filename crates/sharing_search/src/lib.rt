@@ -93,13 +93,14 @@ pub fn expand_level(
         Level c s.benches goal result queue.new came.new }
 {
     let mut found = end;
-    let mut done = begin;
-    while done < end && came[goal] == 0 {
-        let x = queue[done] as usize;
+    for place in begin..end {
+        if came[goal] != 0 {
+            break;
+        }
+        let x = usize::from(queue[place]);
         let job = table_order::first_job(t, s, x);
         let e = expand(t, s, x, job, Size::MOST_JOBS + 1, found, queue, came);
         found = e.found;
-        done += 1;
     }
     found
 }

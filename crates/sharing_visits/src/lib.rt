@@ -32,7 +32,7 @@ fn visit(
         return;
     }
     marks[x] = true;
-    walk(head, next, to, head[x] as usize, marks);
+    walk(head, next, to, usize::from(head[x]), marks);
 }
 
 // Marks what the chain from job j on brings in.
@@ -53,9 +53,9 @@ fn walk(
     if j == 0 {
         return;
     }
-    visit(head, next, to, to[j] as usize, marks);
+    visit(head, next, to, usize::from(to[j]), marks);
     // Keeps this call last: compiled, it is a loop along the chain and takes no stack.
-    walk(head, next, to, next[j] as usize, marks);
+    walk(head, next, to, usize::from(next[j]), marks);
 }
 
 // Marks what the chains of the benches with load h or more bring in.
@@ -76,12 +76,9 @@ pub fn walk_heavy(
         (FromHeavy s loads.now h (Leads head.now next.now to.now))
         marks.old marks.new }
 {
-    let benches = s.benches();
-    let mut x = 1;
-    while x <= benches {
-        if h <= loads[x] as usize {
-            walk(head, next, to, head[x] as usize, marks);
+    for x in 1..s.benches() + 1 {
+        if h <= usize::from(loads[x]) {
+            walk(head, next, to, usize::from(head[x]), marks);
         }
-        x += 1;
     }
 }
