@@ -2,15 +2,15 @@
 ghost use Rattle.graph_lists.specs.Arrays.{Tells};
 ghost use Rattle.graph_lists.specs.Keys.{QueuedIn, WantedIn};
 
-use table_size::Size;
+use table_size::PerBench;
 
 // Tells whether a wanted bench, one with a key of at most `limit`, stands in the queue from place `begin` to
 // `end`.
 pub fn wanted_among(
-    queue: &[u16; Size::MOST_BENCHES + 1],
+    queue: &PerBench<u16>,
     begin: usize,
     end: usize,
-    key: &[u16; Size::MOST_BENCHES + 1],
+    key: &PerBench<u16>,
     limit: u16,
 ) -> bool
     requires { QueuedIn queue.now begin end }

@@ -7,14 +7,14 @@ ghost use Rattle.table_size.specs.Sizes.{SoundTable};
 ghost use Rattle.sharing_chains.specs.StoredChains.{StoredJobs, StoredChains};
 
 use table_board::jobs;
-use table_size::Size;
+use table_size::{PerBench, PerJob, Size};
 
 // Writes, at each standing job, the job after it on its chain and the other bench that it names.
 fn copy_jobs(
     t: &[u8],
     s: Size,
-    next: &mut [u16; Size::MOST_JOBS + 1],
-    to: &mut [u16; Size::MOST_JOBS + 1],
+    next: &mut PerJob<u16>,
+    to: &mut PerJob<u16>,
 )
     requires { SoundTable t.now s }
     ensures { StoredJobs t.now next.new to.new }
@@ -33,9 +33,9 @@ fn copy_jobs(
 pub fn copy_chains(
     t: &[u8],
     s: Size,
-    head: &mut [u16; Size::MOST_BENCHES + 1],
-    next: &mut [u16; Size::MOST_JOBS + 1],
-    to: &mut [u16; Size::MOST_JOBS + 1],
+    head: &mut PerBench<u16>,
+    next: &mut PerJob<u16>,
+    to: &mut PerJob<u16>,
 )
     requires sound_table { SoundTable t.now s }
     requires head_value { head.old ≡ replicate (most_benches + 1) 0 }

@@ -10,7 +10,7 @@ ghost use Rattle.table_chains.specs.Chains.{ChainOf, StoredHeads, NextOf, Chains
 
 use table_board::jobs;
 use table_header::heads;
-use table_size::Size;
+use table_size::{PerBench, Size};
 
 // Reads the first job on bench x's chain, 0 for none.
 pub fn head(t: &[u8], s: Size, x: usize) -> usize
@@ -22,7 +22,7 @@ pub fn head(t: &[u8], s: Size, x: usize) -> usize
 }
 
 // Writes, at x, the first job on bench x's chain; 0 stands beyond the last bench.
-pub fn copy_heads(t: &[u8], s: Size, head: &mut [u16; Size::MOST_BENCHES + 1])
+pub fn copy_heads(t: &[u8], s: Size, head: &mut PerBench<u16>)
     requires sound_table { SoundTable t.now s }
     requires head_value { head.old ≡ replicate (most_benches + 1) 0 }
     ensures { StoredHeads t.now s head.new }
