@@ -83,6 +83,7 @@ impl Size {
     }
 
     // Tells whether x is a bench of 1 to B. One comparison, as in has_job.
+    // Kept: one function for both would be this comparison, called with the limit.
     pub fn has_bench(self, x: usize) -> bool
         ensures { result ≡ within 1 self.benches x }
     {
