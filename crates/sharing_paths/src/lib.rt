@@ -11,7 +11,7 @@ ghost use Rattle.table_board.specs.BoardView.{HoldsBoard};
 ghost use Rattle.sharing_paths.specs.FoundPaths.{Behind, JobAt, AfterIn, RouteIn};
 
 use table_board::jobs;
-use table_size::Size;
+use table_size::{PerBench, Size};
 
 // What is found: the path's other end, and how many jobs it has; where there is no path, the bench asked for, and 0.
 #[derive(Clone, Copy)]
@@ -25,10 +25,10 @@ pub struct FoundPath {
 pub fn follow_back(
     t: &[u8],
     s: Size,
-    came: &[u16; Size::MOST_BENCHES + 1],
+    came: &PerBench<u16>,
     y: usize,
     n: usize,
-    path: &mut [u16; Size::MOST_BENCHES + 1],
+    path: &mut PerBench<u16>,
 )
     requires in_order { InOrder t.now s }
     requires by_index { (c : Course) × (found : ℕ) × (queue : List ℕ) ×
@@ -42,7 +42,7 @@ pub fn follow_back(
         let j = came[x];
         path[left] = j;
         if 0 < left {
-            x = sharing_steps::origin(t, s, usize::from(j), x);
+            x = sharing_steps::other(t, s, usize::from(j), x);
         }
     }
 }
@@ -51,7 +51,7 @@ pub fn follow_back(
 pub fn bench_after(
     t: &[u8],
     s: Size,
-    path: &[u16; Size::MOST_BENCHES + 1],
+    path: &PerBench<u16>,
     at: usize,
     n: usize,
     end: usize,
@@ -69,14 +69,7 @@ pub fn bench_after(
 }
 
 // Hands each of the jobs at places `first` to n of `path` to the bench that holds the next one, the last to `end`.
-pub fn hand_along(
-    t: &mut [u8],
-    s: Size,
-    path: &[u16; Size::MOST_BENCHES + 1],
-    first: usize,
-    n: usize,
-    end: usize,
-)
+pub fn hand_along(t: &mut [u8], s: Size, path: &PerBench<u16>, first: usize, n: usize, end: usize)
     requires in_order { InOrder t.old s }
     requires n_le_most_benches { n ≤ most_benches }
     requires by_index { (x : ℕ) × (r : List Step) × RouteIn (decode t.old) path.now first n end x r }

@@ -15,17 +15,12 @@ ghost use Rattle.sharing_paths_from.specs.ArrivalSearch.{WithNew, FromBench, Fir
 
 pub use new_job::NewJob;
 use sharing_paths::FoundPath;
-use table_size::Size;
+use table_size::{PerBench, Size};
 
 mod new_job;
 
 // Finds, of the benches at places `begin` to `end` of the queue, the one with the lowest load, then the lowest number.
-fn lightest_among(
-    queue: &[u16; Size::MOST_BENCHES + 1],
-    begin: usize,
-    end: usize,
-    loads: &[u16; Size::MOST_BENCHES + 1],
-) -> usize
+fn lightest_among(queue: &PerBench<u16>, begin: usize, end: usize, loads: &PerBench<u16>) -> usize
     requires { Weighed queue.now begin end loads.now }
     ensures { LightestAt loads.now (at queue.now) begin end result }
 {
@@ -46,8 +41,8 @@ fn begin_with(
     s: Size,
     x: usize,
     arriving: Option<NewJob>,
-    queue: &mut [u16; Size::MOST_BENCHES + 1],
-    came: &mut [u16; Size::MOST_BENCHES + 1],
+    queue: &mut PerBench<u16>,
+    came: &mut PerBench<u16>,
 ) -> usize
     requires in_order { InOrder t.now s }
     requires bench_in { BenchIn s x }
@@ -74,12 +69,12 @@ fn begin_with(
 fn end_from(
     t: &[u8],
     s: Size,
-    loads: &[u16; Size::MOST_BENCHES + 1],
+    loads: &PerBench<u16>,
     x: usize,
     goal: usize,
     end: usize,
-    queue: &mut [u16; Size::MOST_BENCHES + 1],
-    came: &mut [u16; Size::MOST_BENCHES + 1],
+    queue: &mut PerBench<u16>,
+    came: &mut PerBench<u16>,
 ) -> FoundPath
     requires in_order { InOrder t.now s }
     requires loads_in { LoadsIn s loads.now }
@@ -123,10 +118,10 @@ fn end_from(
 pub fn find_from(
     t: &[u8],
     s: Size,
-    loads: &[u16; Size::MOST_BENCHES + 1],
+    loads: &PerBench<u16>,
     x: usize,
     arriving: Option<NewJob>,
-    path: &mut [u16; Size::MOST_BENCHES + 1],
+    path: &mut PerBench<u16>,
 ) -> FoundPath
     requires in_order { InOrder t.now s }
     requires bench_in { BenchIn s x }

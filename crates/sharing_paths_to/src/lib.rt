@@ -8,7 +8,7 @@ ghost use Rattle.spec_lists.specs.Lists.{greatest};
 ghost use Rattle.spec_table.specs.Board.{Board};
 ghost use Rattle.spec_table.specs.Table.{decode};
 ghost use Rattle.spec_sharing.specs.Sharing.{closing_choice};
-ghost use Rattle.table_size.specs.Sizes.{Limits, BenchIn};
+ghost use Rattle.table_size.specs.Sizes.{BenchIn};
 ghost use Rattle.table_board.specs.BoardView.{Loaded};
 ghost use Rattle.table_order.specs.InOrder.{InOrder};
 ghost use Rattle.graph_lists.specs.Arrays.{at, LoadsIn};
@@ -17,7 +17,7 @@ ghost use Rattle.sharing_paths_to.specs.ClosingSearch.{WithoutJob, Rounds, InRou
 
 use sharing_paths::FoundPath;
 use table_board::jobs;
-use table_size::Size;
+use table_size::{PerBench, Size};
 
 // What a round found: how many benches are found in all, and how many jobs lead to the bench that lost one, where it was
 // found.
@@ -30,13 +30,12 @@ struct Round {
 // Starts the search at every bench of this load that is not found, in rising number; tells how many are found then.
 fn seed(
     s: Size,
-    loads: &[u16; Size::MOST_BENCHES + 1],
+    loads: &PerBench<u16>,
     load: usize,
     found: usize,
-    queue: &mut [u16; Size::MOST_BENCHES + 1],
-    came: &mut [u16; Size::MOST_BENCHES + 1],
+    queue: &mut PerBench<u16>,
+    came: &mut PerBench<u16>,
 ) -> usize
-    requires limits { Limits s }
     requires loads_in { LoadsIn s loads.now }
     requires by_index { (b c : Board) × (x : ℕ) × (at loads.now x + 2 ≤ load) ×
         Rounds b c s loads.now x load found queue.old came.old }
@@ -57,12 +56,12 @@ fn seed(
 fn search_round(
     t: &[u8],
     s: Size,
-    loads: &[u16; Size::MOST_BENCHES + 1],
+    loads: &PerBench<u16>,
     load: usize,
     x: usize,
     found: usize,
-    queue: &mut [u16; Size::MOST_BENCHES + 1],
-    came: &mut [u16; Size::MOST_BENCHES + 1],
+    queue: &mut PerBench<u16>,
+    came: &mut PerBench<u16>,
 ) -> Round
     requires in_order { InOrder t.now s }
     requires loads_in { LoadsIn s loads.now }
@@ -98,10 +97,10 @@ fn search_round(
 fn path_to(
     t: &[u8],
     s: Size,
-    came: &[u16; Size::MOST_BENCHES + 1],
+    came: &PerBench<u16>,
     x: usize,
     n: usize,
-    path: &mut [u16; Size::MOST_BENCHES + 1],
+    path: &mut PerBench<u16>,
 ) -> FoundPath
     requires in_order { InOrder t.now s }
     requires n_nonzero { n ≢ 0 }
@@ -123,10 +122,10 @@ fn path_to(
 pub fn find_to(
     t: &[u8],
     s: Size,
-    loads: &[u16; Size::MOST_BENCHES + 1],
+    loads: &PerBench<u16>,
     x: usize,
     top: usize,
-    path: &mut [u16; Size::MOST_BENCHES + 1],
+    path: &mut PerBench<u16>,
 ) -> FoundPath
     requires in_order { InOrder t.now s }
     requires bench_in { BenchIn s x }

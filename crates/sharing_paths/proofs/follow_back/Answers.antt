@@ -1,5 +1,6 @@
-use Prim.Native.Nat.{◌≤◌}
+use Prim.Native.Nat.{◌-◌, ◌≤◌}
 use native.Mathlib.Omega.{arith}
+use mathlib.Core.Logic.{inr}
 use lib.ListN.{length-set}
 use Rattle.spec_table.specs.Table.{most_benches}
 use Rattle.table_board.proofs.RecordsAsBoard.{sound_holds_board}
@@ -38,12 +39,12 @@ offset_bounds-path-left c = omega (arith, room (goal.at.offset_bounds-path-left 
 pub bounds-path-left : goal.bounds-path-left
 bounds-path-left c = omega (arith, room (goal.at.bounds-path-left c).In-loop-left)
 
-pub origin-x-requires : goal.origin-x-requires
-origin-x-requires c =
+pub other-x-requires : goal.other-x-requires
+other-x-requires c =
     let (course, found, queue, k) = c.requires.by_index in
     let h = sound_holds_board c.args.t.now c.args.s c.requires.in_order.sound in
     let led = followed_led h k (c.loop-left.invariant.followed course found queue k) c.loop-left-test.true c.if-left-gt0.true in
-    record { holds_board = h; y_value = rw c.from.ensures led.0; y_nonzero = led.1 }
+    record { holds_board = h; x_end = inr (rw c.from.ensures led.0); x_nonzero = led.1 }
 
 pub loop-left-preserved-then-left-gt0 : goal.loop-left-preserved-then-left-gt0
 loop-left-preserved-then-left-gt0 c =
@@ -51,7 +52,9 @@ loop-left-preserved-then-left-gt0 c =
     record {
       long = rw length-set c.loop-left.invariant.long;
       followed = λ course found queue k.
-          followed_turn h k (c.loop-left.invariant.followed course found queue k) c.loop-left-test.true c.loop-left.invariant.long (λ m. rw (← c.from.ensures) c.origin-x.ensures);
+          let f = c.loop-left.invariant.followed course found queue k in
+          let origin = λ (m : 1 ≤ c.loop-left.left - 1). c.other-x.ensures.origin (rw c.from.ensures (followed_led h k f c.loop-left-test.true m).0) in
+          followed_turn h k f c.loop-left-test.true c.loop-left.invariant.long (λ m. rw (← c.from.ensures) (origin m));
     }
 
 pub loop-left-preserved : goal.loop-left-preserved

@@ -5,17 +5,12 @@ use mathlib.Core.List.{List}
 use lib.ListN.{replicate}
 use Rattle.spec_table.specs.Board.{Board}
 use Rattle.spec_table.specs.Table.{most_benches, decode}
-use Rattle.table_size.specs.Sizes.{Limits}
 use Rattle.table_board.specs.BoardView.{Loaded}
 use Rattle.sharing_loads.proofs.Greatest.{board_heaviest}
 use Rattle.sharing_paths_to.specs.ClosingSearch.{WithoutJob, Rounds}
 use Rattle.sharing_paths_to.proofs.Rounds.{rounds_begin, rounds_lower, rounds_none, path_none}
 use Rattle.sharing_paths_to.proofs.find_to.Goals as goal
 use Rattle.sharing_paths_to.proofs.find_to.Goals.{In-loop-load, Start}
-
--- the sizes are within the limits
-limits : (c : Start) → Limits c.args.s
-limits c = c.requires.in_order.sound.size.limits
 
 -- a round's load is not 0
 some-load : (c : In-loop-load) → 1 ≤ c.loop-load.load
@@ -24,8 +19,8 @@ some-load c = omega (arith, c.loop-load-test.true)
 -- on every board that the contract speaks of, nothing was searched yet
 begun : (c : Start) (board : Board) {came : List ℕ} → WithoutJob (decode c.args.t.now) board c.args.s c.args.x → Loaded board c.args.loads.now → came ≡ replicate (most_benches + 1) 0 → Rounds (decode c.args.t.now) board c.args.s c.args.loads.now c.args.x c.args.top 0 c.args.path.now came
 begun c board without loaded e =
-    let heaviest = board_heaviest without.benches (limits c).benches_most loaded refl in
-    rounds_begin without loaded c.requires.bench_in (limits c).benches_most (omega (arith, heaviest, c.requires.loads_bound)) c.told-path e
+    let heaviest = board_heaviest without.benches c.args.s.benches_most loaded refl in
+    rounds_begin without loaded c.requires.bench_in c.args.s.benches_most (omega (arith, heaviest, c.requires.loads_bound)) c.told-path e
 
 pub returns-then-top-least : goal.returns-then-top-least
 returns-then-top-least c =
