@@ -2,50 +2,43 @@
 // written: the list, and the table.
 #![tactic(auto)]
 
-ghost use Rattle.std.specs.Prelude.{◌≡◌, ◌+◌, T, length};
+ghost use Rattle.std.specs.Prelude.{◌≡◌, T};
 ghost use Rattle.spec_table.specs.Board.{stands};
-ghost use Rattle.spec_table.specs.Table.{most_benches, decode, encode};
+ghost use Rattle.spec_table.specs.Table.{decode, encode};
 ghost use Rattle.spec_sharing.specs.Sharing.{close};
 ghost use Rattle.table_board.specs.BoardView.{Loaded};
 ghost use Rattle.table_order.specs.InOrder.{InOrder};
 ghost use Rattle.sharing_effects.specs.Effects.{lent};
 ghost use Rattle.sharing_closing.specs.ClosingResult.{ClosingFound, ClosingOf};
 
-use sharing_effects::{Attempt, Effect};
+use sharing_effects::Effect;
 use sharing_paths::FoundPath;
 use table_board::jobs;
 use table_refusals::Refusal;
-use table_size::Size;
+use table_size::{PerBench, Size};
 
 // Finds what a closing of job j hands along: the path's jobs into `path`. The loads lose the job.
 pub fn find_closing(
     t: &[u8],
     s: Size,
-    loads: &mut [u16; Size::MOST_BENCHES + 1],
+    loads: &mut PerBench<u16>,
     j: usize,
-    path: &mut [u16; Size::MOST_BENCHES + 1],
+    path: &mut PerBench<u16>,
 ) -> FoundPath
     requires in_order { InOrder t.now s }
     requires t { T (stands (decode t.now) j) }
     requires loaded { Loaded (decode t.now) loads.old }
-    requires path_len { length path.old ≡ most_benches + 1 }
     ensures { ClosingFound (decode t.now) j path.new result }
 {
     let x = jobs::holder(t, s, j);
     // Reads the heaviest load before it may fall: a word just written would hold up the reading of all.
-    let top = s.greatest(loads) as usize;
+    let top = usize::from(s.greatest(loads));
     loads[x] -= 1;
     sharing_paths_to::find_to(t, s, loads, x, top, path)
 }
 
 // Closes job j and hands the path's jobs along, the last to the bench that held it.
-pub fn apply_closing(
-    t: &mut [u8],
-    s: Size,
-    j: usize,
-    found: FoundPath,
-    path: &[u16; Size::MOST_BENCHES + 1],
-)
+pub fn apply_closing(t: &mut [u8], s: Size, j: usize, found: FoundPath, path: &PerBench<u16>)
     requires in_order { InOrder t.old s }
     requires t { T (stands (decode t.old) j) }
     requires closing_found { ClosingFound (decode t.old) j path.now found }
@@ -61,27 +54,26 @@ pub fn apply_closing(
 pub fn close_in_order(
     t: &mut [u8],
     s: Size,
-    loads: &mut [u16; Size::MOST_BENCHES + 1],
-    path: &mut [u16; Size::MOST_BENCHES + 1],
+    loads: &mut PerBench<u16>,
+    path: &mut PerBench<u16>,
     j: usize,
     list: &mut [u8],
-) -> Attempt
+) -> Result<Effect, Refusal>
     requires in_order { InOrder t.old s }
     requires t { T (stands (decode t.old) j) }
     requires loaded { Loaded (decode t.old) loads.old }
-    requires path_len { length path.old ≡ most_benches + 1 }
     ensures { ClosingOf j (lent t.old list.old)
         (lent t.new list.new) result }
 {
     let found = find_closing(t, s, loads, j, path);
     let moved = found.jobs;
     if list.len() < 2 * moved {
-        return Attempt::Refused(Refusal::ListTooShort);
+        return Err(Refusal::ListTooShort);
     }
     let whole = &path[..];
     table_words::write_list(list, &whole[..moved]);
     apply_closing(t, s, j, found, path);
-    Attempt::Made(Effect {
+    Ok(Effect {
         holder: 0,
         bench: found.bench,
         moved,

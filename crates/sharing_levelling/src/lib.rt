@@ -1,14 +1,14 @@
 // Levelling, and whether a board is level.
 #![tactic(auto)]
 
-ghost use Rattle.std.specs.Prelude.{◌+◌, ◌≡◌, ◌↔◌, T, length};
+ghost use Rattle.std.specs.Prelude.{◌≡◌, ◌↔◌, T, length};
 ghost use Rattle.spec_sharing.specs.Sharing.{level};
-ghost use Rattle.spec_table.specs.Table.{most_benches, decode, encode};
+ghost use Rattle.spec_table.specs.Table.{decode, encode};
 ghost use Rattle.table_size.specs.Sizes.{SoundTable};
 ghost use Rattle.table_board.specs.BoardView.{Loaded};
 ghost use Rattle.sharing_levelling.specs.LevellingResult.{LevellingOf};
 
-use table_size::Size;
+use table_size::{PerBench, Size};
 
 // What levelling reports: the paths flipped, and whether no improving path is left.
 #[derive(Clone, Copy)]
@@ -22,18 +22,17 @@ pub struct Levelling {
 fn is_level_copy(
     t: &[u8],
     s: Size,
-    loads: &[u16; Size::MOST_BENCHES + 1],
-    queue: &mut [u16; Size::MOST_BENCHES + 1],
+    loads: &PerBench<u16>,
+    queue: &mut PerBench<u16>,
     copy: &mut [u8],
 ) -> bool
     requires sound_table { SoundTable t.now s }
     requires loaded { Loaded (decode t.now) loads.now }
-    requires queue_len { length queue.old ≡ most_benches + 1 }
     requires copy_len { length copy.old ≡ length t.now }
     ensures { result ≡ level (decode t.now) }
 {
     table_copies::copy_in_order(t, s, copy);
-    sharing_start::first_start(copy, s, loads, queue) == 0
+    sharing_start::first_start(copy, s, loads, queue).is_none()
 }
 
 // Tells whether no improving path is left. What the queue holds does not matter.
@@ -41,17 +40,16 @@ pub fn is_level(
     t: &[u8],
     s: Size,
     rising: bool,
-    loads: &[u16; Size::MOST_BENCHES + 1],
-    queue: &mut [u16; Size::MOST_BENCHES + 1],
+    loads: &PerBench<u16>,
+    queue: &mut PerBench<u16>,
 ) -> bool
     requires sound_table { SoundTable t.now s }
     requires variant { T rising ↔ (t.now ≡ encode (decode t.now)) }
     requires loaded { Loaded (decode t.now) loads.now }
-    requires queue_len { length queue.old ≡ most_benches + 1 }
     ensures { result ≡ level (decode t.now) }
 {
     if rising {
-        sharing_start::first_start(t, s, loads, queue) == 0
+        sharing_start::first_start(t, s, loads, queue).is_none()
     } else {
         let mut copy = [0; Size::MOST_BYTES];
         let n = s.bytes();
@@ -66,31 +64,31 @@ pub fn relevel(
     t: &mut [u8],
     s: Size,
     rising: bool,
-    loads: &mut [u16; Size::MOST_BENCHES + 1],
-    path: &mut [u16; Size::MOST_BENCHES + 1],
+    loads: &mut PerBench<u16>,
+    path: &mut PerBench<u16>,
     allowance: u32,
 ) -> Levelling
     requires sound_table { SoundTable t.old s }
     requires variant { T rising ↔ (t.old ≡ encode (decode t.old)) }
     requires loaded { Loaded (decode t.old) loads.old }
-    requires path_len { length path.old ≡ most_benches + 1 }
     ensures { LevellingOf t.old t.new allowance result }
 {
     table_copies::put_in_order(t, s, rising);
-    let mut paths = 0;
     // Between two paths the path's array is the queue of the search for the next start.
-    let mut x = sharing_start::first_start(t, s, loads, path);
-    while x != 0 && paths < allowance {
-        let found = sharing_paths_from::find_from(t, s, loads, x, 0, 0, path);
+    let mut start = sharing_start::first_start(t, s, loads, path);
+    for paths in 0..allowance {
+        let Some(x) = start else {
+            return Levelling { paths, level: true };
+        };
+        let found = sharing_paths_from::find_from(t, s, loads, x, None, path);
         let y = found.bench;
         sharing_paths::hand_along(t, s, path, 0, found.jobs, y);
         loads[x] -= 1;
         loads[y] += 1;
-        paths += 1;
-        x = sharing_start::first_start(t, s, loads, path);
+        start = sharing_start::first_start(t, s, loads, path);
     }
     Levelling {
-        paths,
-        level: x == 0,
+        paths: allowance,
+        level: start.is_none(),
     }
 }
