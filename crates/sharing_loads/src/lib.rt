@@ -110,6 +110,7 @@ pub fn lightest(s: Size, loads: &PerBench<u16>) -> usize
 }
 
 // Finds the greatest load below `load`, 0 where no bench has less.
+// Kept: no Option, since 0 is a load like any other, below all from which a search starts; callers only compare it.
 pub fn next_lower(s: Size, loads: &PerBench<u16>, load: usize) -> usize
     ensures { NextLower s loads.now load result }
 {

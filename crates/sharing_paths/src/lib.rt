@@ -14,6 +14,7 @@ use table_board::jobs;
 use table_size::{PerBench, Size};
 
 // What is found: the path's other end, and how many jobs it has; where there is no path, the bench asked for, and 0.
+// Kept: no Option, since a path of no jobs ends where it starts, and is followed and handed along like any other.
 #[derive(Clone, Copy)]
 pub struct FoundPath {
     pub bench: usize,

@@ -2,6 +2,7 @@
 // nothing to the table. What is found stands in a queue, in the order of finding; `came` has the job by which each
 // bench was found, 0 for none, and at a start Size::MOST_JOBS + 1, which is no job. Chains rise and the queue is first
 // in, first out: so these jobs, followed back, are the first list in dictionary order.
+// Kept: numbers for none and for a start, fixed memory: a word for each bench, where an Option of a word takes two.
 #![tactic(auto)]
 
 ghost use Rattle.std.specs.Prelude.{ℕ, ◌≤◌};
@@ -76,6 +77,7 @@ pub fn expand(
 
 // Takes every step from the benches at places `begin` to `end` of the queue, in this order, until `goal` is found;
 // bench 0 is none. Tells how many benches are found then.
+// Kept: 0 for no goal, since `came[0]` stays 0 and needs no test of its own in the loop.
 pub fn expand_level(
     t: &[u8],
     s: Size,
