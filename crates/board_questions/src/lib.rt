@@ -9,7 +9,6 @@ ghost use Rattle.table_board.specs.BoardView.{Loaded};
 ghost use Rattle.board_answers.specs.Answered.{Leaves};
 
 use board_answers::Answer;
-use table_form::Form;
 use table_refusals::Refusal;
 use table_size::Size;
 
@@ -18,10 +17,8 @@ pub fn form_check(t: &[u8]) -> Result<Answer, Refusal>
     ensures { Leaves (outcome (ask form_check []) t.now) result t.now [] }
 {
     let mut loads = [0; Size::MOST_BENCHES + 1];
-    match table_form::check(t, &mut loads) {
-        Form::Refused(r) => Err(r),
-        Form::Sound(_, _) => Ok(Answer::Sound),
-    }
+    table_form::check(t, &mut loads)?;
+    Ok(Answer::Sound)
 }
 
 // Checks whether no path improves.
@@ -31,15 +28,11 @@ pub fn level_check(t: &[u8]) -> Result<Answer, Refusal>
     // Serves the form check first: one array less to clear.
     let mut queue = [0; Size::MOST_BENCHES + 1];
     let mut loads = [0; Size::MOST_BENCHES + 1];
-    match table_form::check_with(t, &mut queue, &mut loads) {
-        Form::Refused(r) => Err(r),
-        Form::Sound(s, rising) => {
-            if sharing_levelling::is_level(t, s, rising, &loads, &mut queue) {
-                Ok(Answer::Level)
-            } else {
-                Ok(Answer::NotLevel)
-            }
-        }
+    let form = table_form::check_with(t, &mut queue, &mut loads)?;
+    if sharing_levelling::is_level(t, form.size, form.rising, &loads, &mut queue) {
+        Ok(Answer::Level)
+    } else {
+        Ok(Answer::NotLevel)
     }
 }
 
@@ -48,16 +41,11 @@ pub fn load(t: &[u8], bench: usize) -> Result<Answer, Refusal>
     ensures { Leaves (outcome (ask (load_of bench) []) t.now) result t.now [] }
 {
     let mut loads = [0; Size::MOST_BENCHES + 1];
-    match table_form::check(t, &mut loads) {
-        Form::Refused(r) => Err(r),
-        Form::Sound(s, _) => {
-            if s.has_bench(bench) {
-                Ok(Answer::Load(usize::from(loads[bench])))
-            } else {
-                Err(Refusal::BenchNumber)
-            }
-        }
+    let form = table_form::check(t, &mut loads)?;
+    if !form.size.has_bench(bench) {
+        return Err(Refusal::BenchNumber);
     }
+    Ok(Answer::Load(usize::from(loads[bench])))
 }
 
 // Answers the heaviest load.
@@ -65,10 +53,8 @@ pub fn heaviest(t: &[u8]) -> Result<Answer, Refusal>
     ensures { Leaves (outcome (ask heaviest_load []) t.now) result t.now [] }
 {
     let mut loads = [0; Size::MOST_BENCHES + 1];
-    match table_form::check(t, &mut loads) {
-        Form::Refused(r) => Err(r),
-        Form::Sound(s, _) => Ok(Answer::Heaviest(sharing_loads::find_heaviest(t, s, &loads).load)),
-    }
+    let form = table_form::check(t, &mut loads)?;
+    Ok(Answer::Heaviest(sharing_loads::find_heaviest(t, form.size, &loads).load))
 }
 
 // Lists the tight set on a sound table, or refuses with 7 or 8, in this order.
@@ -106,8 +92,6 @@ pub fn tight_set(t: &[u8], height: usize, list: &mut [u8]) -> Result<Answer, Ref
         t.now list.new }
 {
     let mut loads = [0; Size::MOST_BENCHES + 1];
-    match table_form::check(t, &mut loads) {
-        Form::Refused(r) => Err(r),
-        Form::Sound(s, _) => tight_set_on(t, s, &loads, height, list),
-    }
+    let form = table_form::check(t, &mut loads)?;
+    tight_set_on(t, form.size, &loads, height, list)
 }

@@ -8,7 +8,6 @@ ghost use Rattle.table_board.specs.BoardView.{Loaded};
 ghost use Rattle.board_answers.specs.Answered.{Leaves};
 
 use board_answers::Answer;
-use table_form::Form;
 use table_refusals::Refusal;
 use table_size::Size;
 
@@ -36,8 +35,6 @@ pub fn sheet(t: &[u8], page: &mut [u8]) -> Result<Answer, Refusal>
         t.now page.new }
 {
     let mut loads = [0; Size::MOST_BENCHES + 1];
-    match table_form::check(t, &mut loads) {
-        Form::Refused(r) => Err(r),
-        Form::Sound(s, _) => sheet_on(t, s, &loads, page),
-    }
+    let form = table_form::check(t, &mut loads)?;
+    sheet_on(t, form.size, &loads, page)
 }

@@ -4,7 +4,7 @@ use mathlib.Core.Logic.{inl, inr}
 use mathlib.Core.Bool.{not}
 use mathlib.Core.List.{[], ◌∷◌}
 use borrow.Author.Tests.{ne_eqb}
-use Rattle.std.proofs.lemmas.Result.{err_from_is_err_and}
+use Rattle.board_answers.proofs.Formal.{passed_on}
 use Rattle.spec_table.specs.Table.{decode}
 use Rattle.spec_calls.specs.Calls.{MayArrive}
 use Rattle.board_changes.proofs.ChangeOutcomes.{Numbered, arrival_number, bench_wrong, arrival_bench, arrival_numbered, arrival_standing, may_arrive, arrival_short, arrival_made}
@@ -41,8 +41,7 @@ may c n = may_arrive n c.stands.ensures c.if-stands.false
 
 pub returns-in_err-effect : goal.returns-in_err-effect
 returns-in_err-effect c =
-    let p = err_from_is_err_and c.from_residual.result c.from_residual.ensures.1 in
-    rw (p.1, p.2) (arrival_short c.requires.found_sound.sound c.args.list.now c.args.job c.args.first c.args.second c.in_err-effect.field-0.0 (may (goal.at.returns-in_err-effect c).Else-stands (passes (goal.at.returns-in_err-effect c).Else-first-second)) c.in_err-effect.ensures)
+    passed_on c.from_residual.ensures.1 (arrival_short c.requires.found_sound.sound c.args.list.now c.args.job c.args.first c.args.second c.in_err-effect.field-0.0 (may (goal.at.returns-in_err-effect c).Else-stands (passes (goal.at.returns-in_err-effect c).Else-first-second)) c.in_err-effect.ensures)
 
 pub returns : goal.returns
 returns c = arrival_made c.requires.found_sound.sound c.args.list.now c.args.job c.args.first c.args.second c.in_ok-effect.effect (may (goal.at.returns c).Else-stands (passes (goal.at.returns c).Else-first-second)) c.in_ok-effect.ensures

@@ -2,7 +2,7 @@
 use mathlib.Core.Path.{ap}
 use mathlib.Core.Bool.{not}
 use lib.Dec.{T}
-use Rattle.std.proofs.lemmas.Result.{err_from_is_err_and}
+use Rattle.board_answers.proofs.Formal.{passed_on}
 use Rattle.spec_lists.proofs.Tests.{passed}
 use Rattle.spec_table.specs.Board.{stands}
 use Rattle.spec_table.specs.Table.{decode}
@@ -22,8 +22,7 @@ standing c = passed c.stands.ensures (ap not c.if-not-stands.false)
 
 pub returns-in_err-effect : goal.returns-in_err-effect
 returns-in_err-effect c =
-    let p = err_from_is_err_and c.from_residual.result c.from_residual.ensures.1 in
-    rw (p.1, p.2) (closing_short c.requires.found_sound.sound c.args.list.now c.args.job c.in_err-effect.field-0.0 (standing (goal.at.returns-in_err-effect c).Else-not-stands) c.in_err-effect.ensures)
+    passed_on c.from_residual.ensures.1 (closing_short c.requires.found_sound.sound c.args.list.now c.args.job c.in_err-effect.field-0.0 (standing (goal.at.returns-in_err-effect c).Else-not-stands) c.in_err-effect.ensures)
 
 pub returns : goal.returns
 returns c = closing_made c.requires.found_sound.sound c.args.list.now c.args.job c.in_ok-effect.effect (standing (goal.at.returns c).Else-not-stands) c.in_ok-effect.ensures

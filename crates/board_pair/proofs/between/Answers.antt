@@ -1,7 +1,7 @@
 -- 1 by the sizes, then 4 by the benches, before a record is read.
 use mathlib.Core.Path.{sym, ◌∙◌}
 use mathlib.Core.Logic.{inl, inr}
-use Rattle.std.proofs.lemmas.Result.{err_from_is_err_and}
+use Rattle.board_answers.proofs.Formal.{passed_on}
 use Rattle.table_size.proofs.Sizes.{fit_size}
 use Rattle.board_pair.proofs.AskingPair.{misfit_refused, benches_refused}
 use Rattle.board_pair.proofs.between.Goals as goal
@@ -9,8 +9,7 @@ use Rattle.board_pair.proofs.between.Goals.{then-not-has_bench-via-then-not-has_
 
 pub returns-in_err-s : goal.returns-in_err-s
 returns-in_err-s c =
-    let p = err_from_is_err_and c.from_residual.result c.from_residual.ensures.1 in
-    rw (p.1, p.2) (misfit_refused c.args.t.now c.args.first c.args.second c.in_err-s.ensures)
+    passed_on c.from_residual.ensures.1 (misfit_refused c.args.t.now c.args.first c.args.second c.in_err-s.ensures)
 
 pub returns-then-not-has_bench : goal.returns-then-not-has_bench
 returns-then-not-has_bench c =

@@ -1,21 +1,19 @@
 -- Two walks: one that is broken refuses, else both tell the answer.
 use native.Mathlib.Omega.{arith}
 use mathlib.Core.Path.{refl, sym, ◌∙◌}
-use Rattle.std.proofs.lemmas.Result.{err_from_is_err_and}
+use Rattle.board_answers.proofs.Formal.{passed_on}
 use Rattle.board_pair.proofs.AskingPair.{first_refused, first_read, second_refused, second_read, both_few, pair_answered}
 use Rattle.board_pair.proofs.between_two.Goals as goal
 
 pub returns-in_err-one : goal.returns-in_err-one
 returns-in_err-one c =
-    let p = err_from_is_err_and c.from_residual.result c.from_residual.ensures.1 in
-    rw (p.1, p.2) (first_refused c.requires.size_of c.args.first c.args.second c.requires.t c.in_err-one.ensures)
+    passed_on c.from_residual.ensures.1 (first_refused c.requires.size_of c.args.first c.args.second c.requires.t c.in_err-one.ensures)
 
 pub returns-in_err-other : goal.returns-in_err-other
 returns-in_err-other c =
     let z = c.requires.size_of in
     let first = first_read z c.args.first c.args.second c.requires.t c.in_ok-one.ensures in
-    let p = err_from_is_err_and c.from_residual-in_err-other.result c.from_residual-in_err-other.ensures.1 in
-    rw (p.1, p.2) (second_refused z c.args.first c.args.second c.requires.t first c.in_err-other.ensures)
+    passed_on c.from_residual-in_err-other.ensures.1 (second_refused z c.args.first c.args.second c.requires.t first c.in_err-other.ensures)
 
 pub overflow_add-records : goal.overflow_add-records
 overflow_add-records c =
