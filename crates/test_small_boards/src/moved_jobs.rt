@@ -1,86 +1,71 @@
 // The jobs that an arrival or a closing moved, held against the holders before and after.
 use crate::board::{Board, MOST_JOBS};
-use crate::calls::{Call, NONE, Reply, full_list, only_returned, perform_with};
-use test_solver::bytes::{Table, record, word};
-use test_solver::{bit, bytes};
+use crate::calls::{Call, Reply, full_list, is_refused_short};
+use test_solver::tables::{Field, Table};
+use test_solver::words::Words;
 
-// A way along listed jobs that are handed over: the board so far, the bench that it came to, and the list without
+// The jobs but this one that changed holder, the bench that they lead from, and the one that they come to.
+#[derive(Clone, Copy)]
+pub struct Moves {
+    pub but: usize,
+    pub from: Option<usize>,
+    pub to: Option<usize>,
+    pub count: usize,
+}
+
+// A way along listed jobs that are handed over: the table so far, the bench that it came to, and the list without
 // these jobs.
 #[derive(Clone, Copy)]
 struct Way {
-    board: Board,
-    bench: usize,
-    list: Table,
+    table: Table,
+    bench: Option<usize>,
+    list: Words,
+}
+
+impl Way {
+    // Hands job k of the list over from the bench that the way came to; from any other bench it comes to none.
+    fn hand(&mut self, k: usize) {
+        let job = self.list.word(k);
+        let holder = self.table.holder(job);
+        let other = self.table.field(job, Field::Holder);
+        self.table
+            .put_field(job, Field::Holder, 3usize.wrapping_sub(other));
+        self.list.put(k, 65535);
+        self.bench = if holder == self.bench {
+            self.table.holder(job)
+        } else {
+            None
+        };
+    }
 }
 
 // Counts the jobs but this one that have another holder.
-pub fn moved(before: Board, after: Board, but: usize) -> usize {
-    let mut n: usize = 0;
-    let mut job = 1;
-    while job <= MOST_JOBS {
-        let is_other = before.holder(job) != after.holder(job);
-        n = std::num::wrapping_add_usize(n, bit(is_other & (job != but)));
-        job += 1;
-    }
-    n
+pub fn moved(before: &Table, after: &Table, but: usize) -> usize {
+    (1..MOST_JOBS + 1)
+        .filter(|&job| job != but && before.holder(job) != after.holder(job))
+        .count()
 }
 
-// Hands job k of the list over from the bench that the way came to; from any other bench it comes to none.
-fn hand(way: Way, k: usize) -> Way {
-    let board = way.board;
-    let t = board.table;
-    let list = way.list;
-    let job = word(list, k);
-    let place = record(board.benches, job, 2);
-    let next = board.put(place, std::num::wrapping_sub_usize(3, word(t, place)));
-    let bench = if board.holder(job) == way.bench {
-        next.holder(job)
-    } else {
-        NONE
-    };
-    Way {
-        board: next,
-        bench,
-        list: bytes::put(list, k, 65535),
-    }
-}
-
-// Hands the first n jobs of a list over, from this bench on.
-fn hand_along(board: Board, bench: usize, list: Table, n: usize) -> Way {
-    let mut way = Way { board, bench, list };
-    let mut k = 0;
-    while k < MOST_JOBS {
-        if k < n {
-            let next = hand(way, k);
-            way = next;
+impl Moves {
+    // Tells whether the jobs listed, handed over one after the other, lead from one bench to the other and leave every
+    // job but this one with the holder that it has after the call, and whether the list behind them is as it was lent.
+    // As so many jobs have another holder, none is listed twice.
+    pub fn are_listed(&self, before: &Board, reply: &Reply) -> bool {
+        let mut way = Way {
+            table: before.table,
+            bench: self.from,
+            list: reply.list,
+        };
+        for k in 0..self.count.min(MOST_JOBS) {
+            way.hand(k);
         }
-        k += 1;
+        way.bench == self.to
+            && moved(&way.table, &reply.board.table, self.but) == 0
+            && way.list == full_list()
     }
-    way
-}
 
-// Tells whether the n jobs listed, handed over one after the other, lead from one bench to the other and leave every
-// job but this one with the holder that it has after the call, and whether the list behind them is as it was lent. As n
-// jobs have another holder, none is listed twice.
-pub fn are_listed(
-    before: Board,
-    reply: Reply,
-    but: usize,
-    from: usize,
-    to: usize,
-    n: usize,
-) -> bool {
-    let listed = reply.list;
-    let way = hand_along(before, from, listed, n);
-    let rest = way.list;
-    (way.bench == to) & (moved(way.board, reply.board, but) == 0) & bytes::same(rest, full_list())
-}
-
-// Tells whether the call is refused with 8, and leaves all bytes, where its list is one byte too short for n jobs.
-pub fn short_list_refused(board: Board, call: Call, n: usize) -> bool {
-    if n == 0 {
-        return true;
+    // Tells whether the call is refused with 8, and leaves all bytes, where its list is one byte too short for them.
+    pub fn need_room(&self, before: &Board, call: Call) -> bool {
+        self.count == 0 || is_refused_short(before, call, self.count)
     }
-    let room = std::num::wrapping_sub_usize(std::num::wrapping_add_usize(n, n), 1);
-    only_returned(board, perform_with(board, call, room), 8)
 }
