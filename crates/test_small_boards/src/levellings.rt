@@ -46,10 +46,7 @@ fn paths_needed(board: &Board) -> Option<u32> {
 // Draws 0 to 3, or no limit to speak of.
 fn allowance(seed: Seed) -> u32 {
     match seed.below(2, 8) {
-        0 => 0,
-        1 => 1,
-        2 => 2,
-        3 => 3,
+        few @ 0..=3 => few as u32,
         _ => u32::MAX,
     }
 }

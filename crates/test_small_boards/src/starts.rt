@@ -6,6 +6,7 @@ use crate::outcomes::Outcome;
 use crate::random::Seed;
 use board_answers::Answer;
 use test_solver::Size;
+use test_solver::tables::Holder;
 use test_solver::words::Words;
 
 // Adds a job in three of four draws. Half of them name bench 1 first, and mostly the bench of the lower number holds
@@ -20,11 +21,11 @@ fn add_random_job(board: &mut Board, job: usize, seed: Seed) {
     let second = seed.other(3, benches, first);
     let by_the_higher = seed.below(4, 8) == 0;
     let holder = if by_the_higher == (first < second) {
-        2
+        Holder::Second
     } else {
-        1
+        Holder::First
     };
-    board.table.add_job(job, first, second, holder);
+    board.table.add_job(job, (first, second), holder);
     board.book.write(job, Some((first, second)));
 }
 
@@ -45,8 +46,8 @@ pub fn begin(size: Size, seed: Seed) -> Outcome {
     let way = seed.below(3, 3);
     let (reply, right) = match way {
         0 => {
+            // All of the table is to be written over.
             let mut filled = Board::blank(size, true);
-            // Is written over: all of the table is to be.
             filled.table.words = Words::all(255);
             let reply = perform(&filled, Call::Blank(size.benches, size.jobs));
             (reply, matches!(reply.answer, Ok(Answer::Blanked)))

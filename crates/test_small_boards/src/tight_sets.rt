@@ -112,11 +112,8 @@ fn set_is_right(board: &Board, loads: &Loads, height: usize) -> bool {
     let inside = set.inside(&board.book);
     let call = Call::TightSet(height);
     let reply = perform(board, call);
-    let Ok(Answer::TightSet(benches_told, inside_told)) = reply.answer else {
-        return false;
-    };
     (!board.level || proves(loads, height, benches, inside))
-        && (benches_told, inside_told) == (benches, inside)
+        && matches!(reply.answer, Ok(Answer::TightSet(b, i)) if (b, i) == (benches, inside))
         && reply.list == set.list()
         && is_refused_short(board, call, benches)
 }

@@ -22,6 +22,13 @@ pub enum Field {
     Next,
 }
 
+// Which of the two benches that it names holds a job, as its record tells it.
+#[derive(Clone, Copy)]
+pub enum Holder {
+    First = 1,
+    Second = 2,
+}
+
 // A table for so many benches and jobs, at the beginning of words that may go on behind it.
 #[derive(Clone, Copy)]
 pub struct Table {
@@ -75,6 +82,15 @@ impl Table {
         }
     }
 
+    // Makes a job's other bench its holder, in its record alone.
+    pub fn hand_over(&mut self, job: usize) {
+        match self.field(job, Field::Holder) {
+            1 => self.put_field(job, Field::Holder, Holder::Second as usize),
+            2 => self.put_field(job, Field::Holder, Holder::First as usize),
+            _ => {}
+        }
+    }
+
     // Counts the loads by the holder words.
     pub fn loads_held(&self) -> Loads {
         let mut loads = Loads::none();
@@ -106,15 +122,18 @@ impl Table {
     }
 
     // Writes a standing job's record, puts the job in front of its holder's chain, and counts one more standing job.
-    pub fn add_job(&mut self, job: usize, first: usize, second: usize, holder: usize) {
-        let head = Table::head(if holder == 1 { first } else { second });
+    pub fn add_job(&mut self, job: usize, (first, second): (usize, usize), holder: Holder) {
+        let head = Table::head(match holder {
+            Holder::First => first,
+            Holder::Second => second,
+        });
         let front = self.words.word(head);
         let standing = self.words.word(STANDING);
         self.put_field(job, Field::First, first);
         self.put_field(job, Field::Second, second);
-        self.put_field(job, Field::Holder, holder);
+        self.put_field(job, Field::Holder, holder as usize);
         self.put_field(job, Field::Next, front);
         self.words.put(head, job);
-        self.words.put(STANDING, standing.wrapping_add(1));
+        self.words.put(STANDING, standing + 1);
     }
 }
