@@ -14,10 +14,10 @@ ghost use Rattle.sharing_paths.specs.FoundPaths.{JobAt};
 ghost use Rattle.sharing_effects.specs.Effects.{lent};
 ghost use Rattle.sharing_arrival.specs.ArrivalResult.{ArrivalFound, EntersAt, ArrivalOf};
 
-use sharing_effects::{Attempt, Effect};
+use sharing_effects::Effect;
 use sharing_paths::FoundPath;
 use table_refusals::Refusal;
-use table_size::Size;
+use table_size::{PerBench, Size};
 
 // Where an arriving job is taken in: the bench that holds it, and the place from which on the path is left.
 #[derive(Clone, Copy)]
@@ -27,7 +27,7 @@ pub struct Intake {
 }
 
 // Picks the lighter of two benches, the first-named if they are equal.
-pub fn lighter(loads: &[u16; Size::MOST_BENCHES + 1], first: usize, second: usize) -> usize
+pub fn lighter(loads: &PerBench<u16>, first: usize, second: usize) -> usize
     requires t { T (within 1 most_benches first) }
     requires t_2 { T (within 1 most_benches second) }
     ensures { (b : Board) → Loaded b loads.now →
@@ -45,12 +45,12 @@ pub fn lighter(loads: &[u16; Size::MOST_BENCHES + 1], first: usize, second: usiz
 pub fn find_arrival(
     t: &[u8],
     s: Size,
-    loads: &mut [u16; Size::MOST_BENCHES + 1],
+    loads: &mut PerBench<u16>,
     j: usize,
     first: usize,
     second: usize,
     x: usize,
-    path: &mut [u16; Size::MOST_BENCHES + 1],
+    path: &mut PerBench<u16>,
 ) -> FoundPath
     requires in_order { InOrder t.now s }
     requires may_arrive { MayArrive (decode t.now) j (first ∷ second ∷ []) }
@@ -71,7 +71,7 @@ fn enter(
     j: usize,
     x: usize,
     found: FoundPath,
-    path: &[u16; Size::MOST_BENCHES + 1],
+    path: &PerBench<u16>,
 ) -> Intake
     requires holds_board { HoldsBoard t.now s }
     requires jobs_le_most_benches { found.jobs ≤ most_benches }
@@ -98,7 +98,7 @@ pub fn apply_arrival(
     second: usize,
     intake: Intake,
     found: FoundPath,
-    path: &[u16; Size::MOST_BENCHES + 1],
+    path: &PerBench<u16>,
 )
     requires in_order { InOrder t.old s }
     requires may_arrive { MayArrive (decode t.old) j (first ∷ second ∷ []) }
@@ -116,13 +116,13 @@ pub fn apply_arrival(
 pub fn arrive_in_order(
     t: &mut [u8],
     s: Size,
-    loads: &mut [u16; Size::MOST_BENCHES + 1],
-    path: &mut [u16; Size::MOST_BENCHES + 1],
+    loads: &mut PerBench<u16>,
+    path: &mut PerBench<u16>,
     j: usize,
     first: usize,
     second: usize,
     list: &mut [u8],
-) -> Attempt
+) -> Result<Effect, Refusal>
     requires in_order { InOrder t.old s }
     requires may_arrive { MayArrive (decode t.old) j (first ∷ second ∷ []) }
     requires loaded { Loaded (decode t.old) loads.old }
@@ -137,12 +137,12 @@ pub fn arrive_in_order(
     let end = found.jobs;
     let moved = end - place;
     if list.len() < 2 * moved {
-        return Attempt::Refused(Refusal::ListTooShort);
+        return Err(Refusal::ListTooShort);
     }
     let whole = &path[..];
     table_words::write_list(list, &whole[place..end]);
     apply_arrival(t, s, j, first, second, intake, found, path);
-    Attempt::Made(Effect {
+    Ok(Effect {
         holder: intake.holder,
         bench: found.bench,
         moved,

@@ -15,8 +15,9 @@ ghost use Rattle.sharing_closing.specs.ClosingResult.{ClosingOf};
 ghost use Rattle.sharing_effects.specs.Effects.{lent};
 ghost use Rattle.sharing_changes.specs.TaskResult.{MayDo, TaskOf};
 
-use sharing_effects::Attempt;
-use table_size::Size;
+use sharing_effects::Effect;
+use table_refusals::Refusal;
+use table_size::{PerBench, Size};
 
 // What is to be done.
 #[derive(Clone, Copy)]
@@ -31,11 +32,11 @@ enum Task {
 fn do_in_order(
     t: &mut [u8],
     s: Size,
-    loads: &mut [u16; Size::MOST_BENCHES + 1],
-    path: &mut [u16; Size::MOST_BENCHES + 1],
+    loads: &mut PerBench<u16>,
+    path: &mut PerBench<u16>,
     task: Task,
     list: &mut [u8],
-) -> Attempt
+) -> Result<Effect, Refusal>
     requires in_order { InOrder t.old s }
     requires may_do { MayDo (decode t.old) task }
     requires loaded { Loaded (decode t.old) loads.old }
@@ -54,12 +55,12 @@ fn do_in_order(
 fn do_in_copy(
     t: &mut [u8],
     s: Size,
-    loads: &mut [u16; Size::MOST_BENCHES + 1],
-    path: &mut [u16; Size::MOST_BENCHES + 1],
+    loads: &mut PerBench<u16>,
+    path: &mut PerBench<u16>,
     task: Task,
     list: &mut [u8],
     copy: &mut [u8],
-) -> Attempt
+) -> Result<Effect, Refusal>
     requires sound_table { SoundTable t.old s }
     requires may_do { MayDo (decode t.old) task }
     requires loaded { Loaded (decode t.old) loads.old }
@@ -68,24 +69,20 @@ fn do_in_copy(
     ensures { TaskOf task (lent t.old list.old) (lent t.new list.new) result }
 {
     table_copies::copy_in_order(t, s, copy);
-    match do_in_order(copy, s, loads, path, task, list) {
-        Attempt::Refused(r) => Attempt::Refused(r),
-        Attempt::Made(e) => {
-            table_copies::copy_back(copy, t);
-            Attempt::Made(e)
-        }
-    }
+    let effect = do_in_order(copy, s, loads, path, task, list)?;
+    table_copies::copy_back(copy, t);
+    Ok(effect)
 }
 
 // Does the task on a table in any order: makes the room for the copy.
 fn do_stored(
     t: &mut [u8],
     s: Size,
-    loads: &mut [u16; Size::MOST_BENCHES + 1],
-    path: &mut [u16; Size::MOST_BENCHES + 1],
+    loads: &mut PerBench<u16>,
+    path: &mut PerBench<u16>,
     task: Task,
     list: &mut [u8],
-) -> Attempt
+) -> Result<Effect, Refusal>
     requires sound_table { SoundTable t.old s }
     requires may_do { MayDo (decode t.old) task }
     requires loaded { Loaded (decode t.old) loads.old }
@@ -102,13 +99,13 @@ pub fn arrive(
     t: &mut [u8],
     s: Size,
     rising: bool,
-    loads: &mut [u16; Size::MOST_BENCHES + 1],
-    path: &mut [u16; Size::MOST_BENCHES + 1],
+    loads: &mut PerBench<u16>,
+    path: &mut PerBench<u16>,
     j: usize,
     first: usize,
     second: usize,
     list: &mut [u8],
-) -> Attempt
+) -> Result<Effect, Refusal>
     requires sound_table { SoundTable t.old s }
     requires variant { T rising ↔ (t.old ≡ encode (decode t.old)) }
     requires may_arrive { MayArrive (decode t.old) j (first ∷ second ∷ []) }
@@ -128,11 +125,11 @@ pub fn close(
     t: &mut [u8],
     s: Size,
     rising: bool,
-    loads: &mut [u16; Size::MOST_BENCHES + 1],
-    path: &mut [u16; Size::MOST_BENCHES + 1],
+    loads: &mut PerBench<u16>,
+    path: &mut PerBench<u16>,
     j: usize,
     list: &mut [u8],
-) -> Attempt
+) -> Result<Effect, Refusal>
     requires sound_table { SoundTable t.old s }
     requires variant { T rising ↔ (t.old ≡ encode (decode t.old)) }
     requires t { T (stands (decode t.old) j) }

@@ -17,38 +17,39 @@ ghost use Rattle.sheet_lines.specs.WrittenLines.{
   SheetWritten,
 };
 
-use table_size::Size;
+use table_size::{PerBench, PerJob, Size};
 
 // Counts the characters of a line, the line feed included.
 const LINE: usize = 69;
 
+// Counts the columns of a job.
+const CELL: usize = 5;
+
 // Writes a job in its columns, or blanks for 0; gives the job after it.
-fn write_cell(page: &mut [u8], at: usize, j: usize, next: &[u16; Size::MOST_JOBS + 1]) -> usize
+fn write_cell(page: &mut [u8], at: usize, j: usize, next: &PerJob<u16>) -> usize
     requires listed { Listed next.now j }
     requires at_in_bounds { at + 5 ≤ length page.old }
     ensures page_after { page.new ≡ with_text page.old at (cell_text j) }
     ensures value { result ≡ job_after next.now j }
 {
     if j == 0 {
-        sheet_fields::write_five_blanks(page, at);
+        sheet_fields::write_blanks::<CELL>(page, at);
         return 0;
     }
     sheet_fields::write_number(page, at, j);
-    next[j] as usize
+    usize::from(next[j])
 }
 
 // Writes a line from its 9th column on: twelve jobs of a list, blanks where it ends before, and the line feed; gives
 // the job after them.
-fn write_jobs(page: &mut [u8], at: usize, first: usize, next: &[u16; Size::MOST_JOBS + 1]) -> usize
+fn write_jobs(page: &mut [u8], at: usize, first: usize, next: &PerJob<u16>) -> usize
     requires listed { Listed next.now first }
     requires at_in_bounds { at + 61 ≤ length page.old }
     ensures { LineWritten next.now page.old page.new [] at first result }
 {
     let mut j = first;
-    let mut cells = 0;
-    while cells < 12 {
-        j = write_cell(page, at + 5 * cells, j, next);
-        cells += 1;
+    for cell in 0..12 {
+        j = write_cell(page, at + CELL * cell, j, next);
     }
     page[at + 60] = b'\n';
     j
@@ -62,7 +63,7 @@ fn write_first(
     x: usize,
     load: usize,
     first: usize,
-    next: &[u16; Size::MOST_JOBS + 1],
+    next: &PerJob<u16>,
 ) -> usize
     requires x_bound { x < 1000 }
     requires load_bound { load < 10000 }
@@ -77,13 +78,12 @@ fn write_first(
 }
 
 // Writes a line that goes on with a bench's jobs: 8 blanks, and up to twelve jobs from j on; gives the job after them.
-fn write_more(page: &mut [u8], at: usize, j: usize, next: &[u16; Size::MOST_JOBS + 1]) -> usize
+fn write_more(page: &mut [u8], at: usize, j: usize, next: &PerJob<u16>) -> usize
     requires listed { Listed next.now j }
     requires at_in_bounds { at + 69 ≤ length page.old }
     ensures { LineWritten next.now page.old page.new more_head at j result }
 {
-    sheet_fields::write_three_blanks(page, at);
-    sheet_fields::write_five_blanks(page, at + 3);
+    sheet_fields::write_blanks::<8>(page, at);
     write_jobs(page, at + 8, j, next)
 }
 
@@ -94,7 +94,7 @@ fn write_bench(
     x: usize,
     load: usize,
     first: usize,
-    next: &[u16; Size::MOST_JOBS + 1],
+    next: &PerJob<u16>,
 ) -> usize
     requires x_bound { x < 1000 }
     requires load_bound { load < 10000 }
@@ -114,21 +114,25 @@ fn write_bench(
 // Writes all lines.
 pub fn write(
     s: Size,
-    loads: &[u16; Size::MOST_BENCHES + 1],
-    head: &[u16; Size::MOST_BENCHES + 1],
-    next: &[u16; Size::MOST_JOBS + 1],
+    loads: &PerBench<u16>,
+    head: &PerBench<u16>,
+    next: &PerJob<u16>,
     page: &mut [u8],
 )
     requires { RoomForAll s loads.now head.now next.now page.old }
     ensures { SheetWritten s loads.now head.now next.now page.old
         page.new }
 {
-    let benches = s.benches();
     let mut at = 0;
-    let mut x = 1;
-    while x <= benches {
-        at = write_bench(page, at, x, loads[x] as usize, head[x] as usize, next);
-        x += 1;
+    for x in 1..s.benches() + 1 {
+        at = write_bench(
+            page,
+            at,
+            x,
+            usize::from(loads[x]),
+            usize::from(head[x]),
+            next,
+        );
     }
 }
 
@@ -137,23 +141,17 @@ fn line_count(load: usize) -> usize
     requires { load < 65536 }
     ensures { result ≡ line_count load }
 {
-    if load == 0 {
-        return 1;
-    }
-    (load + 11) / 12
+    load.div_ceil(12).max(1)
 }
 
 // Computes how long the sheet is.
-pub fn sheet_length(s: Size, loads: &[u16; Size::MOST_BENCHES + 1]) -> usize
+pub fn sheet_length(s: Size, loads: &PerBench<u16>) -> usize
     requires { LoadsOf s loads.now }
     ensures { LengthOf s loads.now result }
 {
-    let benches = s.benches();
     let mut lines = 0;
-    let mut x = 0;
-    while x < benches {
-        x += 1;
-        lines += line_count(loads[x] as usize);
+    for &load in &loads[1..s.benches() + 1] {
+        lines += line_count(usize::from(load));
     }
     LINE * lines
 }
