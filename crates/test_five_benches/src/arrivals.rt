@@ -37,7 +37,8 @@ impl Arrivals {
                 jobs: JOBS,
             },
         };
-        board_changes::blank(&mut table.words.bytes, BENCHES, JOBS);
+        // Leaves zeros where it is refused, which the first look at the table finds.
+        let _ = board_changes::blank(&mut table.words.bytes, BENCHES, JOBS);
         Arrivals {
             order: jobs::in_order(),
             stages: [Stage {
@@ -60,7 +61,7 @@ impl Arrivals {
         stage.book.write(job.number, Some(job.benches()));
         stage.set |= job.alone();
         self.stages[jobs + 1] = stage;
-        matches!(answer, Answer::Arrived(_, _, _))
+        matches!(answer, Ok(Answer::Arrived(_, _, _)))
     }
 
     // Tells whether the table after so many arrivals has their jobs and no other, and its loads are the second solver's
@@ -78,7 +79,7 @@ impl Arrivals {
     // Tells whether every load is 2 at the end of the order.
     pub fn end_even(&self) -> bool {
         let table = &self.stages[JOBS].table.words.bytes;
-        (1..BENCHES + 1).all(|bench| matches!(board_questions::load(table, bench), Answer::Load(2)))
+        (1..BENCHES + 1).all(|bench| board_questions::load(table, bench) == Ok(Answer::Load(2)))
     }
 
     // Makes the next order of the dictionary, and counts the arrivals at its beginning that stay as they were; none

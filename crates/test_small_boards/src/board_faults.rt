@@ -22,15 +22,17 @@ pub fn loads(board: &Board) -> Option<Loads> {
 // sharings; where it is known to be, its heaviest load is the least too.
 fn check_loads(board: &Board, loads: &Loads) -> Result<(), Fault> {
     let heaviest = loads.heaviest();
-    if !matches!(perform(board, Call::Heaviest).answer, Ok(Answer::Heaviest(load)) if load == heaviest)
-    {
+    if perform(board, Call::Heaviest).answer != Ok(Answer::Heaviest(heaviest)) {
         return Err(Fault::Loads);
     }
     let is_least = loads.excesses() == board.book.least_excesses();
-    match perform(board, Call::LevelCheck).answer {
-        Ok(Answer::Level) if is_least => {}
-        Ok(Answer::NotLevel) if !is_least => {}
-        _ => return Err(Fault::LevelCheck),
+    let told = if is_least {
+        Answer::Level
+    } else {
+        Answer::NotLevel
+    };
+    if perform(board, Call::LevelCheck).answer != Ok(told) {
+        return Err(Fault::LevelCheck);
     }
     let is_lightest = heaviest == board.book.least_heaviest();
     if board.level && !(is_least && is_lightest) {
@@ -41,7 +43,7 @@ fn check_loads(board: &Board, loads: &Loads) -> Result<(), Fault> {
 
 // Looks for what is not as it should be.
 pub fn check(board: &Board) -> Result<(), Fault> {
-    let is_sound = matches!(perform(board, Call::FormCheck).answer, Ok(Answer::Sound));
+    let is_sound = perform(board, Call::FormCheck).answer == Ok(Answer::Sound);
     if !is_sound || !board.table.fits(&board.book) {
         return Err(Fault::Records);
     }

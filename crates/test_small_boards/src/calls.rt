@@ -44,7 +44,7 @@ pub fn full_list() -> Words {
     Words::all(255)
 }
 
-fn answer(t: &mut [u8], list: &mut [u8], call: Call) -> Answer {
+fn answer(t: &mut [u8], list: &mut [u8], call: Call) -> Result<Answer, Refusal> {
     match call {
         Call::Blank(benches, jobs) => board_changes::blank(t, benches, jobs),
         Call::Arrival(job, first, second) => board_changes::arrival(t, job, first, second, list),
@@ -70,10 +70,7 @@ fn perform_with(board: &Board, call: Call, room: usize) -> Reply {
     Reply {
         board: left,
         list,
-        answer: match answer {
-            Answer::Refused(refusal) => Err(refusal),
-            accepted => Ok(accepted),
-        },
+        answer,
     }
 }
 

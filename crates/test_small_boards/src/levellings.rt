@@ -54,24 +54,19 @@ fn allowance(seed: Seed) -> u32 {
 // Makes a drawn levelling. It turns as many paths as are needed or allowed, and says "level" exactly if no more were
 // needed, as on a board that was level.
 pub fn levelling(board: &Board, seed: Seed) -> Outcome {
-    let needed = paths_needed(board);
+    let Some(needed) = paths_needed(board) else {
+        return Outcome::new(*board, Deed::Answered, false, Fault::Levelling);
+    };
     let allowed = allowance(seed);
+    let to_the_end = needed <= allowed;
+    let (due, deed) = if to_the_end {
+        (Answer::Levelled(needed), Deed::Levelled(needed))
+    } else {
+        (Answer::Stopped(allowed), Deed::Stopped(allowed))
+    };
     let reply = perform(board, Call::Levelling(allowed));
-    let (deed, paths, level) = match reply.answer {
-        Ok(Answer::Levelled(paths)) => (Deed::Levelled(paths), paths, true),
-        Ok(Answer::Stopped(paths)) => (Deed::Stopped(paths), paths, false),
-        _ => return Outcome::new(reply.board, Deed::Answered, false, Fault::Levelling),
-    };
-    let right = match needed {
-        Some(needed) => paths == needed.min(allowed) && level == (needed <= allowed),
-        None => false,
-    };
+    let right = reply.answer == Ok(due) && (to_the_end || !board.level);
     let mut after = reply.board;
-    after.level |= level;
-    Outcome::new(
-        after,
-        deed,
-        right && (level || !board.level),
-        Fault::Levelling,
-    )
+    after.level |= to_the_end;
+    Outcome::new(after, deed, right, Fault::Levelling)
 }

@@ -50,7 +50,7 @@ pub fn begin(size: Size, seed: Seed) -> Outcome {
             let mut filled = Board::blank(size, true);
             filled.table.words = Words::all(255);
             let reply = perform(&filled, Call::Blank(size.benches, size.jobs));
-            (reply, matches!(reply.answer, Ok(Answer::Blanked)))
+            (reply, reply.answer == Ok(Answer::Blanked))
         }
         1 => {
             let reply = perform(&random_jobs(size, true, seed), Call::Levelling(u32::MAX));
@@ -58,7 +58,7 @@ pub fn begin(size: Size, seed: Seed) -> Outcome {
         }
         _ => {
             let reply = perform(&random_jobs(size, false, seed), Call::FormCheck);
-            (reply, matches!(reply.answer, Ok(Answer::Sound)))
+            (reply, reply.answer == Ok(Answer::Sound))
         }
     };
     Outcome::new(reply.board, Deed::Begun, right, Fault::Start)

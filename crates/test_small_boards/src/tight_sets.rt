@@ -113,7 +113,7 @@ fn set_is_right(board: &Board, loads: &Loads, height: usize) -> bool {
     let call = Call::TightSet(height);
     let reply = perform(board, call);
     (!board.level || proves(loads, height, benches, inside))
-        && matches!(reply.answer, Ok(Answer::TightSet(b, i)) if (b, i) == (benches, inside))
+        && reply.answer == Ok(Answer::TightSet(benches, inside))
         && reply.list == set.list()
         && is_refused_short(board, call, benches)
 }

@@ -8,31 +8,25 @@
 
 ghost use Rattle.std.specs.Prelude.{◌≤◌, length};
 
-use sharing_loads::Heaviest;
 use std::fs::Files;
 use std::io::{self, Eprint, Print, Read};
-use table_form::Form;
-use table_refusals::Refusal;
 use table_size::Size;
 
 // Bytes that are read of a file: more than any table has.
 const ROOM: usize = 65536;
 
-fn print_sound(rt: &impl Print, h: Heaviest) -> io::Result<()> {
-    println!(rt; " sound H{} {}", h.load, h.benches)
-}
-
-// Prints a refusal twice: as the form check's answer, and in place of the heaviest load.
-fn print_refused(rt: &impl Print, r: Refusal) -> io::Result<()> {
-    let number = r.number();
-    println!(rt; " {number} {number}")
-}
-
 fn print_table(rt: &impl Print, t: &[u8]) -> io::Result<()> {
-    let mut loads = [0u16; Size::MOST_BENCHES + 1];
+    let mut loads = [0; Size::MOST_BENCHES + 1];
     match table_form::check(t, &mut loads) {
-        Form::Refused(r) => print_refused(rt, r),
-        Form::Sound(s, _) => print_sound(rt, sharing_loads::find_heaviest(t, s, &loads)),
+        Ok(form) => {
+            let heaviest = sharing_loads::find_heaviest(t, form.size, &loads);
+            println!(rt; " sound H{} {}", heaviest.load, heaviest.benches)
+        }
+        // Refuses twice: as the form check, and in place of the heaviest load.
+        Err(refusal) => {
+            let number = refusal.number();
+            println!(rt; " {number} {number}")
+        }
     }
 }
 
