@@ -23,7 +23,7 @@ impl Outcome {
         }
     }
 
-    // Makes the outcome of a call that is refused or has an answer of another call, where this was due.
+    // Makes the outcome of a call that does not answer as an accepted one: right if it is refused as is due.
     pub fn refused(before: &Board, reply: &Reply, due: Result<(), job_book::Refusal>) -> Outcome {
         let deed = match reply.answer {
             Err(refusal) => Deed::Refused(refusal.number()),

@@ -6,7 +6,7 @@ const MODULUS: u64 = 2147483647;
 #[derive(Clone, Copy)]
 pub struct Seed {
     number: u64,
-    pub ghost in_range: { number < 2147483647 },
+    ghost in_range: { number < 2147483647 },
 }
 
 impl Seed {
