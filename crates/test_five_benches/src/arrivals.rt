@@ -37,7 +37,7 @@ impl Arrivals {
                 jobs: JOBS,
             },
         };
-        // Leaves zeros where it is refused, which the first look at the table finds.
+        // Leaves zeros where it is refused, and no arrival is accepted there.
         let _ = board_changes::blank(&mut table.words.bytes, BENCHES, JOBS);
         Arrivals {
             order: jobs::in_order(),
