@@ -46,13 +46,18 @@ fn arrival_on(
     if jobs::stands(t, size, job) {
         return Err(Refusal::AlreadyStanding);
     }
-    let effect =
-        sharing_changes::arrive(t, size, rising, loads, path, job, first, second, list)?;
+    let effect = sharing_changes::arrive(t, size, rising, loads, path, job, first, second, list)?;
     Ok(Answer::Arrived(effect.holder, effect.bench, effect.moved))
 }
 
 // Takes in a job that names two benches, and lists the jobs that move.
-pub fn arrival(t: &mut [u8], job: usize, first: usize, second: usize, list: &mut [u8]) -> Result<Answer, Refusal>
+pub fn arrival(
+    t: &mut [u8],
+    job: usize,
+    first: usize,
+    second: usize,
+    list: &mut [u8],
+) -> Result<Answer, Refusal>
     ensures { Leaves
         (outcome (arrival (record { job = job; given = first ∷ second ∷ []; list = list.old })) t.old)
         result t.new list.new }

@@ -2,7 +2,7 @@
 // anything is written: the list, and the table.
 #![tactic(auto)]
 
-ghost use Rattle.std.specs.Prelude.{◌≡◌, [], ◌∷◌, ℕ, ◌+◌, ◌≤◌, T, length};
+ghost use Rattle.std.specs.Prelude.{◌≡◌, [], ◌∷◌, ℕ, ◌≤◌, T};
 ghost use Rattle.spec_lists.specs.Lists.{within};
 ghost use Rattle.spec_table.specs.Board.{Board};
 ghost use Rattle.spec_sharing.specs.Sharing.{lightest_named, arrive};
@@ -16,6 +16,7 @@ ghost use Rattle.sharing_arrival.specs.ArrivalResult.{ArrivalFound, EntersAt, Ar
 
 use sharing_effects::Effect;
 use sharing_paths::FoundPath;
+use sharing_paths_from::NewJob;
 use table_refusals::Refusal;
 use table_size::{PerBench, Size};
 
@@ -56,30 +57,24 @@ pub fn find_arrival(
     requires may_arrive { MayArrive (decode t.now) j (first ∷ second ∷ []) }
     requires loaded { Loaded (decode t.now) loads.old }
     requires x_value { x ≡ lightest_named (decode t.now).holders (first ∷ second ∷ []) }
-    requires path_len { length path.old ≡ most_benches + 1 }
     ensures { ArrivalFound (decode t.now) j (first ∷ second ∷ []) x path.new result }
 {
     loads[x] += 1;
-    let other = first + second - x;
-    sharing_paths_from::find_from(t, s, loads, x, j, other, path)
+    let new = NewJob {
+        job: j,
+        other: first + second - x,
+    };
+    sharing_paths_from::find_from(t, s, loads, x, Some(new), path)
 }
 
 // Tells where job j is taken in: if it is the path's first, at once where it goes, else at x.
-fn enter(
-    t: &[u8],
-    s: Size,
-    j: usize,
-    x: usize,
-    found: FoundPath,
-    path: &PerBench<u16>,
-) -> Intake
+fn enter(t: &[u8], s: Size, j: usize, x: usize, found: FoundPath, path: &PerBench<u16>) -> Intake
     requires holds_board { HoldsBoard t.now s }
     requires jobs_le_most_benches { found.jobs ≤ most_benches }
-    requires path_len { length path.now ≡ most_benches + 1 }
     requires by_index { (i : ℕ) → JobAt s path.now i found.jobs }
     ensures { EntersAt (decode t.now) j x path.now found result }
 {
-    if found.jobs != 0 && path[0] as usize == j {
+    if found.jobs != 0 && usize::from(path[0]) == j {
         let holder = sharing_paths::bench_after(t, s, path, 1, found.jobs, found.bench);
         return Intake { holder, place: 1 };
     }
@@ -126,7 +121,6 @@ pub fn arrive_in_order(
     requires in_order { InOrder t.old s }
     requires may_arrive { MayArrive (decode t.old) j (first ∷ second ∷ []) }
     requires loaded { Loaded (decode t.old) loads.old }
-    requires path_len { length path.old ≡ most_benches + 1 }
     ensures { ArrivalOf j first second (lent t.old list.old)
         (lent t.new list.new) result }
 {

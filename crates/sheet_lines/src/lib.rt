@@ -26,6 +26,7 @@ const LINE: usize = 69;
 const CELL: usize = 5;
 
 // Writes a job in its columns, or blanks for 0; gives the job after it.
+// Kept: 0 for no job, the table's format: `next` holds the words that end a chain so.
 fn write_cell(page: &mut [u8], at: usize, j: usize, next: &PerJob<u16>) -> usize
     requires listed { Listed next.now j }
     requires at_in_bounds { at + 5 ≤ length page.old }
