@@ -5,38 +5,22 @@
 // and 5 are the heaviest, and those below them have to be shared as well as if they stood alone.
 #![tactic(auto)]
 
-use std::env::{Env, FillError};
-use std::fs::{File, Files};
+use std::fs::Files;
 use std::io::{self, Eprint, Print};
 
-fn serve_file<R: Files + Print + Eprint>(rt: &R, path: &str, most: usize) -> io::Result<()> {
-    match File::open(rt, path) {
-        Err(e) => eprintln!(rt; "{path}: {e}"),
-        Ok(mut file) => {
-            counter_io::serve(&mut file, &mut io::writer(rt), most);
-            Ok(())
-        }
-    }
-}
+// Bytes that are read at a time, as the counter program reads them.
+const AT_ONCE: usize = 65536;
 
-// Gives an argument, in the room lent; none where there are no more. One that is too long for a path, or no text,
-// counts as empty.
-fn argument<'a>(rt: &impl Env, i: usize, room: &'a mut [u8; 4096]) -> Option<&'a str> {
-    match rt.arg(i, room) {
-        Ok(n) => Some(std::str::from_utf8(&room[..n]).unwrap_or("")),
-        Err(FillError::TooLong) => Some(""),
-        Err(FillError::NotPresent) => None,
+fn serve_file<R: Files + Print + Eprint>(rt: &R, path: &str, most: usize) -> io::Result<()> {
+    if let Some(mut file) = test_arguments::open(rt, path)? {
+        counter_io::serve(&mut file, &mut io::writer(rt), most);
     }
+    Ok(())
 }
 
 fn main(rt: HostRuntime) -> io::Result<()> {
-    let mut room = [0; 4096];
-    for i in 1..usize::MAX {
-        let Some(path) = argument(&rt, i, &mut room) else {
-            break;
-        };
-        serve_file(&rt, path, 65536)?;
-        serve_file(&rt, path, 1)?;
-    }
-    Ok(())
+    test_arguments::for_each(&rt, |path| {
+        serve_file(&rt, path, AT_ONCE)?;
+        serve_file(&rt, path, 1)
+    })
 }

@@ -1,106 +1,90 @@
 // Arrivals and closings, each held against what the book foretells and against the loads and holders before and
 // after; and the load of a bench.
 use crate::board::Board;
-use crate::board_faults::{loads, same_loads};
-use crate::calls::{Call, Reply, only_returned, perform};
-use crate::moved_jobs::moved;
+use crate::board_faults::loads;
+use crate::calls::{Call, perform};
+use crate::counts::{Deed, Fault};
+use crate::moved_jobs::{Moves, moved};
 use crate::outcomes::Outcome;
-use crate::{counts, moved_jobs, random};
-use test_solver::{MOST_BENCHES, give, job_book};
-
-// Holds a call that is refused, or a question, against the number that is due: it leaves all bytes.
-fn refused(before: Board, reply: Reply, due: u32) -> Outcome {
-    let right = only_returned(before, reply, due);
-    Outcome::refused(reply.board, reply.number, right, counts::BAD_REFUSAL)
-}
+use crate::random::Seed;
+use board_answers::Answer;
+use test_solver::job_book::Refusal;
 
 // Tells whether one more job stands on exactly this bench of the upper board, and so many jobs but this one have
 // another holder.
-fn one_more(lower: Board, upper: Board, bench: usize, job: usize, n: usize) -> bool {
-    (0 < bench)
-        & (bench <= MOST_BENCHES)
-        & same_loads(give(loads(lower), bench), loads(upper))
-        & (moved(lower, upper, job) == n)
+fn one_more(lower: &Board, upper: &Board, bench: usize, job: usize, count: usize) -> bool {
+    let (Some(below), Some(above)) = (loads(lower), loads(upper)) else {
+        return false;
+    };
+    lower.table.size.has_bench(bench)
+        && below.with_one_more(bench) == above
+        && moved(&lower.table, &upper.table, job) == count
 }
 
-// Makes an arrival. If it is accepted, the load of the bench that rose is one more, the new job's holder and the
+// Makes a drawn arrival. If it is accepted, the load of the bench that rose is one more, the new job's holder and the
 // number of jobs moved are true, and the moved jobs lead from that holder to the bench that rose.
-fn arrive(board: Board, job: usize, first: usize, second: usize, due: u32) -> Outcome {
-    let book = board.book;
+pub fn arrival(board: &Board, seed: Seed) -> Outcome {
+    let size = board.table.size;
+    let job = seed.number(2, size.jobs);
+    let first = seed.number(4, size.benches);
+    let second = seed.number(6, size.benches);
+    let due = board.book.arrival(size, job, first, second);
     let call = Call::Arrival(job, first, second);
     let reply = perform(board, call);
-    if reply.number != 0 {
-        return refused(board, reply, due);
-    }
-    let entered = job_book::write(book, job, first, second);
+    let Ok(Answer::Arrived(holder, rose, count)) = reply.answer else {
+        return Outcome::refused(board, &reply, due);
+    };
     let mut after = reply.board;
-    after.book = entered;
-    let right = (due == 0)
-        & (0 < reply.first)
-        & (reply.first <= MOST_BENCHES)
-        & (after.holder(job) == reply.first)
-        & one_more(board, after, reply.second, job, reply.third)
-        & moved_jobs::are_listed(board, reply, job, reply.first, reply.second, reply.third)
-        & moved_jobs::short_list_refused(board, call, reply.third);
-    Outcome::new(
-        after,
-        counts::ARRIVALS,
-        reply.third,
-        right,
-        counts::BAD_ARRIVAL,
-    )
-}
-
-// Makes a drawn arrival.
-pub fn arrival(board: Board, seed: u64) -> Outcome {
-    let book = board.book;
-    let job = random::number(seed, 2, board.jobs);
-    let first = random::number(seed, 4, board.benches);
-    let second = random::number(seed, 6, board.benches);
-    let due = job_book::arrival_refusal(book, board.benches, board.jobs, job, first, second);
-    arrive(board, job, first, second, due)
+    after.book.write(job, Some((first, second)));
+    let moves = Moves {
+        but: job,
+        from: Some(holder),
+        to: Some(rose),
+        count,
+    };
+    let right = due.is_ok()
+        && size.has_bench(holder)
+        && after.table.holder(job) == Some(holder)
+        && one_more(board, &after, rose, job, count)
+        && moves.are_listed(board, &reply)
+        && moves.need_room(board, call);
+    Outcome::new(after, Deed::Arrived(count), right, Fault::Arrival)
 }
 
 // Makes a drawn closing. If it is accepted, the load of the bench that fell is one less, the number of jobs moved is
 // true, and the moved jobs lead from the bench that fell to the one that held the closed job.
-pub fn closing(board: Board, seed: u64) -> Outcome {
-    let book = board.book;
-    let job = random::number(seed, 2, board.jobs);
-    let due = job_book::closing_refusal(book, board.jobs, job);
-    let reply = perform(board, Call::Closing(job));
-    if reply.number != 0 {
-        return refused(board, reply, due);
-    }
-    let struck = job_book::write(book, job, 0, 0);
+pub fn closing(board: &Board, seed: Seed) -> Outcome {
+    let size = board.table.size;
+    let job = seed.number(2, size.jobs);
+    let due = board.book.closing(size, job);
+    let call = Call::Closing(job);
+    let reply = perform(board, call);
+    let Ok(Answer::Closed(fell, count)) = reply.answer else {
+        return Outcome::refused(board, &reply, due);
+    };
     let mut after = reply.board;
-    after.book = struck;
-    let right = (due == 0)
-        & one_more(after, board, reply.first, job, reply.second)
-        & moved_jobs::are_listed(
-            board,
-            reply,
-            job,
-            reply.first,
-            board.holder(job),
-            reply.second,
-        )
-        & moved_jobs::short_list_refused(board, Call::Closing(job), reply.second);
-    Outcome::new(
-        after,
-        counts::CLOSINGS,
-        reply.second,
-        right,
-        counts::BAD_CLOSING,
-    )
+    after.book.write(job, None);
+    let moves = Moves {
+        but: job,
+        from: Some(fell),
+        to: board.table.holder(job),
+        count,
+    };
+    let right = due.is_ok()
+        && one_more(&after, board, fell, job, count)
+        && moves.are_listed(board, &reply)
+        && moves.need_room(board, call);
+    Outcome::new(after, Deed::Closed(count), right, Fault::Closing)
 }
 
 // Asks for the load of a drawn bench. It is refused exactly if the board has no such bench.
-pub fn load(board: Board, seed: u64) -> Outcome {
-    let bench = random::number(seed, 2, board.benches);
-    let due = if (bench == 0) | (board.benches < bench) {
-        4
-    } else {
-        0
-    };
-    refused(board, perform(board, Call::Load(bench)), due)
+pub fn load(board: &Board, seed: Seed) -> Outcome {
+    let size = board.table.size;
+    let bench = seed.number(2, size.benches);
+    let reply = perform(board, Call::Load(bench));
+    if !size.has_bench(bench) {
+        return Outcome::refused(board, &reply, Err(Refusal::BenchNumber));
+    }
+    let right = matches!(reply.answer, Ok(Answer::Load(_))) && reply.left_all(board);
+    Outcome::new(reply.board, Deed::Answered, right, Fault::Refusal)
 }

@@ -1,35 +1,30 @@
 // A board under test, and what is known of it.
-use test_solver::bytes::Table;
-use test_solver::{Book, bytes};
+use test_solver::Size;
+use test_solver::job_book::Book;
+use test_solver::tables::Table;
 
 // No board here has more jobs.
 pub const MOST_JOBS: usize = 8;
 
 #[derive(Clone, Copy)]
 pub struct Board {
-    // The table is the first `length` bytes.
     pub table: Table,
+    // How many bytes of the table's words a call is given.
     pub length: usize,
-    pub benches: usize,
-    pub jobs: usize,
     pub book: Book,
     // Known to be level.
     pub level: bool,
 }
 
 impl Board {
-    // Gives the bench that holds a job; 0 for none.
-    pub fn holder(self, job: usize) -> usize {
-        let t = self.table;
-        bytes::holder(t, self.benches, job)
-    }
-
-    // Writes word i of the table.
-    pub fn put(self, i: usize, w: usize) -> Board {
-        let t = self.table;
-        let written = bytes::put(t, i, w);
-        let mut board = self;
-        board.table = written;
-        board
+    // Makes a board without jobs.
+    pub fn blank(size: Size, level: bool) -> Board {
+        let table = Table::blank(size);
+        Board {
+            table,
+            length: table.length(),
+            book: Book::empty(),
+            level,
+        }
     }
 }

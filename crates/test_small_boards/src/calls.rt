@@ -1,8 +1,9 @@
-// The board's calls, each with a list beside the table; `tight_sets` has the question that writes one.
+// The board's calls, each with a list beside the table.
 use crate::board::Board;
 use board_answers::Answer;
-use test_solver::bytes;
-use test_solver::bytes::{SPACE, Table};
+use table_refusals::Refusal;
+use test_solver::job_book;
+use test_solver::words::{SPACE, Words};
 
 #[derive(Clone, Copy)]
 pub enum Call {
@@ -14,86 +15,72 @@ pub enum Call {
     Heaviest,
     FormCheck,
     LevelCheck,
+    TightSet(usize),
 }
 
-// Stands for a value that an answer has not.
-pub const NONE: usize = 1000;
-
-// What a call left and answered: the board, the list, the number that it returned, and its values.
+// What a call left and answered.
 #[derive(Clone, Copy)]
 pub struct Reply {
     pub board: Board,
-    pub list: Table,
-    pub number: u32,
-    pub first: usize,
-    pub second: usize,
-    pub third: usize,
+    pub list: Words,
+    pub answer: Result<Answer, Refusal>,
 }
 
-// Makes a call that may change the table, or the form check.
-fn change(t: &mut [u8], list: &mut [u8], call: Call) -> Answer {
+impl Reply {
+    // Tells whether the call left all bytes, of the table and of the list.
+    pub fn left_all(&self, before: &Board) -> bool {
+        self.board.table.words == before.table.words && self.list == full_list()
+    }
+
+    // Tells whether the call was refused with the number that is due and left all bytes.
+    pub fn is_refused(&self, before: &Board, due: job_book::Refusal) -> bool {
+        matches!(self.answer, Err(refusal) if refusal.number() == due.number())
+            && self.left_all(before)
+    }
+}
+
+// Gives a list as it is lent.
+pub fn full_list() -> Words {
+    Words::all(255)
+}
+
+fn answer(t: &mut [u8], list: &mut [u8], call: Call) -> Result<Answer, Refusal> {
     match call {
         Call::Blank(benches, jobs) => board_changes::blank(t, benches, jobs),
         Call::Arrival(job, first, second) => board_changes::arrival(t, job, first, second, list),
         Call::Closing(job) => board_changes::closing(t, job, list),
         Call::Levelling(allowance) => board_changes::levelling(t, allowance),
-        _ => board_questions::form_check(t),
-    }
-}
-
-// Makes a call.
-fn answer(t: &mut [u8], list: &mut [u8], call: Call) -> Answer {
-    match call {
         Call::Load(bench) => board_questions::load(t, bench),
         Call::Heaviest => board_questions::heaviest(t),
+        Call::FormCheck => board_questions::form_check(t),
         Call::LevelCheck => board_questions::level_check(t),
-        _ => change(t, list, call),
+        Call::TightSet(height) => board_questions::tight_set(t, height, list),
     }
-}
-
-// Makes a call on the first bytes of a table and of a list. Where there are fewer, the answer fits no board.
-fn answer_in(t: &mut [u8], length: usize, list: &mut [u8], room: usize, call: Call) -> Answer {
-    if length <= t.len() {
-        if room <= list.len() {
-            return answer(&mut t[0..length], &mut list[0..room], call);
-        }
-    }
-    Answer::NotLevel
-}
-
-// Gives a list as it is lent.
-pub fn full_list() -> Table {
-    [255; SPACE]
 }
 
 // Makes a call on a board, with a list of so many bytes.
-pub fn perform_with(board: Board, call: Call, room: usize) -> Reply {
-    let mut left = board;
-    let mut t = board.table;
+fn perform_with(board: &Board, call: Call, room: usize) -> Reply {
+    let mut left = *board;
     let mut list = full_list();
-    let answer = answer_in(&mut t, board.length, &mut list, room, call);
-    let values = answer.values();
-    left.table = t;
+    let answer = answer(
+        &mut left.table.words.bytes[..board.length.min(SPACE)],
+        &mut list.bytes[..room.min(SPACE)],
+        call,
+    );
     Reply {
         board: left,
         list,
-        number: answer.number(),
-        first: values.get(1, NONE),
-        second: values.get(2, NONE),
-        third: values.get(3, NONE),
+        answer,
     }
 }
 
 // Makes a call on a board, with a list that is longer than any call needs.
-pub fn perform(board: Board, call: Call) -> Reply {
+pub fn perform(board: &Board, call: Call) -> Reply {
     perform_with(board, call, SPACE)
 }
 
-// Tells whether a call returned this number and left all bytes, of the table and of the list.
-pub fn only_returned(board: Board, reply: Reply, number: u32) -> bool {
-    let left = reply.board;
-    let was = board.table;
-    let is = left.table;
-    let list = reply.list;
-    (reply.number == number) & bytes::same(was, is) & bytes::same(full_list(), list)
+// Tells whether a call is refused with 8, and leaves all bytes, where its list is one byte too short for so many words.
+pub fn is_refused_short(board: &Board, call: Call, words: usize) -> bool {
+    let room = words.wrapping_mul(2).wrapping_sub(1);
+    perform_with(board, call, room).is_refused(board, job_book::Refusal::ListTooShort)
 }

@@ -1,59 +1,133 @@
-// Counts of what was tried and of what was not as it should be, in the order in which they are printed.
+// Counts of what was tried and of what was not as it should be.
+use std::io::{self, Print};
 
-pub const RUNS: usize = 0;
+// What is not as it should be: of a board, then of a call.
+#[derive(Clone, Copy)]
+pub enum Fault {
+    Records,
+    Loads,
+    LevelCheck,
+    Sharing,
+    TightSet,
+    Refusal,
+    Arrival,
+    Closing,
+    Levelling,
+    Damaged,
+    Start,
+}
 
-pub const CALLS: usize = 1;
+// What is printed of each fault, in the same order.
+const FAULTS: [&str; 11] = [
+    "wrong records",
+    "wrong loads",
+    "wrong level checks",
+    "sharings not the least",
+    "wrong tight sets",
+    "wrong refusals",
+    "wrong arrivals",
+    "wrong closings",
+    "wrong levellings",
+    "damaged tables not refused",
+    "wrong starts",
+];
 
-// The place after each of these has the jobs moved or the paths turned.
-pub const ARRIVALS: usize = 2;
+// The numbers of the refusals that the runs meet are 1 to this.
+const MOST_REFUSAL: usize = 6;
 
-pub const CLOSINGS: usize = 4;
+// What a call did. The numbers are jobs moved or paths turned, and of a refusal its number.
+#[derive(Clone, Copy)]
+pub enum Deed {
+    Begun,
+    Arrived(usize),
+    Closed(usize),
+    Levelled(u32),
+    Stopped(u32),
+    Refused(u32),
+    Answered,
+}
 
-pub const LEVELLED: usize = 6;
+// Calls of a kind, and how many jobs they moved or paths they turned.
+#[derive(Clone, Copy, Default)]
+struct Changes {
+    calls: u64,
+    changed: u64,
+}
 
-pub const STOPPED: usize = 8;
-
-// Refusal n is counted at this place and n.
-pub const REFUSED: usize = 9;
-
-// Faults of a board.
-pub const BAD_RECORDS: usize = 16;
-
-pub const BAD_LOADS: usize = 17;
-
-pub const BAD_LEVEL_CHECK: usize = 18;
-
-pub const BAD_SHARING: usize = 19;
-
-pub const BAD_TIGHT_SET: usize = 20;
-
-// Faults of a call.
-pub const BAD_REFUSAL: usize = 21;
-
-pub const BAD_ARRIVAL: usize = 22;
-
-pub const BAD_CLOSING: usize = 23;
-
-pub const BAD_LEVELLING: usize = 24;
-
-pub const BAD_DAMAGED: usize = 25;
-
-pub const BAD_START: usize = 26;
-
-// These are not printed: a question that was answered, and no fault.
-pub const ANSWERED: usize = 27;
-
-pub const RIGHT: usize = 28;
-
-pub const PLACES: usize = 29;
-
-pub type Counts = [u64; 29];
-
-// Adds to the count at a place.
-pub fn add(counts: Counts, place: usize, n: usize) -> Counts {
-    let mut more = counts;
-    if place < PLACES {
-        more[place] = std::num::wrapping_add_u64(more[place], n as u64);
+impl Changes {
+    fn add(&mut self, changed: u64) {
+        self.calls = self.calls.wrapping_add(1);
+        self.changed = self.changed.wrapping_add(changed);
     }
-    more
+}
+
+#[derive(Clone, Copy, Default)]
+pub struct Counts {
+    runs: u64,
+    calls: u64,
+    arrivals: Changes,
+    closings: Changes,
+    levelled: Changes,
+    stopped: Changes,
+    refused: [u64; MOST_REFUSAL],
+    faults: [u64; FAULTS.len()],
+}
+
+impl Counts {
+    // Counts a call of a run.
+    pub fn add_call(&mut self) {
+        self.calls = self.calls.wrapping_add(1);
+    }
+
+    // Counts what a call did.
+    pub fn add_deed(&mut self, deed: Deed) {
+        match deed {
+            Deed::Begun => self.runs = self.runs.wrapping_add(1),
+            Deed::Arrived(moved) => self.arrivals.add(moved as u64),
+            Deed::Closed(moved) => self.closings.add(moved as u64),
+            Deed::Levelled(paths) => self.levelled.add(u64::from(paths)),
+            Deed::Stopped(paths) => self.stopped.add(u64::from(paths)),
+            Deed::Refused(number) => add_at(&mut self.refused, (number as usize).wrapping_sub(1)),
+            Deed::Answered => {}
+        }
+    }
+
+    pub fn add_fault(&mut self, fault: Fault) {
+        add_at(&mut self.faults, fault as usize);
+    }
+
+    pub fn print(&self, rt: &impl Print) -> io::Result<()> {
+        println!(rt; "{} runs", self.runs)?;
+        println!(rt; "{} calls", self.calls)?;
+        println!(rt;
+            "{} arrivals, {} jobs moved",
+            self.arrivals.calls, self.arrivals.changed
+        )?;
+        println!(rt;
+            "{} closings, {} jobs moved",
+            self.closings.calls, self.closings.changed
+        )?;
+        println!(rt;
+            "{} levellings to the end, {} paths turned",
+            self.levelled.calls, self.levelled.changed
+        )?;
+        println!(rt;
+            "{} levellings stopped, {} paths turned",
+            self.stopped.calls, self.stopped.changed
+        )?;
+        for (i, count) in self.refused.iter().enumerate() {
+            println!(rt; "{count} refused with {}", i + 1)?;
+        }
+        for (count, fault) in self.faults.iter().zip(FAULTS) {
+            println!(rt; "{count} {fault}")?;
+        }
+        Ok(())
+    }
+}
+
+// Adds one to the count at a place, if there is one.
+fn add_at(counts: &mut [u64], place: usize) {
+    if let Some(count) = counts.get_mut(place) {
+        *count = count.wrapping_add(1);
+    }
 }

@@ -1,102 +1,72 @@
 // Levelling, held against itself one path at a time.
 use crate::board::Board;
-use crate::board_faults::{loads, same_loads};
-use crate::calls::{Call, Reply, perform};
+use crate::board_faults::loads;
+use crate::calls::{Call, perform};
+use crate::counts::{Deed, Fault};
 use crate::outcomes::Outcome;
-use crate::{counts, random};
-use test_solver::{Loads, MOST_BENCHES, bit, give};
+use crate::random::Seed;
+use board_answers::Answer;
+use test_solver::MOST_BENCHES;
+use test_solver::bench_loads::Loads;
 
 // More paths than a board here can need.
-const MANY: usize = 200;
+const MANY: u32 = 200;
 
-// Gives the first bench whose load is above its load in the other list; 0 for none.
-fn first_above(upper: Loads, lower: Loads) -> usize {
-    let mut bench = 1;
-    while bench <= MOST_BENCHES {
-        if lower[bench] < upper[bench] {
-            return bench;
-        }
-        bench += 1;
-    }
-    0
-}
-
-// Gives the load of a bench.
-fn load_of(loads: Loads, bench: usize) -> usize {
-    if bench <= MOST_BENCHES {
-        loads[bench]
-    } else {
-        0
-    }
+// Gives the first bench whose load is above its load in the other list.
+fn first_above(upper: &Loads, lower: &Loads) -> Option<usize> {
+    (1..MOST_BENCHES + 1).find(|&bench| lower.of(bench) < upper.of(bench))
 }
 
 // Tells whether one bench has one job less and one has one more, and the first was at least two above the other.
-fn improved(before: Loads, after: Loads) -> bool {
-    let from = first_above(before, after);
-    let to = first_above(after, before);
-    let fits = std::num::wrapping_add_usize(load_of(before, to), 2) <= load_of(before, from);
-    let moved = same_loads(give(after, from), give(before, to));
-    (from != 0) & (to != 0) & fits & moved
+fn improved(before: &Loads, after: &Loads) -> bool {
+    let (Some(from), Some(to)) = (first_above(before, after), first_above(after, before)) else {
+        return false;
+    };
+    let gap = before.of(from).saturating_sub(before.of(to));
+    gap >= 2 && after.with_one_more(from) == before.with_one_more(to)
 }
 
-// Tells what a levelling of one path did: 1 turned, 0 none improves, MANY for anything else.
-fn paths_of(board: Board, reply: Reply) -> usize {
-    let left = reply.board;
-    let before = loads(board);
-    let after = loads(left);
-    if (reply.first == 0) & (reply.second == 1) & same_loads(before, after) {
-        return 0;
-    }
-    if (reply.first == 1) & improved(before, after) {
-        1
-    } else {
-        MANY
-    }
-}
-
-// Counts the paths that level a board, one at a time.
-fn paths_needed(board: Board) -> usize {
-    let mut at = board;
-    let mut n: usize = 0;
-    let mut turn = 0;
-    while turn < MANY {
-        let reply = perform(at, Call::Levelling(1));
-        let paths = paths_of(at, reply);
-        if paths == 0 {
-            return n;
+// Counts the paths that level a board, one at a time; none if one of them is wrong.
+fn paths_needed(board: &Board) -> Option<u32> {
+    let mut at = *board;
+    for paths in 0..MANY {
+        let reply = perform(&at, Call::Levelling(1));
+        let before = loads(&at)?;
+        let after = loads(&reply.board)?;
+        match reply.answer {
+            Ok(Answer::Levelled(0)) if before == after => return Some(paths),
+            Ok(Answer::Levelled(1) | Answer::Stopped(1)) if improved(&before, &after) => {}
+            _ => return None,
         }
-        n = std::num::wrapping_add_usize(n, paths);
-        let left = reply.board;
-        at = left;
-        turn += 1;
+        at = reply.board;
     }
-    n
+    None
 }
 
 // Draws 0 to 3, or no limit to speak of.
-fn allowance(seed: u64) -> u32 {
-    let way = random::below(seed, 2, 8);
-    if way < 4 { way as u32 } else { 4294967295 }
+fn allowance(seed: Seed) -> u32 {
+    match seed.below(2, 8) {
+        few @ 0..=3 => few as u32,
+        _ => u32::MAX,
+    }
 }
 
 // Makes a drawn levelling. It turns as many paths as are needed or allowed, and says "level" exactly if no more were
 // needed, as on a board that was level.
-pub fn levelling(board: Board, seed: u64) -> Outcome {
-    let needed = paths_needed(board);
-    let allowed = allowance(seed);
-    let most = allowed as usize;
-    let reply = perform(board, Call::Levelling(allowed));
-    let to_the_end = needed <= most;
-    let paths = if to_the_end { needed } else { most };
-    let what = if to_the_end {
-        counts::LEVELLED
-    } else {
-        counts::STOPPED
+pub fn levelling(board: &Board, seed: Seed) -> Outcome {
+    let Some(needed) = paths_needed(board) else {
+        return Outcome::new(*board, Deed::Answered, false, Fault::Levelling);
     };
-    let right = (reply.first == paths)
-        & (reply.second == bit(to_the_end))
-        & (to_the_end | !board.level);
+    let allowed = allowance(seed);
+    let to_the_end = needed <= allowed;
+    let (due, deed) = if to_the_end {
+        (Answer::Levelled(needed), Deed::Levelled(needed))
+    } else {
+        (Answer::Stopped(allowed), Deed::Stopped(allowed))
+    };
+    let reply = perform(board, Call::Levelling(allowed));
+    let right = reply.answer == Ok(due) && (to_the_end || !board.level);
     let mut after = reply.board;
-    after.level = board.level | to_the_end;
-    Outcome::new(after, what, reply.first, right, counts::BAD_LEVELLING)
+    after.level |= to_the_end;
+    Outcome::new(after, deed, right, Fault::Levelling)
 }

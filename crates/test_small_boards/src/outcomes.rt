@@ -1,50 +1,49 @@
 // What a call did to a board.
 use crate::board::Board;
-use crate::counts::Counts;
-use crate::{board_faults, counts};
+use crate::board_faults;
+use crate::calls::Reply;
+use crate::counts::{Counts, Deed, Fault};
+use test_solver::job_book;
 
-// The board after it, the place of `counts` for what it did, the jobs moved or paths turned, and the place for its
-// fault.
+// The board after it, what it did, and its fault.
 #[derive(Clone, Copy)]
 pub struct Outcome {
     pub board: Board,
-    pub what: usize,
-    pub moved: usize,
-    pub fault: usize,
+    deed: Deed,
+    fault: Option<Fault>,
 }
 
 impl Outcome {
     // Makes an outcome that is right, or has this fault.
-    pub fn new(board: Board, what: usize, moved: usize, right: bool, fault: usize) -> Outcome {
-        let shown = if right { counts::RIGHT } else { fault };
+    pub fn new(board: Board, deed: Deed, right: bool, fault: Fault) -> Outcome {
         Outcome {
             board,
-            what,
-            moved,
-            fault: shown,
+            deed,
+            fault: if right { None } else { Some(fault) },
         }
     }
 
-    // Makes the outcome of a call that returned this number, 0 for a question that was answered.
-    pub fn refused(board: Board, number: u32, right: bool, fault: usize) -> Outcome {
-        let what = if number == 0 {
-            counts::ANSWERED
-        } else {
-            std::num::wrapping_add_usize(counts::REFUSED, number as usize)
+    // Makes the outcome of a call that does not answer as an accepted one: right if it is refused as is due.
+    pub fn refused(before: &Board, reply: &Reply, due: Result<(), job_book::Refusal>) -> Outcome {
+        let deed = match reply.answer {
+            Err(refusal) => Deed::Refused(refusal.number()),
+            Ok(_) => Deed::Answered,
         };
-        Outcome::new(board, what, 0, right, fault)
+        let right = match due {
+            Err(refusal) => reply.is_refused(before, refusal),
+            Ok(()) => false,
+        };
+        Outcome::new(reply.board, deed, right, Fault::Refusal)
     }
 
     // Counts the outcome, and the fault of the board that it left.
-    pub fn counted(self, before: Counts) -> Counts {
-        let tried = counts::add(before, self.what, 1);
-        let moved = counts::add(
-            tried,
-            std::num::wrapping_add_usize(self.what, 1),
-            self.moved,
-        );
-        let held = counts::add(moved, self.fault, 1);
-        let board = self.board;
-        counts::add(held, board_faults::fault(board), 1)
+    pub fn count(&self, counts: &mut Counts) {
+        counts.add_deed(self.deed);
+        if let Some(fault) = self.fault {
+            counts.add_fault(fault);
+        }
+        if let Err(fault) = board_faults::check(&self.board) {
+            counts.add_fault(fault);
+        }
     }
 }

@@ -1,54 +1,69 @@
 // Numbers drawn for the runs, always the same ones.
-ghost use Rattle.std.specs.Prelude.{◌<◌};
+ghost use Rattle.std.specs.Prelude.{◌<◌, ◌≤◌, ◌-◌, max};
 
 const MODULUS: u64 = 2147483647;
 
-// Gives the k-th number after a seed.
-pub fn after(seed: u64, k: usize) -> u64
-    ensures { result < 2147483647 }
-{
-    let mut x = seed % MODULUS;
-    let mut i = 0;
-    while i < k {
-        x = x * 48271 % MODULUS;
-        i += 1;
-    }
-    x
+#[derive(Clone, Copy)]
+pub struct Seed {
+    number: u64,
+    ghost in_range: { number < 2147483647 },
 }
 
-// Gives the k-th number after a seed, brought below n; 0 for n 0.
-pub fn below(seed: u64, k: usize, n: usize) -> usize {
-    if n == 0 {
-        return 0;
+impl Seed {
+    // Gives the seed that all others come after.
+    pub fn first() -> Seed {
+        Seed { number: 1 }
     }
-    (after(seed, k) / 64) as usize % n
-}
 
-// Draws a number of 1 to n.
-pub fn within(seed: u64, k: usize, n: usize) -> usize {
-    std::num::wrapping_add_usize(below(seed, k, n), 1)
-}
-
-// Draws mostly a number of 1 to n, else 0 or n + 1, or a larger one that would be in range if it were cut to 16 bits.
-// Takes the k-th number and the next.
-pub fn number(seed: u64, k: usize, n: usize) -> usize {
-    let way = below(seed, k, 32);
-    let next = std::num::wrapping_add_usize(k, 1);
-    if way == 0 {
-        return std::num::wrapping_add_usize(within(seed, next, n), 65536);
+    // Gives the seed after it.
+    fn next(self) -> Seed {
+        Seed {
+            number: self.number * 48271 % MODULUS,
+        }
     }
-    if way < 5 {
-        return below(seed, next, std::num::wrapping_add_usize(n, 2));
-    }
-    within(seed, next, n)
-}
 
-// Draws a bench of 1 to n that is not this one.
-pub fn other(seed: u64, k: usize, n: usize, bench: usize) -> usize {
-    let b = within(seed, k, std::num::wrapping_sub_usize(n, 1));
-    if b < bench {
-        b
-    } else {
-        std::num::wrapping_add_usize(b, 1)
+    // Gives the k-th seed after it.
+    pub fn after(self, k: usize) -> Seed {
+        let mut seed = self;
+        for _ in 0..k {
+            seed = seed.next();
+        }
+        seed
+    }
+
+    // Gives the k-th number after it, brought below n; 0 for n 0.
+    pub fn below(self, k: usize, n: usize) -> usize
+        ensures { result ≤ n - 1 }
+    {
+        if n == 0 {
+            return 0;
+        }
+        (self.after(k).number / 64) as usize % n
+    }
+
+    // Draws a number of 1 to n.
+    pub fn within(self, k: usize, n: usize) -> usize
+        ensures { result ≤ max n 1 }
+    {
+        self.below(k, n) + 1
+    }
+
+    // Draws mostly a number of 1 to n, else 0 or n + 1, or a larger one that would be in range if it were cut to 16
+    // bits. Takes the k-th number and the next.
+    pub fn number(self, k: usize, n: usize) -> usize
+        requires { n ≤ 10 }
+    {
+        let next = self.next();
+        match self.below(k, 32) {
+            0 => next.within(k, n) + 65536,
+            1..=4 => next.below(k, n + 2),
+            _ => next.within(k, n),
+        }
+    }
+
+    // Draws a bench of 1 to n that is not this one.
+    pub fn other(self, k: usize, n: usize, bench: usize) -> usize {
+        let drawn = self.within(k, n.saturating_sub(1));
+        if drawn < bench { drawn } else { drawn + 1 }
     }
 }

@@ -1,96 +1,65 @@
 // Boards to start from: blank, or with random jobs that are held anyhow, levelled or not.
-use crate::board::{Board, MOST_JOBS};
-use crate::calls::{Call, Reply, perform};
+use crate::board::Board;
+use crate::calls::{Call, perform};
+use crate::counts::{Deed, Fault};
 use crate::outcomes::Outcome;
-use crate::{counts, random};
-use test_solver::{bytes, job_book};
-
-// Gives the word for a holder: the bench of the higher number for 0, else the other.
-fn holder_word(first: usize, second: usize, way: usize) -> usize {
-    if (way == 0) == (first < second) { 2 } else { 1 }
-}
+use crate::random::Seed;
+use board_answers::Answer;
+use test_solver::Size;
+use test_solver::tables::Holder;
+use test_solver::words::Words;
 
 // Adds a job in three of four draws. Half of them name bench 1 first, and mostly the bench of the lower number holds
 // a job, so that many tables are not level.
-fn random_job(board: Board, job: usize, seed: u64) -> Board {
-    let way = random::below(seed, 1, 8);
-    if way < 2 {
-        return board;
-    }
-    let t = board.table;
-    let book = board.book;
-    let benches = board.benches;
-    let first = if way < 5 {
-        1
+fn add_random_job(board: &mut Board, job: usize, seed: Seed) {
+    let benches = board.table.size.benches;
+    let first = match seed.below(1, 8) {
+        0 | 1 => return,
+        2..=4 => 1,
+        _ => seed.within(2, benches),
+    };
+    let second = seed.other(3, benches, first);
+    let by_the_higher = seed.below(4, 8) == 0;
+    let holder = if by_the_higher == (first < second) {
+        Holder::Second
     } else {
-        random::within(seed, 2, benches)
+        Holder::First
     };
-    let second = random::other(seed, 3, benches, first);
-    let holder = holder_word(first, second, random::below(seed, 4, 8));
-    let added = bytes::add_job(t, benches, job, first, second, holder);
-    let entered = job_book::write(book, job, first, second);
-    let mut more = board;
-    more.table = added;
-    more.book = entered;
-    more
+    board.table.add_job(job, (first, second), holder);
+    board.book.write(job, Some((first, second)));
 }
 
-// Gives a job number of 1 to n: the k-th from this one on, and around.
-fn around(from: usize, k: usize, n: usize) -> usize {
-    if n == 0 {
-        return 0;
+// Puts jobs on their chains from any job on and around, so that chains are in several orders.
+fn random_jobs(size: Size, level: bool, seed: Seed) -> Board {
+    let mut board = Board::blank(size, level);
+    let from = seed.below(9, size.jobs);
+    let mut next = seed;
+    for k in 0..size.jobs {
+        next = next.after(10);
+        add_random_job(&mut board, (from + k) % size.jobs + 1, next);
     }
-    std::num::wrapping_add_usize(std::num::wrapping_add_usize(from, k) % n, 1)
+    board
 }
 
-// Puts jobs on their chains from any job on, so that chains are in several orders.
-fn random_jobs(board: Board, seed: u64) -> Board {
-    let from = random::below(seed, 9, board.jobs);
-    let mut at = board;
-    let mut s = seed;
-    let mut k = 0;
-    while k < MOST_JOBS {
-        s = random::after(s, 10);
-        if k < board.jobs {
-            let more = random_job(at, around(from, k, board.jobs), s);
-            at = more;
+// Begins a run: blanks a table, levels a board of drawn jobs, or takes one as it is.
+pub fn begin(size: Size, seed: Seed) -> Outcome {
+    let way = seed.below(3, 3);
+    let (reply, right) = match way {
+        0 => {
+            // All of the table is to be written over.
+            let mut filled = Board::blank(size, true);
+            filled.table.words = Words::all(255);
+            let reply = perform(&filled, Call::Blank(size.benches, size.jobs));
+            (reply, reply.answer == Ok(Answer::Blanked))
         }
-        k += 1;
-    }
-    at
-}
-
-// Makes a board without jobs.
-fn empty(benches: usize, jobs: usize, level: bool) -> Board {
-    let zeros = [0; bytes::SPACE];
-    let board = Board {
-        table: zeros,
-        length: bytes::table_length(benches, jobs),
-        benches,
-        jobs,
-        book: job_book::empty(),
-        level,
+        1 => {
+            let reply = perform(&random_jobs(size, true, seed), Call::Levelling(u32::MAX));
+            (reply, matches!(reply.answer, Ok(Answer::Levelled(_))))
+        }
+        _ => {
+            let reply = perform(&random_jobs(size, false, seed), Call::FormCheck);
+            (reply, reply.answer == Ok(Answer::Sound))
+        }
     };
-    board.put(0, benches).put(1, jobs)
-}
-
-// Blanks a board whose table is filled, to see that all of it is written.
-fn blank(board: Board) -> Reply {
-    let whole = [255; bytes::SPACE];
-    let mut filled = board;
-    filled.table = whole;
-    perform(filled, Call::Blank(board.benches, board.jobs))
-}
-
-// Begins a run: way 0 blanks a table, way 1 levels a board of drawn jobs, any other takes it as it is.
-pub fn begin(benches: usize, jobs: usize, way: usize, seed: u64) -> Outcome {
-    let board = empty(benches, jobs, way < 2);
-    let reply = match way {
-        0 => blank(board),
-        1 => perform(random_jobs(board, seed), Call::Levelling(4294967295)),
-        _ => perform(random_jobs(board, seed), Call::FormCheck),
-    };
-    let right = (reply.number == 0) & ((way != 1) | (reply.second == 1));
-    let begun = reply.board;
-    Outcome::new(begun, counts::RUNS, 0, right, counts::BAD_START)
+    Outcome::new(reply.board, Deed::Begun, right, Fault::Start)
 }

@@ -1,197 +1,133 @@
 // Tight sets of every height, held against sets made anew from the holders.
 use crate::board::{Board, MOST_JOBS};
+use crate::calls::{Call, full_list, is_refused_short, perform};
 use board_answers::Answer;
-use test_solver::bytes::{SPACE, Table};
-use test_solver::{Book, Loads, MOST_BENCHES, bench_of, bit, bytes, excess, heaviest};
+use test_solver::MOST_BENCHES;
+use test_solver::bench_loads::Loads;
+use test_solver::job_book::{Book, Refusal};
+use test_solver::words::Words;
 
-// Which benches are in the set; place 0 is not used.
-type Marks = [bool; 6];
-
-// What the call answered, and the list as it left it.
+// Which benches are in a set.
 #[derive(Clone, Copy)]
-pub struct Reply {
-    pub number: u32,
-    benches: usize,
-    inside: usize,
-    list: Table,
+struct Set {
+    // Bench 1 comes first.
+    in_order: [bool; MOST_BENCHES],
 }
 
-// The set's benches, rising, as words at the beginning of a list, and how many they are.
-#[derive(Clone, Copy)]
-struct Listed {
-    list: Table,
-    benches: usize,
-}
-
-// Marks a bench for yes.
-fn mark(marks: Marks, bench: usize, yes: bool) -> Marks {
-    let mut more = marks;
-    if bench <= MOST_BENCHES {
-        more[bench] = more[bench] | yes;
+impl Set {
+    // Makes the set of the benches whose load is at least the height.
+    fn heavy(loads: &Loads, height: usize) -> Set {
+        let mut set = Set {
+            in_order: [false; MOST_BENCHES],
+        };
+        for (i, is_in) in set.in_order.iter_mut().enumerate() {
+            *is_in = height <= loads.of(i + 1);
+        }
+        set
     }
-    more
-}
 
-// Tells whether a bench is marked.
-fn marked(marks: Marks, bench: usize) -> bool {
-    if bench <= MOST_BENCHES {
-        marks[bench]
-    } else {
-        false
+    // Makes the set of a height. Each round of all jobs brings in a bench at least, until no more come in.
+    fn of(board: &Board, loads: &Loads, height: usize) -> Set {
+        let mut set = Set::heavy(loads, height);
+        for _ in 0..MOST_BENCHES {
+            for job in 1..MOST_JOBS + 1 {
+                set.bring_in(board, job);
+            }
+        }
+        set
     }
-}
 
-// Marks the benches whose load is at least the height.
-fn heavy(loads: Loads, height: usize) -> Marks {
-    let mut marks = [false; 6];
-    let mut bench = 1;
-    while bench <= MOST_BENCHES {
-        marks[bench] = height <= loads[bench];
-        bench += 1;
+    // Tells whether a bench is in the set.
+    fn has(&self, bench: usize) -> bool {
+        self.in_order
+            .get(bench.wrapping_sub(1))
+            .copied()
+            .unwrap_or(false)
     }
-    marks
-}
 
-// Brings in the benches of a job whose holder is marked.
-fn bring_in(marks: Marks, board: Board, job: usize) -> Marks {
-    let book = board.book;
-    let brings = marked(marks, board.holder(job));
-    let first = mark(marks, bench_of(book, job, 0), brings);
-    mark(first, bench_of(book, job, 1), brings)
-}
-
-// Makes the set of a height. Each round of all jobs brings in a bench at least, until no more come in.
-fn set_of(board: Board, loads: Loads, height: usize) -> Marks {
-    let mut marks = heavy(loads, height);
-    let mut turn = 0;
-    while turn < MOST_BENCHES * MOST_JOBS {
-        let more = bring_in(marks, board, turn % MOST_JOBS + 1);
-        marks = more;
-        turn += 1;
-    }
-    marks
-}
-
-// Counts the jobs with both benches in the set.
-fn inside(book: Book, marks: Marks) -> usize {
-    let mut n: usize = 0;
-    let mut job = 1;
-    while job <= MOST_JOBS {
-        let both = marked(marks, bench_of(book, job, 0)) & marked(marks, bench_of(book, job, 1));
-        n = std::num::wrapping_add_usize(n, bit(both));
-        job += 1;
-    }
-    n
-}
-
-// Lists the set. Each bench is written behind the marked ones before it, and what is behind the last of them is made
-// as it was.
-fn list(marks: Marks) -> Listed {
-    let mut list = [255; SPACE];
-    let mut benches: usize = 0;
-    let mut bench = 1;
-    while bench <= MOST_BENCHES {
-        let more = bytes::put(list, benches, bench);
-        list = more;
-        benches = std::num::wrapping_add_usize(benches, bit(marks[bench]));
-        bench += 1;
-    }
-    Listed {
-        list: bytes::put(list, benches, 65535),
-        benches,
-    }
-}
-
-// Makes the call on the first bytes of a table and of a list. Where there are fewer, the answer fits no board.
-fn answer_in(t: &[u8], length: usize, height: usize, list: &mut [u8], room: usize) -> Answer {
-    if length <= t.len() {
-        if room <= list.len() {
-            return board_questions::tight_set(&t[0..length], height, &mut list[0..room]);
+    // Takes a bench in.
+    fn add(&mut self, bench: usize) {
+        if let Some(is_in) = self.in_order.get_mut(bench.wrapping_sub(1)) {
+            *is_in = true;
         }
     }
-    Answer::NotLevel
-}
 
-// Makes the call with a list of so many bytes.
-pub fn ask(board: Board, height: usize, room: usize) -> Reply {
-    let t = board.table;
-    let mut list = [255; SPACE];
-    let answer = answer_in(&t, board.length, height, &mut list, room);
-    let values = answer.values();
-    Reply {
-        number: answer.number(),
-        benches: values.get(1, 0),
-        inside: values.get(2, 0),
-        list,
+    // Brings in the benches of a job whose holder is in.
+    fn bring_in(&mut self, board: &Board, job: usize) {
+        if let Some((first, second)) = board.book.benches_of(job)
+            && board
+                .table
+                .holder(job)
+                .is_some_and(|holder| self.has(holder))
+        {
+            self.add(first);
+            self.add(second);
+        }
     }
-}
 
-// Tells whether a list of so many bytes is refused with this number and stays as it was.
-fn is_refused(board: Board, height: usize, room: usize, number: u32) -> bool {
-    let whole = [255; SPACE];
-    let reply = ask(board, height, room);
-    let list = reply.list;
-    (reply.number == number) & bytes::same(list, whole)
-}
-
-// Adds b up a times.
-fn times(a: usize, b: usize) -> usize {
-    let mut n: usize = 0;
-    let mut k = 0;
-    while k < a {
-        n = std::num::wrapping_add_usize(n, b);
-        k += 1;
+    // Counts the benches.
+    fn count(&self) -> usize {
+        self.in_order.iter().filter(|&&is_in| is_in).count()
     }
-    n
+
+    // Counts the jobs with both benches in the set.
+    fn inside(&self, book: &Book) -> usize {
+        (1..MOST_JOBS + 1)
+            .filter(|&job| {
+                book.benches_of(job)
+                    .is_some_and(|(first, second)| self.has(first) && self.has(second))
+            })
+            .count()
+    }
+
+    // Lists the benches, rising, as words at the beginning of a list.
+    fn list(&self) -> Words {
+        let mut list = full_list();
+        for (place, bench) in (1..MOST_BENCHES + 1)
+            .filter(|&bench| self.has(bench))
+            .enumerate()
+        {
+            list.put(place, bench);
+        }
+        list
+    }
 }
 
 // Tells of a level board whether the inside jobs less (h - 1) times the benches are the excess above h - 1. Where h
 // is the heaviest load, it is the density rounded up.
-fn proves(loads: Loads, height: usize, benches: usize, jobs: usize) -> bool {
-    if height == 0 {
+fn proves(loads: &Loads, height: usize, benches: usize, inside: usize) -> bool {
+    let Some(lower) = height.checked_sub(1) else {
         return false;
-    }
-    let below = times(height - 1, benches);
-    let is_sum = std::num::wrapping_add_usize(below, excess(loads, height - 1)) == jobs;
-    let is_rounded = (below < jobs) & (jobs <= times(height, benches));
-    is_sum & (is_rounded | (height < heaviest(loads)))
+    };
+    let below = benches.wrapping_mul(lower);
+    let is_rounded = below < inside && inside <= benches.wrapping_mul(height);
+    below.wrapping_add(loads.excess(lower)) == inside && (is_rounded || height < loads.heaviest())
 }
 
 // Tells whether the set of a height that some load reaches is right, and is refused where its list is one byte too
 // short.
-fn set_is_right(board: Board, loads: Loads, height: usize) -> bool {
-    let book = board.book;
-    let marks = set_of(board, loads, height);
-    let due = list(marks);
-    let due_list = due.list;
-    let benches = due.benches;
-    let jobs = inside(book, marks);
-    let reply = ask(board, height, SPACE);
-    let list = reply.list;
-    let short = std::num::wrapping_sub_usize(std::num::wrapping_add_usize(benches, benches), 1);
-    (!board.level | proves(loads, height, benches, jobs))
-        & (reply.benches == benches)
-        & (reply.inside == jobs)
-        & bytes::same(list, due_list)
-        & is_refused(board, height, short, 8)
+fn set_is_right(board: &Board, loads: &Loads, height: usize) -> bool {
+    let set = Set::of(board, loads, height);
+    let benches = set.count();
+    let inside = set.inside(&board.book);
+    let call = Call::TightSet(height);
+    let reply = perform(board, call);
+    (!board.level || proves(loads, height, benches, inside))
+        && reply.answer == Ok(Answer::TightSet(benches, inside))
+        && reply.list == set.list()
+        && is_refused_short(board, call, benches)
 }
 
 // Tells whether the set of a height is right, or refused.
-fn is_right(board: Board, loads: Loads, height: usize) -> bool {
-    if (height == 0) | (heaviest(loads) < height) {
-        is_refused(board, height, SPACE, 7)
+fn is_right(board: &Board, loads: &Loads, height: usize) -> bool {
+    if height == 0 || loads.heaviest() < height {
+        perform(board, Call::TightSet(height)).is_refused(board, Refusal::Height)
     } else {
         set_is_right(board, loads, height)
     }
 }
 
 // Tells whether the sets of all heights from 0 to one above the most jobs are right.
-pub fn are_right(board: Board, loads: Loads) -> bool {
-    let mut right = true;
-    let mut height = 0;
-    while height <= MOST_JOBS + 1 {
-        right = right & is_right(board, loads, height);
-        height += 1;
-    }
-    right
+pub fn are_right(board: &Board, loads: &Loads) -> bool {
+    (0..MOST_JOBS + 2).all(|height| is_right(board, loads, height))
 }

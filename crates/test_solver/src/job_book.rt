@@ -1,64 +1,132 @@
-// The job book: for each job number nothing, or the benches that the job names.
-use crate::{Book, MOST_JOBS, bench_of, bit};
+// The job book: for each job number nothing, or the two benches that the job names.
+ghost use Rattle.std.specs.Prelude.{◌≤◌};
 
-// Gives the book of a blank board.
-pub fn empty() -> Book {
-    [0; 22]
+use crate::bench_loads::{Excesses, Loads};
+use crate::{MOST_JOBS, Size};
+
+// Why a call is to be refused, with document 01's number.
+#[derive(Clone, Copy, PartialEq, Eq)]
+pub enum Refusal {
+    Sizes = 1,
+    Unsound = 2,
+    JobNumber = 3,
+    BenchNumber = 4,
+    AlreadyStanding = 5,
+    NotStanding = 6,
+    Height = 7,
+    ListTooShort = 8,
 }
 
-// Tells whether a job stands.
-pub fn stands(book: Book, job: usize) -> bool {
-    0 < bench_of(book, job, 0)
-}
-
-// Writes the benches under the job number; 0 and 0 empty it.
-pub fn write(book: Book, job: usize, first: usize, second: usize) -> Book {
-    let mut written = book;
-    if job <= MOST_JOBS {
-        written[2 * job] = first;
-        written[2 * job + 1] = second;
+impl Refusal {
+    // Gives its number.
+    pub fn number(self) -> u32 {
+        self as u32
     }
-    written
 }
 
-// Counts the standing jobs.
-pub fn standing(book: Book) -> usize {
-    let mut n: usize = 0;
-    let mut job = 1;
-    while job <= MOST_JOBS {
-        n = std::num::wrapping_add_usize(n, bit(stands(book, job)));
-        job += 1;
-    }
-    n
+#[derive(Clone, Copy)]
+pub struct Book {
+    // Job 1 comes first.
+    in_order: [Option<(usize, usize)>; MOST_JOBS],
 }
 
-// Tells whether a number is not of 1 to `most`.
-fn outside(n: usize, most: usize) -> bool {
-    (n == 0) | (most < n)
-}
+impl Book {
+    // Gives the book of a blank board.
+    pub fn empty() -> Book {
+        Book {
+            in_order: [None; MOST_JOBS],
+        }
+    }
 
-// Gives the number that an arrival is to be refused with, 0 if it is to be accepted.
-pub fn arrival_refusal(
-    book: Book,
-    benches: usize,
-    jobs: usize,
-    job: usize,
-    first: usize,
-    second: usize,
-) -> u32 {
-    if outside(job, jobs) {
-        return 3;
+    // Gives the benches that a standing job names.
+    pub fn benches_of(&self, job: usize) -> Option<(usize, usize)> {
+        self.in_order.get(job.wrapping_sub(1)).copied().flatten()
     }
-    if outside(first, benches) | outside(second, benches) | (first == second) {
-        return 4;
-    }
-    if stands(book, job) { 5 } else { 0 }
-}
 
-// Gives the number that a closing is to be refused with, 0 if it is to be accepted.
-pub fn closing_refusal(book: Book, jobs: usize, job: usize) -> u32 {
-    if outside(job, jobs) {
-        return 3;
+    // Tells whether a job stands.
+    pub fn stands(&self, job: usize) -> bool {
+        self.benches_of(job).is_some()
     }
-    if stands(book, job) { 0 } else { 6 }
+
+    // Writes the benches under the job number, or strikes the job out.
+    pub fn write(&mut self, job: usize, benches: Option<(usize, usize)>) {
+        if let Some(named) = self.in_order.get_mut(job.wrapping_sub(1)) {
+            *named = benches;
+        }
+    }
+
+    // Counts the standing jobs.
+    pub fn standing(&self) -> usize
+        ensures { result ≤ 10 }
+    {
+        self.in_order.iter().filter(|named| named.is_some()).count()
+    }
+
+    // Tells whether an arrival is to be accepted, or why not.
+    pub fn arrival(
+        &self,
+        size: Size,
+        job: usize,
+        first: usize,
+        second: usize,
+    ) -> Result<(), Refusal> {
+        if !size.has_job(job) {
+            return Err(Refusal::JobNumber);
+        }
+        if !size.has_bench(first) || !size.has_bench(second) || first == second {
+            return Err(Refusal::BenchNumber);
+        }
+        if self.stands(job) {
+            return Err(Refusal::AlreadyStanding);
+        }
+        Ok(())
+    }
+
+    // Tells whether a closing is to be accepted, or why not.
+    pub fn closing(&self, size: Size, job: usize) -> Result<(), Refusal> {
+        if !size.has_job(job) {
+            return Err(Refusal::JobNumber);
+        }
+        if !self.stands(job) {
+            return Err(Refusal::NotStanding);
+        }
+        Ok(())
+    }
+
+    // Counts the sharings: each standing job goes to one of two benches.
+    fn sharings(&self) -> usize {
+        1 << self.standing()
+    }
+
+    // Counts the loads of a sharing. Each binary digit of its number, from the lowest, says which of its two benches a
+    // standing job goes to.
+    fn loads_of(&self, sharing: usize) -> Loads {
+        let mut loads = Loads::none();
+        let mut rest = sharing;
+        for &(first, second) in self.in_order.iter().flatten() {
+            loads.add(if rest % 2 == 0 { first } else { second }, 1);
+            rest /= 2;
+        }
+        loads
+    }
+
+    // Gives the least heaviest load of all sharings.
+    pub fn least_heaviest(&self) -> usize {
+        (0..self.sharings())
+            .map(|sharing| self.loads_of(sharing).heaviest())
+            .min()
+            .unwrap_or(0)
+    }
+
+    // Gives the least excess of all sharings above each height from 0 to 10.
+    pub fn least_excesses(&self) -> Excesses {
+        let mut least = [usize::MAX; MOST_JOBS + 1];
+        for sharing in 0..self.sharings() {
+            let excesses = self.loads_of(sharing).excesses();
+            for (least, excess) in least.iter_mut().zip(excesses) {
+                *least = excess.min(*least);
+            }
+        }
+        least
+    }
 }

@@ -8,29 +8,25 @@
 
 ghost use Rattle.std.specs.Prelude.{◌≤◌, length};
 
-use sharing_loads::Heaviest;
-use std::env::{Env, FillError};
-use std::fs::{File, Files};
+use std::fs::Files;
 use std::io::{self, Eprint, Print, Read};
-use table_form::Form;
-use table_refusals::Refusal;
 use table_size::Size;
 
-fn print_sound(rt: &impl Print, h: Heaviest) -> io::Result<()> {
-    println!(rt; " sound H{} {}", h.load, h.benches)
-}
-
-// Prints a refusal twice: as the form check's answer, and in place of the heaviest load.
-fn print_refused(rt: &impl Print, r: Refusal) -> io::Result<()> {
-    let number = r.number();
-    println!(rt; " {number} {number}")
-}
+// Bytes that are read of a file: more than any table has.
+const ROOM: usize = 65536;
 
 fn print_table(rt: &impl Print, t: &[u8]) -> io::Result<()> {
-    let mut loads = [0u16; Size::MOST_BENCHES + 1];
+    let mut loads = [0; Size::MOST_BENCHES + 1];
     match table_form::check(t, &mut loads) {
-        Form::Refused(r) => print_refused(rt, r),
-        Form::Sound(s, _) => print_sound(rt, sharing_loads::find_heaviest(t, s, &loads)),
+        Ok(form) => {
+            let heaviest = sharing_loads::find_heaviest(t, form.size, &loads);
+            println!(rt; " sound H{} {}", heaviest.load, heaviest.benches)
+        }
+        // Refuses twice: as the form check, and in place of the heaviest load.
+        Err(refusal) => {
+            let number = refusal.number();
+            println!(rt; " {number} {number}")
+        }
     }
 }
 
@@ -50,34 +46,15 @@ fn read_full(input: &mut impl Read, bytes: &mut [u8]) -> usize
 }
 
 fn print_file<R: Files + Print + Eprint>(rt: &R, path: &str) -> io::Result<()> {
-    match File::open(rt, path) {
-        Err(e) => eprintln!(rt; "{path}: {e}"),
-        Ok(mut file) => {
-            let mut bytes = [0; 65536];
-            let n = read_full(&mut file, &mut bytes);
-            print!(rt; "{path}")?;
-            print_table(rt, &bytes[..n])
-        }
-    }
-}
-
-// Gives an argument, in the room lent; none where there are no more. One that is too long for a path, or no text,
-// counts as empty.
-fn argument<'a>(rt: &impl Env, i: usize, room: &'a mut [u8; 4096]) -> Option<&'a str> {
-    match rt.arg(i, room) {
-        Ok(n) => Some(std::str::from_utf8(&room[..n]).unwrap_or("")),
-        Err(FillError::TooLong) => Some(""),
-        Err(FillError::NotPresent) => None,
-    }
+    let Some(mut file) = test_arguments::open(rt, path)? else {
+        return Ok(());
+    };
+    let mut bytes = [0; ROOM];
+    let n = read_full(&mut file, &mut bytes);
+    print!(rt; "{path}")?;
+    print_table(rt, &bytes[..n])
 }
 
 fn main(rt: HostRuntime) -> io::Result<()> {
-    let mut room = [0; 4096];
-    for i in 1..usize::MAX {
-        let Some(path) = argument(&rt, i, &mut room) else {
-            break;
-        };
-        print_file(&rt, path)?;
-    }
-    Ok(())
+    test_arguments::for_each(&rt, |path| print_file(&rt, path))
 }
