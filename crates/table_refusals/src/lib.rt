@@ -6,19 +6,19 @@ ghost use Rattle.spec_calls.specs.Answers.{refusal_number};
 ghost use Rattle.table_refusals.specs.Refusals.{refusal_of};
 
 // Why a call is refused, in the order of document 01's table and of those that 02 adds to it.
-#[derive(Clone, Copy)]
+#[derive(Clone, Copy, PartialEq, Eq, Debug)]
 pub enum Refusal {
-    Sizes,
-    Unsound,
-    JobNumber,
-    BenchNumber,
-    AlreadyStanding,
-    NotStanding,
-    Height,
-    ListTooShort,
-    CountFull,
-    Unreadable,
-    PageTooShort,
+    Sizes = 1,
+    Unsound = 2,
+    JobNumber = 3,
+    BenchNumber = 4,
+    AlreadyStanding = 5,
+    NotStanding = 6,
+    Height = 7,
+    ListTooShort = 8,
+    CountFull = 9,
+    Unreadable = 10,
+    PageTooShort = 11,
 }
 
 impl Refusal {
@@ -26,18 +26,6 @@ impl Refusal {
     pub fn number(self) -> u32
         ensures { result ≡ refusal_number (refusal_of self) }
     {
-        match self {
-            Refusal::Sizes => 1,
-            Refusal::Unsound => 2,
-            Refusal::JobNumber => 3,
-            Refusal::BenchNumber => 4,
-            Refusal::AlreadyStanding => 5,
-            Refusal::NotStanding => 6,
-            Refusal::Height => 7,
-            Refusal::ListTooShort => 8,
-            Refusal::CountFull => 9,
-            Refusal::Unreadable => 10,
-            Refusal::PageTooShort => 11,
-        }
+        self as u32
     }
 }

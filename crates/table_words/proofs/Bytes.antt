@@ -40,11 +40,7 @@ pub record Listing (list₀ ws list : List ℕ) (i : ℕ) : Type 0 where
   pub long : length list ≡ length list₀
   pub few : i ≤ length ws
 
--- none does at first ..
-pub listing_start : (list ws : List ℕ) → Listing list ws list 0
-listing_start list ws = record { bytes = refl; long = refl; few = omega arith }
-
--- .. then one more ..
+-- then one more ..
 pub listing_turn : {list₀ ws list list' : List ℕ} {i w : ℕ} → Listing list₀ ws list i → i < length ws → 2 * length ws ≤ length list₀ → w ≡ get_or ws i 0 → list' ≡ set_word list i w → Listing list₀ ws list' (i + 1)
 listing_turn {list₀} {ws} {list} {list'} {i} {w} l h room e f =
     let n = length-take-le i ws (omega arith) in
