@@ -1,3 +1,2 @@
--- Answers that are no refusals; refusals of a table's form.
-pub mod Accepted
+-- Refusals of a table's form.
 pub mod Formal
