@@ -1,4 +1,3 @@
--- Noting an answer, and tallies, answers and notes as machine values.
+-- What noting an answer adds; the contracts of the tally.
 pub mod Noting
-pub mod Machine
 pub mod Contracts

@@ -1,25 +1,26 @@
--- The tally in code as document 01's, and each case of what noting answers as its refusal or none.
-use Rattle.std.specs.Prelude.{ℕ, ◌+◌, ◌≡◌, T}
+-- The tally in code as document 01's, and what noting answers as its refusal or none.
+use Rattle.std.specs.Prelude.{ℕ, ◌+◌, ◌≡◌, T, Result, Ok, Err}
 use Rattle.std.proofs.Math.Option.{Option, none, some}
-use Rattle.spec_calls.specs.Answers.{Refusal, Answer, count_full, refusal_number}
+use Rattle.spec_calls.specs.Answers.{Answer, refusal_number}
+use Rattle.spec_calls.specs.Answers as paper-answers
 use Rattle.spec_calls.specs.Tally as paper
+use Rattle.table_refusals.specs.Refusals.{refusal_of}
+use Rattle.table_refusals.specs.declared.Refusal.{Refusal}
 use Rattle.board_tally.specs.declared.Tally.{Tally}
 use Rattle.board_tally.specs.declared.Added.{Added}
-use Rattle.board_tally.specs.declared.Note.{Note}
-use Rattle.board_tally.specs.declared.Note.TheVariants.{Counted, Full}
 use Rattle.board_tally.specs.declared.Noted.{Noted}
 
 -- the tally
 abbrev pub tally_of : Tally → paper.Tally
 tally_of t = record { arrivals = t.arrivals; closings = t.closings; moved = t.moved }
 
--- the refusal 9, or none
-abbrev pub note_of : Note → Option Refusal
-note_of Counted = none
-note_of Full = some count_full
+-- the refusal, 9, or none
+abbrev pub note_of : Result (Unit {0}) Refusal → Option paper-answers.Refusal
+note_of (Ok counted) = none
+note_of (Err r) = some (refusal_of r)
 
 -- the number returned: the refusal's, 0 for none
-abbrev pub number_of : Option Refusal → ℕ
+abbrev pub number_of : Option paper-answers.Refusal → ℕ
 number_of none = 0
 number_of (some r) = refusal_number r
 

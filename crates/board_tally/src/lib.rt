@@ -7,43 +7,35 @@ ghost use Rattle.board_answers.specs.Answered.{answer_of};
 ghost use Rattle.board_tally.specs.Counts.{tally_of, note_of, number_of, more, RaisesBy, NotedAs};
 
 use board_answers::Answer;
+use table_refusals::Refusal;
 
 // Three 32-bit counts.
-#[derive(Clone, Copy)]
+#[derive(Clone, Copy, Default)]
 pub struct Tally {
     pub arrivals: u32,
     pub closings: u32,
     pub moved: u32,
 }
 
-// What noting answers: counted, or refusal 9.
-#[derive(Clone, Copy)]
-pub enum Note {
-    Counted,
-    Full,
-}
-
-impl Note {
-    // Gives the number that is returned for it, 0 for counted.
-    pub fn number(self) -> u32
-        ensures { result ≡ number_of (note_of self) }
-    {
-        match self {
-            Note::Counted => 0,
-            Note::Full => 9,
-        }
-    }
-}
-
-// The tally handed back, and what noting answers.
+// The tally handed back, and what noting answers: counted, or refusal 9.
 #[derive(Clone, Copy)]
 pub struct Noted {
     pub tally: Tally,
-    pub note: Note,
+    pub note: Result<(), Refusal>,
+}
+
+// Gives the number that is returned for a note, 0 where the answer was counted.
+pub fn number(note: Result<(), Refusal>) -> u32
+    ensures { result ≡ number_of (note_of note) }
+{
+    match note {
+        Ok(()) => 0,
+        Err(refusal) => refusal.number(),
+    }
 }
 
 // What noting an answer adds to each count.
-#[derive(Clone, Copy)]
+#[derive(Clone, Copy, Default)]
 struct Added {
     arrivals: usize,
     closings: usize,
@@ -52,10 +44,13 @@ struct Added {
 
 impl Added {
     // Tells what an answer adds: "one to its own count and its moved jobs to the third", or nothing.
-    fn by(a: Answer) -> Added
-        ensures { RaisesBy (answer_of a) result }
+    fn by(answer: Result<Answer, Refusal>) -> Added
+        ensures { RaisesBy (answer_of answer) result }
     {
-        match a {
+        let Ok(accepted) = answer else {
+            return Added::default();
+        };
+        match accepted {
             Answer::Arrived(_, _, moved) => Added {
                 arrivals: 1,
                 closings: 0,
@@ -66,11 +61,7 @@ impl Added {
                 closings: 1,
                 moved,
             },
-            _ => Added {
-                arrivals: 0,
-                closings: 0,
-                moved: 0,
-            },
+            _ => Added::default(),
         }
     }
 }
@@ -84,41 +75,33 @@ fn has_room(count: u32, raise: usize) -> bool
 
 impl Tally {
     // The most that a count holds.
-    pub const MOST_COUNT: u32 = 4294967295;
+    pub const MOST_COUNT: u32 = u32::MAX;
 
     // Starts with all counts zero.
     pub fn new() -> Tally
         ensures { tally_of result ≡ zero_tally }
     {
-        Tally {
-            arrivals: 0,
-            closings: 0,
-            moved: 0,
-        }
+        Tally::default()
     }
 
     // Tells whether all three counts can be raised by so many.
     fn fits(self, added: Added) -> bool
         ensures { result ≡ counts_fit (more self added) }
     {
-        if !has_room(self.arrivals, added.arrivals) {
-            return false;
-        }
-        if !has_room(self.closings, added.closings) {
-            return false;
-        }
-        has_room(self.moved, added.moved)
+        has_room(self.arrivals, added.arrivals)
+            && has_room(self.closings, added.closings)
+            && has_room(self.moved, added.moved)
     }
 
     // Notes an answer: raises all three counts, or none where one would pass the most.
-    pub fn note(mut self, a: Answer) -> Noted
-        ensures { NotedAs (noted (tally_of self) (answer_of a)) result }
+    pub fn note(mut self, answer: Result<Answer, Refusal>) -> Noted
+        ensures { NotedAs (noted (tally_of self) (answer_of answer)) result }
     {
-        let added = Added::by(a);
+        let added = Added::by(answer);
         if !self.fits(added) {
             return Noted {
                 tally: self,
-                note: Note::Full,
+                note: Err(Refusal::CountFull),
             };
         }
         self.arrivals += added.arrivals as u32;
@@ -126,17 +109,17 @@ impl Tally {
         self.moved += added.moved as u32;
         Noted {
             tally: self,
-            note: Note::Counted,
+            note: Ok(()),
         }
     }
 }
 
 // Raises the lent tally in place.
-pub fn note_in_place(t: &mut Tally, a: Answer) -> Note
-    ensures { NotedAs (noted (tally_of t.old) (answer_of a))
-        (record { tally = t.new; note = result }) }
+pub fn note_in_place(tally: &mut Tally, answer: Result<Answer, Refusal>) -> Result<(), Refusal>
+    ensures { NotedAs (noted (tally_of tally.old) (answer_of answer))
+        (record { tally = tally.new; note = result }) }
 {
-    let n = (*t).note(a);
-    *t = n.tally;
-    n.note
+    let noted = (*tally).note(answer);
+    *tally = noted.tally;
+    noted.note
 }

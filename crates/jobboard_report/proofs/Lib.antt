@@ -1,2 +1,2 @@
--- Values in place of the lent numbers.
+-- Values that fit in place of the lent numbers.
 pub mod InPlace

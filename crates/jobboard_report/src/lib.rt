@@ -10,43 +10,49 @@ ghost use Rattle.board_answers.specs.Answered.{answer_of};
 ghost use Rattle.jobboard_report.specs.Report.{written_over, Written};
 
 use board_answers::Answer;
-
-// Marks that there is no value; a value that is not below it has no room in a lent number.
-const NO_VALUE: usize = 4294967296;
+use table_refusals::Refusal;
 
 // Writes value k, counted from 1, into the lent number, which is never read and stays where there is none.
-fn write(a: Answer, k: usize, lent: &mut u32)
-    ensures { lent.new ≡ written_over (nth (drop 1 (in_numbers (answer_of a))) k 4294967296)
+fn write(answer: Result<Answer, Refusal>, k: usize, lent: &mut u32)
+    ensures { lent.new ≡ written_over (nth (drop 1 (in_numbers (answer_of answer))) k 4294967296)
         lent.old }
 {
-    let value = a.values().get(k, NO_VALUE);
-    if value < NO_VALUE {
-        *lent = value as u32;
+    if let Some(value) = board_answers::values_told(answer).get(k)
+        && let Ok(value) = u32::try_from(value)
+    {
+        *lent = value;
     }
 }
 
 // Reports the number and the first value.
-pub fn one(a: Answer, first: &mut u32) -> u32
-    ensures { Written (answer_of a) result (first.old ∷ []) (first.new ∷ []) }
+// Kept: one function over an array of the lent numbers; tried, and the proof didn't close, since nothing proves a `&mut`
+// that is moved out of an array.
+pub fn one(answer: Result<Answer, Refusal>, first: &mut u32) -> u32
+    ensures { Written (answer_of answer) result (first.old ∷ []) (first.new ∷ []) }
 {
-    write(a, 1, first);
-    a.number()
+    write(answer, 1, first);
+    board_answers::number(answer)
 }
 
 // Reports the number and the first two values.
-pub fn two(a: Answer, first: &mut u32, second: &mut u32) -> u32
-    ensures { Written (answer_of a) result (first.old ∷ second.old ∷ [])
+pub fn two(answer: Result<Answer, Refusal>, first: &mut u32, second: &mut u32) -> u32
+    ensures { Written (answer_of answer) result (first.old ∷ second.old ∷ [])
         (first.new ∷ second.new ∷ []) }
 {
-    write(a, 2, second);
-    one(a, first)
+    write(answer, 2, second);
+    one(answer, first)
 }
 
 // Reports the number and the first three values.
-pub fn three(a: Answer, first: &mut u32, second: &mut u32, third: &mut u32) -> u32
-    ensures { Written (answer_of a) result (first.old ∷ second.old ∷ third.old ∷ [])
+pub fn three(
+    answer: Result<Answer, Refusal>,
+    first: &mut u32,
+    second: &mut u32,
+    third: &mut u32,
+) -> u32
+    ensures { Written (answer_of answer) result (first.old ∷ second.old ∷ third.old ∷ [])
         (first.new ∷ second.new ∷ third.new ∷ []) }
 {
-    write(a, 3, third);
-    two(a, first, second)
+    write(answer, 3, third);
+    two(answer, first, second)
 }

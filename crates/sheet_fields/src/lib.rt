@@ -17,6 +17,8 @@ fn last_digit(n: u32) -> u8
 }
 
 // Writes a bench's number in 3 columns.
+// Kept: 3 and 5 columns are two straight lines of stores; one function with the columns as a parameter is a loop that
+// carries the quotient, and the first digit, the digits after it and the last are three cases there too.
 pub fn write_bench_number(page: &mut [u8], at: usize, x: usize)
     requires x_bound { x < 1000 }
     requires at_in_bounds { at + 3 ≤ length page.old }
@@ -45,24 +47,10 @@ pub fn write_number(page: &mut [u8], at: usize, n: usize)
     page[at + 4] = b'0' + (ones % 10) as u8;
 }
 
-// Writes 5 blanks, where no load or job stands.
-pub fn write_five_blanks(page: &mut [u8], at: usize)
-    requires { at + 5 ≤ length page.old }
-    ensures { page.new ≡ with_text page.old at (replicate 5 space) }
+// Writes blanks in so many columns, where no number stands.
+pub fn write_blanks<const COLUMNS: usize>(page: &mut [u8], at: usize)
+    requires { at + COLUMNS ≤ length page.old }
+    ensures { page.new ≡ with_text page.old at (replicate COLUMNS space) }
 {
-    page[at] = b' ';
-    page[at + 1] = b' ';
-    page[at + 2] = b' ';
-    page[at + 3] = b' ';
-    page[at + 4] = b' ';
-}
-
-// Writes 3 blanks, where no bench number stands.
-pub fn write_three_blanks(page: &mut [u8], at: usize)
-    requires { at + 3 ≤ length page.old }
-    ensures { page.new ≡ with_text page.old at (replicate 3 space) }
-{
-    page[at] = b' ';
-    page[at + 1] = b' ';
-    page[at + 2] = b' ';
+    page[at..at + COLUMNS].fill(b' ');
 }

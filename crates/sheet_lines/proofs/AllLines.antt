@@ -5,7 +5,8 @@ use native.Mathlib.Numerals.{add-one}
 use mathlib.Core.Path.{◌≡◌, sym, ap, ◌∙◌}
 use mathlib.Core.List.{List, [], ◌++◌, flat_map}
 use lib.Dec.{T}
-use lib.ListN.{length, get_or, length-append}
+use lib.ListN.{length, get_or, take, drop, length-append}
+use Rattle.std.proofs.lemmas.List.{get_or-take, get_or-drop}
 use Rattle.spec_lists.specs.Lists.{within, range, total}
 use Rattle.spec_lists.proofs.Tests.{within_high, within_both}
 use Rattle.spec_lists.proofs.Counting.{total_same}
@@ -19,7 +20,6 @@ use Rattle.table_size.specs.declared.Size.{Size}
 use Rattle.sheet_fields.specs.Page.{with_text}
 use Rattle.sheet_fields.proofs.Page.{text_none, text_then}
 use Rattle.sheet_lines.specs.WrittenLines.{PageRoom, BenchWritten, LoadedBoard, LengthOf, Sheeted, SheetWritten}
-use Rattle.sheet_lines.proofs.ListedJobs.{list_most}
 
 -- the lines of benches 1 to n by their loads
 abbrev pub lines_to : List ℕ → ℕ → ℕ
@@ -37,6 +37,10 @@ module _ {b : Board} {s : Size} {loads : List ℕ} (z : LoadedBoard b s loads) w
   -- .. which is at most 4,000
   pub load_few : (x : ℕ) → 1 ≤ x → x ≤ s.benches → get_or loads x 0 ≤ most_jobs
   load_few x l h = omega (arith, load_is_lem x l h, load_most b z.storable x)
+
+-- the loads from bench 1 on, read at a place counted from 0
+pub load_at : (loads : List ℕ) (n i : ℕ) → i < n → get_or (take n (drop 1 loads)) i 0 ≡ get_or loads (i + 1) 0
+load_at loads n i h = let e : 1 + i ≡ i + 1 = omega arith in get_or-take n (drop 1 loads) i 0 h ∙ get_or-drop 1 loads i 0 ∙ ap (λ k. get_or loads k 0) e
 
 -- a line more for each bench, and for each further twelve jobs that it holds
 pub lines_next : (loads : List ℕ) (n lines r : ℕ) → lines ≡ lines_to loads n → r ≡ line_count (get_or loads (n + 1) 0) → lines + r ≡ lines_to loads (n + 1)
@@ -80,10 +84,6 @@ module _ {b : Board} {s : Size} {loads head next : List ℕ} (z : Sheeted b s lo
   -- bench x is one of the board's
   own_bench : T (within 1 b.benches x)
   own_bench = within_both 1 b.benches x l (omega (arith, z.board.benches))
-
-  -- its first job's number is at most 4,000
-  pub first_most : get_or head x 0 ≤ most_jobs
-  first_most = list_most (z.lists.held x own_bench)
 
   -- the jobs that it holds ..
   jobs : List ℕ

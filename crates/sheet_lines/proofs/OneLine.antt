@@ -100,22 +100,22 @@ cells_end {next} {page₀} {page} {at} {cells} {first} {j} h u r c =
       rest = λ js l. subst (ListFrom next j) (rw e at (c js l).behind) (c js l).from;
     }
 
--- a line in three pieces: 3 columns, 5 columns and the jobs behind them
-line_written : {next p q page' : List ℕ} {at j r : ℕ} (page a b : List ℕ) → length a ≡ 3 → length b ≡ 5 → at ≤ length page → p ≡ with_text page at a → q ≡ with_text p (at + 3) b → LineWritten next q page' [] (at + 8) j r → LineWritten next page page' (a ++ b) at j r
-line_written {next} {p} {q} {page'} {at} {j} {r} page a b u v h d e w =
-    let three : at + 3 ≡ at + length a = omega arith in
-    let eight : at + 8 ≡ at + length (a ++ b) = omega (arith, length-append a b) in
-    let begun : q ≡ with_text page at (a ++ b) = e ∙ text_then page at a b h d three in
+-- a line in two pieces: its 8 columns in front, and the jobs behind them
+line_behind : {next q page' : List ℕ} {at j r : ℕ} (page a : List ℕ) → length a ≡ 8 → at ≤ length page → q ≡ with_text page at a → LineWritten next q page' [] (at + 8) j r → LineWritten next page page' a at j r
+line_behind {next} {q} {page'} {at} {j} {r} page a u h e w =
+    let eight : at + 8 ≡ at + length a = omega arith in
     record {
-      line = λ js l. w.line js l ∙ text_then page at (a ++ b) (line_with [] (take 12 js)) h begun eight ∙ ap (with_text page at) (simp append_assoc);
+      line = λ js l. w.line js l ∙ text_then page at a (line_with [] (take 12 js)) h e eight ∙ ap (with_text page at) (simp append_assoc);
       rest = w.rest;
     }
 
 -- the first of a bench: its number, and its load, which has a blank before it
 pub first_written : {next page p q page' : List ℕ} {at x load j r : ℕ} → x < 1000 → load < 10000 → at ≤ length page → p ≡ with_text page at (field 3 x) → q ≡ with_text p (at + 3) (field 5 load) → LineWritten next q page' [] (at + 8) j r → LineWritten next page page' (bench_head x load) at j r
 first_written {next} {page} {p} {q} {page'} {at} {x} {load} {j} {r} few light h d e w =
-    rw (blank_and_4 load light) (line_written page (field 3 x) (field 5 load) (field_wide 2 x few) (field_wide 4 load (omega arith)) h d e w)
+    let three : at + 3 ≡ at + length (field 3 x) = omega (arith, field_wide 2 x few) in
+    let eight : length (field 3 x ++ field 5 load) ≡ 8 = omega (arith, length-append (field 3 x) (field 5 load), field_wide 2 x few, field_wide 4 load (omega arith)) in
+    rw (blank_and_4 load light) (line_behind page (field 3 x ++ field 5 load) eight h (e ∙ text_then page at (field 3 x) (field 5 load) h d three) w)
 
 -- another: 8 blanks
-pub more_written : {next page p q page' : List ℕ} {at j r : ℕ} → at ≤ length page → p ≡ with_text page at (replicate 3 space) → q ≡ with_text p (at + 3) (replicate 5 space) → LineWritten next q page' [] (at + 8) j r → LineWritten next page page' more_head at j r
-more_written {next} {page} h d e w = line_written page (replicate 3 space) (replicate 5 space) refl refl h d e w
+pub more_written : {next page q page' : List ℕ} {at j r : ℕ} → at ≤ length page → q ≡ with_text page at (replicate 8 space) → LineWritten next q page' [] (at + 8) j r → LineWritten next page page' more_head at j r
+more_written {next} {page} h e w = line_behind page (replicate 8 space) refl h e w

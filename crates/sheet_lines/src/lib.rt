@@ -22,6 +22,9 @@ use table_size::Size;
 // Counts the characters of a line, the line feed included.
 const LINE: usize = 69;
 
+// Counts the columns of a job.
+const CELL: usize = 5;
+
 // Writes a job in its columns, or blanks for 0; gives the job after it.
 fn write_cell(page: &mut [u8], at: usize, j: usize, next: &[u16; Size::MOST_JOBS + 1]) -> usize
     requires listed { Listed next.now j }
@@ -30,11 +33,11 @@ fn write_cell(page: &mut [u8], at: usize, j: usize, next: &[u16; Size::MOST_JOBS
     ensures value { result ≡ job_after next.now j }
 {
     if j == 0 {
-        sheet_fields::write_five_blanks(page, at);
+        sheet_fields::write_blanks::<CELL>(page, at);
         return 0;
     }
     sheet_fields::write_number(page, at, j);
-    next[j] as usize
+    usize::from(next[j])
 }
 
 // Writes a line from its 9th column on: twelve jobs of a list, blanks where it ends before, and the line feed; gives
@@ -45,10 +48,8 @@ fn write_jobs(page: &mut [u8], at: usize, first: usize, next: &[u16; Size::MOST_
     ensures { LineWritten next.now page.old page.new [] at first result }
 {
     let mut j = first;
-    let mut cells = 0;
-    while cells < 12 {
-        j = write_cell(page, at + 5 * cells, j, next);
-        cells += 1;
+    for cell in 0..12 {
+        j = write_cell(page, at + CELL * cell, j, next);
     }
     page[at + 60] = b'\n';
     j
@@ -82,8 +83,7 @@ fn write_more(page: &mut [u8], at: usize, j: usize, next: &[u16; Size::MOST_JOBS
     requires at_in_bounds { at + 69 ≤ length page.old }
     ensures { LineWritten next.now page.old page.new more_head at j result }
 {
-    sheet_fields::write_three_blanks(page, at);
-    sheet_fields::write_five_blanks(page, at + 3);
+    sheet_fields::write_blanks::<8>(page, at);
     write_jobs(page, at + 8, j, next)
 }
 
@@ -123,12 +123,16 @@ pub fn write(
     ensures { SheetWritten s loads.now head.now next.now page.old
         page.new }
 {
-    let benches = s.benches();
     let mut at = 0;
-    let mut x = 1;
-    while x <= benches {
-        at = write_bench(page, at, x, loads[x] as usize, head[x] as usize, next);
-        x += 1;
+    for x in 1..s.benches() + 1 {
+        at = write_bench(
+            page,
+            at,
+            x,
+            usize::from(loads[x]),
+            usize::from(head[x]),
+            next,
+        );
     }
 }
 
@@ -137,10 +141,7 @@ fn line_count(load: usize) -> usize
     requires { load < 65536 }
     ensures { result ≡ line_count load }
 {
-    if load == 0 {
-        return 1;
-    }
-    (load + 11) / 12
+    load.div_ceil(12).max(1)
 }
 
 // Computes how long the sheet is.
@@ -148,12 +149,9 @@ pub fn sheet_length(s: Size, loads: &[u16; Size::MOST_BENCHES + 1]) -> usize
     requires { LoadsOf s loads.now }
     ensures { LengthOf s loads.now result }
 {
-    let benches = s.benches();
     let mut lines = 0;
-    let mut x = 0;
-    while x < benches {
-        x += 1;
-        lines += line_count(loads[x] as usize);
+    for &load in &loads[1..s.benches() + 1] {
+        lines += line_count(usize::from(load));
     }
     LINE * lines
 }

@@ -1,17 +1,9 @@
 -- Three stores are the text: the number's columns.
-use native.Mathlib.Omega.{arith}
-use lib.ListN.{length-set}
 use Prim.Native.Nat.{◌+◌, ◌/◌, ◌%◌}
 use Rattle.sheet_fields.specs.Page.{digit_of}
 use Rattle.sheet_fields.proofs.Page.{text_three}
 use Rattle.sheet_fields.proofs.Columns.{field_3}
 use Rattle.sheet_fields.proofs.write_bench_number.Goals as goal
-
-pub bounds-page-at-2 : goal.bounds-page-at-2
-bounds-page-at-2 c = simp length-set (omega arith)
-
-pub bounds-page-at-3 : goal.bounds-page-at-3
-bounds-page-at-3 c = simp length-set (omega arith)
 
 pub returns : goal.returns
 returns c =
