@@ -25,7 +25,7 @@ use Rattle.table_size.proofs.Sizes.{heads_long, entries_long}
 use Rattle.table_record_form.specs.Kinds.{counted}
 use Rattle.table_record_form.specs.declared.Seen.{Seen}
 use Rattle.table_record_form.specs.declared.Seen.TheVariants.{Jobs, Broken}
-use Rattle.table_record_form.proofs.Counted.{AllFit, counted_seen, fit_counted}
+use Rattle.table_record_form.proofs.CountedRecords.{AllFit, counted_seen, fit_counted}
 use Rattle.table_chain_form.specs.ChainWalks.{only_if, walked, all_walked}
 use Rattle.table_chain_form.proofs.Walking.{all_broken}
 

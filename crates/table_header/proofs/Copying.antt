@@ -10,7 +10,6 @@ use Rattle.spec_lists.specs.Lists.{nth}
 use Rattle.spec_lists.proofs.Elements.{each_replicate, each_get_d}
 use Rattle.spec_table.specs.Table.{most_benches}
 use Rattle.table_words.specs.Bytes.{layout_in}
-use Rattle.table_size.specs.Written.{HeadsOf}
 use Rattle.table_size.specs.declared.Size.{Size}
 
 -- the heads of the first `done` benches are copied
@@ -31,7 +30,7 @@ heads_start t s heads e =
     }
 
 module _ {t : List ℕ} {s : Size} {heads : List ℕ} {done : ℕ} (c : HeadsTo t s heads done) where
-  -- .. one bench more ..
+  -- .. one bench more
   pub heads_turn : {r : ℕ} → done < s.benches → done < most_benches → r ≡ nth (layout_in t).heads (done + 1) 0 → HeadsTo t s (set heads (done + 1) r) (done + 1)
   heads_turn {r} l m e =
       record {
@@ -42,12 +41,4 @@ module _ {t : List ℕ} {s : Size} {heads : List ℕ} {done : ℕ} (c : HeadsTo 
         ];
         beyond = λ x h. get_or-set_other heads (done + 1) x r 0 (λ q. omega arith) ∙ c.beyond x (omega arith);
         long = length-set heads (done + 1) r ∙ c.long;
-      }
-
-  -- .. and all of them
-  pub heads_end : s.benches ≤ done → HeadsOf t s heads
-  heads_end l =
-      record {
-        by_bench = record { long = c.long; beyond = λ x h. c.beyond x (omega (arith, c.few)) };
-        head = λ x b. c.copied x b.least (omega (arith, b.most));
       }

@@ -5,7 +5,7 @@ ghost use Rattle.table_words.specs.Bytes.{layout_in};
 ghost use Rattle.table_size.specs.Sizes.{SizeOf, BenchIn};
 ghost use Rattle.table_size.specs.Written.{HeadOf, HeadsOf, HasLayout, with_head, cleared};
 
-use table_size::Size;
+use table_size::{PerBench, Size};
 
 // Reads the first job on bench x's chain.
 pub fn head(t: &[u8], s: Size, x: usize) -> usize
@@ -17,17 +17,13 @@ pub fn head(t: &[u8], s: Size, x: usize) -> usize
 }
 
 // Writes, at x, the first job on bench x's chain; 0 stands beyond the last bench.
-pub fn copy_heads(t: &[u8], s: Size, heads: &mut [u16; Size::MOST_BENCHES + 1])
+pub fn copy_heads(t: &[u8], s: Size, heads: &mut PerBench<u16>)
     requires size_of { SizeOf t.now s }
     requires heads_value { heads.old ≡ replicate (most_benches + 1) 0 }
     ensures { HeadsOf t.now s heads.new }
 {
-    let benches = s.benches();
-    let mut done = 0;
-    while done < benches {
-        let x = done + 1;
+    for x in 1..s.benches() + 1 {
         heads[x] = head(t, s, x) as u16;
-        done += 1;
     }
 }
 

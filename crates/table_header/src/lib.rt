@@ -1,13 +1,14 @@
 // What stands before the records. Words 0 to 3: B; J; number of standing jobs; 0.
 #![tactic(auto)]
 
-ghost use Rattle.std.specs.Prelude.{◌≡◌, cond, ◌<◌, length};
+ghost use Rattle.std.specs.Prelude.{◌≡◌, cond, ◌<◌, length, is_ok, IfErr};
 ghost use Rattle.spec_table.specs.Table.{sizes_fit, blank_table};
 ghost use Rattle.table_words.specs.Bytes.{layout_in};
 ghost use Rattle.table_size.specs.Sizes.{SizeOf};
 ghost use Rattle.table_size.specs.Written.{HasLayout, with_standing};
 
-use table_size::{Size, Sizing};
+use table_refusals::Refusal;
+use table_size::Size;
 
 pub mod heads;
 
@@ -37,21 +38,18 @@ pub fn write_standing(t: &mut [u8], s: Size, count: usize)
     table_words::write(t, 3, 0);
 }
 
-// Writes a table without jobs, whatever the bytes were; false, and no byte changed, where the sizes do not fit.
-pub fn blank(t: &mut [u8], benches: usize, jobs: usize) -> bool
-    ensures value { result ≡ sizes_fit (length t.old) benches jobs }
-    ensures t_after { t.new ≡ cond result (blank_table benches jobs) t.old }
+// Writes a table without jobs, whatever the bytes were; refusal 1, and no byte changed, where the sizes do not fit.
+pub fn blank(t: &mut [u8], benches: usize, jobs: usize) -> Result<(), Refusal>
+    ensures value { is_ok result ≡ sizes_fit (length t.old) benches jobs }
+    ensures refusal { IfErr result (λ r. r ≡ Refusal.Sizes) }
+    ensures t_after { t.new ≡ cond (is_ok result) (blank_table benches jobs) t.old }
 {
-    match Size::new(benches, jobs) {
-        Sizing::Misfit => false,
-        Sizing::Fit(s) => {
-            if t.len() != s.bytes() {
-                return false;
-            }
-            table_words::clear(t);
-            table_words::write(t, 0, benches);
-            table_words::write(t, 1, jobs);
-            true
-        }
+    let s = Size::new(benches, jobs)?;
+    if t.len() != s.bytes() {
+        return Err(Refusal::Sizes);
     }
+    table_words::clear(t);
+    table_words::write(t, 0, benches);
+    table_words::write(t, 1, jobs);
+    Ok(())
 }

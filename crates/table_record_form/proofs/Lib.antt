@@ -1,3 +1,3 @@
 -- What a record is, and what the pass over the records has seen.
 pub mod KindOfRecord
-pub mod Counted
+pub mod CountedRecords

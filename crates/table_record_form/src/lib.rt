@@ -18,11 +18,11 @@ pub enum Kind {
     Unfit,
 }
 
-// What a pass has seen: a number of jobs, or what no sound table has.
+// How far a pass over the records has come: the first `records` are counted, and `jobs` of them stand.
 #[derive(Clone, Copy)]
-pub enum Seen {
-    Jobs(usize),
-    Broken,
+pub struct Counted {
+    pub records: usize,
+    pub jobs: usize,
 }
 
 // Tells a record's kind: no job's; one that names two different benches of 1 to B and has holder 1 or 2; or
@@ -31,10 +31,12 @@ pub enum Seen {
 pub fn kind_of(s: Size, r: Record) -> Kind
     ensures { result ≡ kind_of s.benches (entry_of r) }
 {
-    let first = r.first;
-    let second = r.second;
-    let holder = r.holder;
-    let next = r.next;
+    let Record {
+        first,
+        second,
+        holder,
+        next,
+    } = r;
     if s.has_bench(first) && s.has_bench(second) && first != second && 1 <= holder && holder <= 2 {
         return Kind::Fitting;
     }
@@ -48,22 +50,19 @@ pub fn kind_of(s: Size, r: Record) -> Kind
     }
 }
 
-// Counts the standing jobs' records; the first `done` are counted, and `count` of them stand.
-pub fn count_records(t: &[u8], s: Size, done: usize, count: usize) -> Seen
+// Counts the standing jobs' records; those of `done` are counted already. None where one does not fit.
+pub fn count_records(t: &[u8], s: Size, done: Counted) -> Option<usize>
     requires size_of { SizeOf t.now s }
-    requires counted_to { CountedTo t.now s done count }
+    requires counted_to { CountedTo t.now s done.records done.jobs }
     ensures { result ≡ counted s.benches 0 (layout_in t.now).entries }
 {
-    let jobs = s.jobs();
-    let mut count = count;
-    let mut done = done;
-    while done < jobs {
-        match kind_of(s, table_records::read_record(t, s, done + 1)) {
-            Kind::Unfit => return Seen::Broken,
-            Kind::Fitting => count += 1,
+    let mut count = done.jobs;
+    for j in done.records + 1..s.jobs() + 1 {
+        match kind_of(s, table_records::read_record(t, s, j)) {
             Kind::Vacant => {}
+            Kind::Fitting => count += 1,
+            Kind::Unfit => return None,
         }
-        done += 1;
     }
-    Seen::Jobs(count)
+    Some(count)
 }

@@ -4,7 +4,7 @@
 ghost use Rattle.std.specs.Prelude.{◌≡◌, ◌+◌, ◌*◌, ◌≤◌, ◌<◌};
 ghost use Rattle.spec_table.specs.Table.{holder_in};
 ghost use Rattle.table_words.specs.Bytes.{layout_in};
-ghost use Rattle.table_size.specs.Sizes.{Limits, SizeOf, JobIn};
+ghost use Rattle.table_size.specs.Sizes.{SizeOf, JobIn};
 ghost use Rattle.table_size.specs.Written.{record_in, HasLayout, with_entry, with_next};
 ghost use Rattle.table_records.specs.Records.{entry_of, RecordFits, RecordOf, NameAt};
 
@@ -21,8 +21,7 @@ pub struct Record {
 
 // Computes where job j's record begins.
 fn record_at(s: Size, j: usize) -> usize
-    requires limits { Limits s }
-    requires job_in { JobIn s j }
+    requires { JobIn s j }
     ensures { result ≡ s.benches + 4 * j }
 {
     s.benches() + 4 * j

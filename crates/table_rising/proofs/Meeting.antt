@@ -31,7 +31,7 @@ use Rattle.table_records.specs.declared.Record.{Record}
 use Rattle.table_record_form.specs.Kinds.{kind_of, CountedTo}
 use Rattle.table_record_form.specs.declared.Kind.TheVariants.{Vacant, Fitting}
 use Rattle.table_record_form.proofs.KindOfRecord.{vacant_unheld, fitting_tests}
-use Rattle.table_record_form.proofs.Counted.{AllFit, counted_none, counted_pass, counted_turn, counted_end, counted_seen}
+use Rattle.table_record_form.proofs.CountedRecords.{AllFit, counted_none, counted_pass, counted_turn, counted_end, counted_seen}
 use Rattle.table_chains.specs.Chains.{pushed, pushed_from}
 use Rattle.table_chains.proofs.Rebuilding.{rebuild_layout, rebuild_bytes}
 use Rattle.table_rising.specs.Passing.{due_heads, DueWords, Before, Met, Unmet, Passed, NoneDue, Rising}

@@ -7,12 +7,8 @@ pub record Highest (n : ℕ) (f : ℕ → ℕ) (done most : ℕ) : Type 0 where
   pub few : done ≤ n
   pub value : most ≡ greatest done f
 
--- over none it is 0 ..
-pub highest_start : (n : ℕ) (f : ℕ → ℕ) → Highest n f 0 0
-highest_start n f = record { few = omega arith; value = omega arith }
-
 module _ {n : ℕ} {f : ℕ → ℕ} {done most : ℕ} (h : Highest n f done most) where
-  -- .. over one more the greater one of two ..
+  -- over one more the greater one of two ..
   pub highest_turn : {p : ℕ} → done < n → p ≡ max most (f (done + 1)) → Highest n f (done + 1) p
   highest_turn l e = record { few = omega arith; value = rw add-one (cc (rw add-one at e, h.value)) }
 

@@ -1,72 +1,70 @@
 -- Sizes within the limits, byte lengths that fit them, and the size of a table.
-use Rattle.std.proofs.Common.{◌≡◌, ℕ, ◌+◌, ◌*◌, ◌%◌, ◌^◌, ◌<◌, Bool, true, false, cond, ◌&&◌, T, ltb, List, [], ◌∷◌, length, get_or, replicate, sym, refl, ap, ◌∙◌, subst, arith, ltb→lt, lt→ltb, le-leb}
+use Rattle.std.proofs.Common.{◌≡◌, ℕ, ◌+◌, ◌*◌, ◌%◌, ◌^◌, ◌<◌, Bool, true, false, ◌&&◌, T, ltb, List, length, get_or, replicate, Result, Ok, Err, sym, refl, ◌∙◌, subst, arith, ltb→lt, lt→ltb}
 use lib.ListN.{length-map, length-replicate}
 use Rattle.spec_lists.specs.Lists.{within}
 use Rattle.spec_table.specs.Table.{words, length_for, most_benches, most_jobs, sizes_fit, fits, layout, board_of, decode}
-use Rattle.spec_lists.proofs.Tests.{true→T, T→true, never→false, left, right, tests_same, within_low, within_high, within_both}
+use Rattle.spec_lists.proofs.Tests.{true→T, T→true, never→false, left, right, both, tests_same, within_low, within_high, within_both}
 use Rattle.spec_lists.proofs.Elements.{each_replicate, each_get_d}
 use Rattle.spec_table.proofs.Words.{within_fit}
 use Rattle.spec_table.proofs.Places.{length_words, misfit, short_refused, fits_sized, fits_heads, fits_entries}
-use Rattle.spec_calls.specs.Answers.{refusal_number, sizes}
 use Rattle.table_words.specs.Bytes.{layout_in}
-use Rattle.table_size.specs.Sizes.{Limits, SizeOf, JobIn, BenchIn, ByBench, fit_if, sizing, size_in, sizing_numbers, SizingOf, SoundTable}
+use Rattle.table_refusals.specs.declared.Refusal.{Refusal}
+use Rattle.table_refusals.specs.declared.Refusal.TheVariants.{Sizes}
+use Rattle.table_size.specs.Sizes.{Limits, SizeOf, JobIn, BenchIn, ByBench, FitIf, SizingOf, SizeFor, SizeIn, SoundTable}
 use Rattle.table_size.specs.declared.Size.{Size}
-use Rattle.table_size.specs.declared.Sizing.{Sizing}
-use Rattle.table_size.specs.declared.Sizing.TheVariants.{Fit, Misfit}
+
+-- a size is within the limits
+pub limits_of : (s : Size) → Limits s
+limits_of s =
+    record {
+      benches_least = s.benches_least;
+      benches_most = s.benches_most;
+      jobs_least = s.jobs_least;
+      jobs_most = s.jobs_most;
+    }
 
 -- the size where the sizes fit is in document 01's numbers 0 and the sizes, or refusal 1
-pub sizing_of : {fit : Bool} {benches jobs : ℕ} {r : Sizing} → fit_if fit benches jobs ≡ r → SizingOf fit benches jobs r
-sizing_of {fit} {benches} {jobs} e = record { value = sym e; numbers = ap sizing_numbers (sym e) ∙ go fit }
-  where
-    go : (z : Bool) → sizing_numbers (fit_if z benches jobs) ≡ cond z (0 ∷ benches ∷ jobs ∷ []) (refusal_number sizes ∷ [])
-    go true = refl
-    go false = refl
+pub sizing_of : {fit : Bool} {benches jobs : ℕ} {r : Result Size Refusal} → FitIf fit benches jobs r → SizingOf fit benches jobs r
+sizing_of {fit} {benches} {jobs} {r = Ok s} f = record { value = f; numbers = rw (T→true fit f.passed, f.same_benches, f.same_jobs) }
+sizing_of {fit} {benches} {jobs} {r = Err r} f = record { value = f; numbers = rw (f.failed, f.refusal) }
 
 -- numbers of benches and jobs
 
--- numbers that pass the two tests are within the limits
-pass_limits : (benches jobs : ℕ) → T (within 1 most_benches benches) → T (within 1 most_jobs jobs) → Limits (record { benches = benches; jobs = jobs })
-pass_limits benches jobs b j =
+-- numbers that pass the two tests are a size
+pass_size : (benches jobs : ℕ) → T (within 1 most_benches benches) → T (within 1 most_jobs jobs) → Size
+pass_size benches jobs b j =
     record {
+      benches = benches;
+      jobs = jobs;
       benches_least = within_low 1 most_benches benches b;
       benches_most = within_high 1 most_benches benches b;
       jobs_least = within_low 1 most_jobs jobs j;
       jobs_most = within_high 1 most_jobs jobs j;
     }
 
--- numbers within the limits are a size ..
-pub sizing_fit : (s : Size) → Limits s → sizing s.benches s.jobs ≡ Fit s
-sizing_fit s l =
-    rw (le-leb 1 s.benches l.benches_least, le-leb s.benches most_benches l.benches_most, le-leb 1 s.jobs l.jobs_least, le-leb s.jobs most_jobs l.jobs_most)
+-- a size's numbers are not refused ..
+pub sizing_fit : (s : Size) → SizeFor s.benches s.jobs (Ok s)
+sizing_fit s =
+    let b = within_both 1 most_benches s.benches s.benches_least s.benches_most in
+    let j = within_both 1 most_jobs s.jobs s.jobs_least s.jobs_most in
+    sizing_of (record { passed = both (within 1 most_benches s.benches) (within 1 most_jobs s.jobs) b j; same_benches = refl; same_jobs = refl })
 
--- .. others are refused ..
-pub sizing_misfit : (benches jobs : ℕ) → (Limits (record { benches = benches; jobs = jobs }) → ⊥) → sizing benches jobs ≡ Misfit
+-- .. those of no size are ..
+pub sizing_misfit : (benches jobs : ℕ) → ((s : Size) → s.benches ≡ benches → s.jobs ≡ jobs → ⊥) → SizeFor benches jobs (Err Sizes)
+unfolding pass_size
 sizing_misfit benches jobs f =
     let b : Bool = within 1 most_benches benches in
     let j : Bool = within 1 most_jobs jobs in
-    rw (never→false (b && j) (λ t. f (pass_limits benches jobs (left b j t) (right b j t))))
+    sizing_of (record { failed = never→false (b && j) (λ t. f (pass_size benches jobs (left b j t) (right b j t)) refl refl); refusal = refl })
 
 -- .. and a size that is not refused has these numbers
-pub fit_sizing : (benches jobs : ℕ) (s : Size) → sizing benches jobs ≡ Fit s → Limits s × (s.benches ≡ benches) × (s.jobs ≡ jobs)
-fit_sizing benches jobs s = go (b && j) refl
-  where
-    b : Bool
-    b = within 1 most_benches benches
-
-    j : Bool
-    j = within 1 most_jobs jobs
-
-    go : (z : Bool) → (b && j) ≡ z → fit_if z benches jobs ≡ Fit s → Limits s × (s.benches ≡ benches) × (s.jobs ≡ jobs)
-    go true p e =
-        let t = true→T (b && j) p in
-        let same : record { benches = benches; jobs = jobs } ≡ s = cc in
-        subst (λ (r : Size). Limits r × (r.benches ≡ benches) × (r.jobs ≡ jobs)) same (pass_limits benches jobs (left b j t) (right b j t), refl, refl)
-    go false p e = absurd (true→T false cc)
+pub fit_sizing : (benches jobs : ℕ) (s : Size) → SizeFor benches jobs (Ok s) → Limits s × (s.benches ≡ benches) × (s.jobs ≡ jobs)
+fit_sizing benches jobs s e = (limits_of s, e.value.same_benches, e.value.same_jobs)
 
 -- a byte length for numbers of benches and jobs
 
 -- the length that belongs to a size fits it: it is even and 8 or more
-pub sizes_fit_lem : (len benches jobs : ℕ) (s : Size) → sizing benches jobs ≡ Fit s → len ≡ length_for s.benches s.jobs → sizes_fit len benches jobs ≡ true
+pub sizes_fit_lem : (len benches jobs : ℕ) (s : Size) → SizeFor benches jobs (Ok s) → len ≡ length_for s.benches s.jobs → sizes_fit len benches jobs ≡ true
 sizes_fit_lem len benches jobs s e l =
     let f = fit_sizing benches jobs s e in
     let n : len ≡ length_for benches jobs = omega arith in
@@ -75,14 +73,13 @@ sizes_fit_lem len benches jobs s e l =
     rw n (T→true (sizes_fit (length_for benches jobs) benches jobs) (within_fit benches jobs b j))
 
 -- no other length fits a size
-pub sizes_other : (len benches jobs : ℕ) (s : Size) → sizing benches jobs ≡ Fit s → (len ≡ length_for s.benches s.jobs → ⊥) → sizes_fit len benches jobs ≡ false
+pub sizes_other : (len benches jobs : ℕ) (s : Size) → SizeFor benches jobs (Ok s) → (len ≡ length_for s.benches s.jobs → ⊥) → sizes_fit len benches jobs ≡ false
 sizes_other len benches jobs s e d = let f = fit_sizing benches jobs s e in misfit len benches jobs (λ z. d (omega arith))
 
 -- and no length fits numbers that are refused
-pub sizes_refused : (len benches jobs : ℕ) → sizing benches jobs ≡ Misfit → sizes_fit len benches jobs ≡ false
+pub sizes_refused : (len benches jobs : ℕ) {r : Refusal} → SizeFor benches jobs (Err r) → sizes_fit len benches jobs ≡ false
 sizes_refused len benches jobs e =
-    misfit len benches jobs
-    (λ z. let f = sizing_fit (record { benches = benches; jobs = jobs }) (pass_limits benches jobs z.benches_within z.jobs_within) in true→T false cc)
+    misfit len benches jobs (λ z. subst T e.value.failed (both (within 1 most_benches benches) (within 1 most_jobs jobs) z.benches_within z.jobs_within))
 
 -- a table
 
@@ -91,9 +88,8 @@ pub size_of : (t : List ℕ) (s : Size) → T (fits t) → (layout_in t).benches
 unfolding decode board_of
 size_of t s f b j =
     let z = fits_sized t f in
-    let l = pass_limits (layout_in t).benches (layout_in t).jobs z.benches_within z.jobs_within in
     record {
-      limits = omega arith;
+      limits = limits_of s;
       fit = f;
       long = omega arith;
       benches = b;
@@ -103,45 +99,36 @@ size_of t s f b j =
     }
 
 -- a size that a table is not refused is the table's size
-pub fit_size : (t : List ℕ) (s : Size) → size_in t ≡ Fit s → SizeOf t s
-fit_size t s = go (fits t) refl
-  where
-    go : (z : Bool) → fits t ≡ z → fit_if z (layout_in t).benches (layout_in t).jobs ≡ Fit s → SizeOf t s
-    go true p e =
-        let same : record { benches = (layout_in t).benches; jobs = (layout_in t).jobs } ≡ s = cc in
-        size_of t s (true→T (fits t) p) (ap (λ (r : Size). r.benches) same) (ap (λ (r : Size). r.jobs) same)
-    go false p e = absurd (true→T false cc)
+pub fit_size : (t : List ℕ) (s : Size) → SizeIn t (Ok s) → SizeOf t s
+fit_size t s e = size_of t s e.value.passed (sym e.value.same_benches) (sym e.value.same_jobs)
 
 -- a table that is refused a size does not fit
-pub misfit_size : (t : List ℕ) → size_in t ≡ Misfit → fits t ≡ false
-misfit_size t e = go (fits t) refl e
-  where
-    go : (z : Bool) → fits t ≡ z → fit_if z (layout_in t).benches (layout_in t).jobs ≡ Misfit → fits t ≡ false
-    go true h d = absurd (true→T false cc)
-    go false h d = h
+pub misfit_size : (t : List ℕ) {r : Refusal} → SizeIn t (Err r) → fits t ≡ false
+misfit_size t e = e.value.failed
 
 -- a table of fewer than 8 bytes has no size ..
-pub short_misfit : (t : List ℕ) → length t < 8 → size_in t ≡ Misfit
+pub short_misfit : (t : List ℕ) → length t < 8 → SizeIn t (Err Sizes)
 unfolding fits layout
-short_misfit t l = rw (short_refused (length t) (get_or (words t) 0 0) (get_or (words t) 1 0) l)
+short_misfit t l = sizing_of (record { failed = short_refused (length t) (get_or (words t) 0 0) (get_or (words t) 1 0) l; refusal = refl })
 
 -- .. nor has one whose words 0 and 1 are refused ..
-pub words_misfit : (t : List ℕ) → sizing (get_or (words t) 0 0) (get_or (words t) 1 0) ≡ Misfit → size_in t ≡ Misfit
+pub words_misfit : (t : List ℕ) {r : Refusal} → SizeFor (get_or (words t) 0 0) (get_or (words t) 1 0) (Err r) → SizeIn t (Err r)
 unfolding fits layout
-words_misfit t e = rw (sizes_refused (length t) (get_or (words t) 0 0) (get_or (words t) 1 0) e)
+words_misfit t e =
+    sizing_of (record { failed = sizes_refused (length t) (get_or (words t) 0 0) (get_or (words t) 1 0) e; refusal = e.value.refusal })
 
 -- .. or one whose length is not theirs ..
-pub length_misfit : (t : List ℕ) (s : Size) → sizing (get_or (words t) 0 0) (get_or (words t) 1 0) ≡ Fit s → (length t ≡ length_for s.benches s.jobs → ⊥) → size_in t ≡ Misfit
+pub length_misfit : (t : List ℕ) (s : Size) → SizeFor (get_or (words t) 0 0) (get_or (words t) 1 0) (Ok s) → (length t ≡ length_for s.benches s.jobs → ⊥) → SizeIn t (Err Sizes)
 unfolding fits layout
-length_misfit t s e d = rw (sizes_other (length t) (get_or (words t) 0 0) (get_or (words t) 1 0) s e d)
+length_misfit t s e d =
+    sizing_of (record { failed = sizes_other (length t) (get_or (words t) 0 0) (get_or (words t) 1 0) s e d; refusal = refl })
 
 -- .. and any other has the size in words 0 and 1
-pub size_fit : (t : List ℕ) (s : Size) → sizing (get_or (words t) 0 0) (get_or (words t) 1 0) ≡ Fit s → length t ≡ length_for s.benches s.jobs → size_in t ≡ Fit s
+pub size_fit : (t : List ℕ) (s : Size) → SizeFor (get_or (words t) 0 0) (get_or (words t) 1 0) (Ok s) → length t ≡ length_for s.benches s.jobs → SizeIn t (Ok s)
 unfolding fits layout
 size_fit t s e l =
-    let f = fit_sizing (get_or (words t) 0 0) (get_or (words t) 1 0) s e in
-    rw (sizes_fit_lem (length t) (get_or (words t) 0 0) (get_or (words t) 1 0) s e l)
-    (λ i. Fit (record { benches = sym f.1 i; jobs = sym f.2 i }))
+    let f = sizes_fit_lem (length t) (get_or (words t) 0 0) (get_or (words t) 1 0) s e l in
+    sizing_of (record { passed = true→T (fits t) f; same_benches = e.value.same_benches; same_jobs = e.value.same_jobs })
 
 -- a table that keeps its length and words 0 and 1 keeps its size
 pub size_kept : (t u : List ℕ) (s : Size) → SizeOf t s → length u ≡ length t → get_or (words u) 0 0 ≡ get_or (words t) 0 0 → get_or (words u) 1 0 ≡ get_or (words t) 1 0 → SizeOf u s
