@@ -12,6 +12,8 @@ use Rattle.table_refusals.specs.Refusals.{refusal_of}
 use Rattle.board_answers.specs.Answered.{left_by, Leaves}
 use Rattle.table_refusals.specs.declared.Refusal.{Refusal}
 use Rattle.std.specs.Prelude.{Result, Err}
+use Rattle.std.specs.Result.{IsErrAnd}
+use Rattle.std.proofs.lemmas.Result.{err_from_is_err_and}
 use Rattle.board_answers.specs.declared.Answer.{Answer}
 
 -- an outcome that has just this answer and these bytes
@@ -23,6 +25,10 @@ pub refused_leaves : (r : Refusal) (c : Call) (t : List ℕ) → (outcome c t).a
 refused_leaves r c t e =
     let b = refused_by_lem c t (refusal_of r) e in
     record { answer = sym e; bytes = sym b.table; lent = sym b.lent }
+
+-- what `?` passes on is the refusal itself
+pub passed_on : {o : Outcome} {r : Result Answer Refusal} {d : Refusal} {t beside : List ℕ} → IsErrAnd r (λ e. e ≡ d) → Leaves o (Err d) t beside → Leaves o r t beside
+passed_on {r} p l = let e = err_from_is_err_and r p in rw (e.1, e.2) l
 
 -- 1 and 2
 pub form_refused : (r : Refusal) (c : Call) → T (on_sound c) → (t : List ℕ) → first_holding (form_conditions t) ≡ some (refusal_of r) → Leaves (outcome c t) (Err r) t (lent_to c)

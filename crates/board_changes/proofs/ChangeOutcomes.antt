@@ -24,23 +24,22 @@ use Rattle.table_board.specs.BoardView.{HoldsBoard}
 use Rattle.table_board.proofs.RecordsAsBoard.{sound_holds_board}
 use Rattle.table_refusals.specs.declared.Refusal.{Refusal}
 use Rattle.sharing_effects.specs.Effects.{lent, TooShort}
-use Rattle.sharing_effects.specs.declared.Attempt.{Attempt}
-use Rattle.sharing_effects.specs.declared.Attempt.TheVariants as attempt
-use Rattle.sharing_effects.specs.declared.Attempt.TheVariants.{Made}
+use Rattle.sharing_effects.specs.declared.Effect.{Effect}
 use Rattle.sharing_levelling.specs.declared.Levelling.{Levelling}
 use Rattle.sharing_arrival.specs.ArrivalResult.{ArrivalOf}
 use Rattle.sharing_closing.specs.ClosingResult.{ClosingOf}
 use Rattle.sharing_levelling.specs.LevellingResult.{LevellingOf}
 use Rattle.board_answers.specs.Answered.{answer_of, Leaves}
 use Rattle.board_answers.specs.declared.Answer.{Answer}
-use Rattle.board_answers.specs.declared.Answer.TheVariants.{Refused, Blanked, Arrived, Closed, Levelled, Stopped}
+use Rattle.std.specs.Prelude.{Result, Ok, Err}
+use Rattle.board_answers.specs.declared.Answer.TheVariants.{Blanked, Arrived, Closed, Levelled, Stopped}
 use Rattle.table_refusals.specs.declared.Refusal.TheVariants.{Sizes, JobNumber, BenchNumber, AlreadyStanding, NotStanding}
 use Rattle.board_answers.proofs.Formal.{refused_leaves}
 
 -- what a blanking answers, by whether the sizes fit
-abbrev blank_answer : Bool → Answer
-blank_answer true = Blanked
-blank_answer false = Refused Sizes
+abbrev blank_answer : Bool → Result Answer Refusal
+blank_answer true = Ok Blanked
+blank_answer false = Err Sizes
 
 -- blanking, by the test of the sizes
 pub blanking_left : (benches jobs : ℕ) (t : List ℕ) {u : List ℕ} {h : Bool} (v : Bool) → h ≡ sizes_fit (length t) benches jobs → u ≡ cond h (blank_table benches jobs) t → h ≡ v → Leaves (blanking benches jobs t) (blank_answer v) u []
@@ -53,9 +52,9 @@ blanking_left benches jobs t {u} {h} false e b w =
     record { answer = rw f; bytes = rw f (rw w at b); lent = rw f }
 
 -- what a levelling answers, by whether it ended level
-abbrev level_answer : Bool → ℕ → Answer
-level_answer true paths = Levelled paths
-level_answer false paths = Stopped paths
+abbrev level_answer : Bool → ℕ → Result Answer Refusal
+level_answer true paths = Ok (Levelled paths)
+level_answer false paths = Ok (Stopped paths)
 
 level_told : (v : Bool) {m n : ℕ} → m ≡ n → answer_of (level_answer v m) ≡ said (cond v (levelled n) (stopped n))
 level_told true e = ap (λ (k : ℕ). said (levelled k)) e
@@ -69,17 +68,8 @@ arriving j x y list = record { job = j; given = x ∷ y ∷ []; list = list }
 abbrev closing_of : ℕ → List ℕ → Closing
 closing_of j list = record { job = j; list = list }
 
--- what an arrival and a closing answer, by what came of them
-abbrev arrived_as : Attempt → Answer
-arrived_as (attempt.Refused r) = Refused r
-arrived_as (Made e) = Arrived e.holder e.bench e.moved
-
-abbrev closed_as : Attempt → Answer
-closed_as (attempt.Refused r) = Refused r
-closed_as (Made e) = Closed e.bench e.moved
-
 -- a change that is refused since its list is too short leaves what it was lent
-refused_as : (c : Call) {d : Change} {t u list left : List ℕ} {r : Refusal} → TooShort d (lent t list) (lent u left) r → lent_to c ≡ list → (outcome c t).answer ≡ refused list_too_short → Leaves (outcome c t) (Refused r) u left
+refused_as : (c : Call) {d : Change} {t u list left : List ℕ} {r : Refusal} → TooShort d (lent t list) (lent u left) r → lent_to c ≡ list → (outcome c t).answer ≡ refused list_too_short → Leaves (outcome c t) (Err r) u left
 refused_as c {d} {t} {u} {list} {left} {r} a same e =
     let q = refused_leaves r c t (e ∙ ap refused (sym a.why)) in
     record { answer = q.answer; bytes = ap (λ l. l.table) a.left ∙ q.bytes; lent = ap (λ l. l.list) a.left ∙ sym same ∙ q.lent }
@@ -99,10 +89,6 @@ module _ {t : List ℕ} {s : Size} (z : SoundTable t s) where
   pub bench_wrong : (x : ℕ) {h : Bool} → h ≡ within 1 s.benches x → not h ≡ true → within 1 (decode t).benches x ≡ false
   bench_wrong x e n = failed (bench_of_board z x e) n
 
-  -- a job of 1 to J can be read
-  pub readable : (j : ℕ) {h : Bool} → h ≡ within 1 s.jobs j → not h ≡ false → HoldsBoard t s × JobIn s j
-  readable j e n = (sound_holds_board t s z, job_in s j (passed e n))
-
   -- the tests of an arrival's numbers
   pub arrival_numbered : (j x y : ℕ) {h f g : Bool} → h ≡ within 1 s.jobs j → not h ≡ false → f ≡ within 1 s.benches x → not f ≡ false → g ≡ within 1 s.benches y → not g ≡ false → eqb x y ≡ false → Numbered (decode t) j x y
   arrival_numbered j x y e n ex nx ey ny d =
@@ -120,43 +106,47 @@ module _ {t : List ℕ} {s : Size} (z : SoundTable t s) where
 
   module _ (list : List ℕ) where
     -- 3
-    pub arrival_number : (j x y : ℕ) {h : Bool} → h ≡ within 1 s.jobs j → not h ≡ true → Leaves (outcome (arrival (arriving j x y list)) t) (Refused JobNumber) t list
+    pub arrival_number : (j x y : ℕ) {h : Bool} → h ≡ within 1 s.jobs j → not h ≡ true → Leaves (outcome (arrival (arriving j x y list)) t) (Err JobNumber) t list
     arrival_number j x y e n =
         refused_leaves JobNumber (arrival (arriving j x y list)) t (arrival_number_refused t z.sound (arriving j x y list) (failed (job_of_board z j e) n))
 
-    pub closing_number : (j : ℕ) {h : Bool} → h ≡ within 1 s.jobs j → not h ≡ true → Leaves (outcome (closing (closing_of j list)) t) (Refused JobNumber) t list
+    pub closing_number : (j : ℕ) {h : Bool} → h ≡ within 1 s.jobs j → not h ≡ true → Leaves (outcome (closing (closing_of j list)) t) (Err JobNumber) t list
     closing_number j e n =
         refused_leaves JobNumber (closing (closing_of j list)) t (closing_number_refused t z.sound (closing_of j list) (failed (job_of_board z j e) n))
 
     -- 4
-    pub arrival_bench : (j x y : ℕ) {h : Bool} → h ≡ within 1 s.jobs j → not h ≡ false → (within 1 (decode t).benches x ≡ false) ⊎ (within 1 (decode t).benches y ≡ false) ⊎ (x ≡ y) → Leaves (outcome (arrival (arriving j x y list)) t) (Refused BenchNumber) t list
+    pub arrival_bench : (j x y : ℕ) {h : Bool} → h ≡ within 1 s.jobs j → not h ≡ false → (within 1 (decode t).benches x ≡ false) ⊎ (within 1 (decode t).benches y ≡ false) ⊎ (x ≡ y) → Leaves (outcome (arrival (arriving j x y list)) t) (Err BenchNumber) t list
     arrival_bench j x y e n w =
         refused_leaves BenchNumber (arrival (arriving j x y list)) t (arrival_bench_refused t z.sound j x y list (T→true (within 1 (length (decode t).named) j) (passed (job_of_board z j e) n)) w)
 
     -- 5
-    pub arrival_standing : (j x y : ℕ) {h : Bool} → Numbered (decode t) j x y → h ≡ stands (decode t) j → h ≡ true → Leaves (outcome (arrival (arriving j x y list)) t) (Refused AlreadyStanding) t list
+    pub arrival_standing : (j x y : ℕ) {h : Bool} → Numbered (decode t) j x y → h ≡ stands (decode t) j → h ≡ true → Leaves (outcome (arrival (arriving j x y list)) t) (Err AlreadyStanding) t list
     arrival_standing j x y n e w =
         refused_leaves AlreadyStanding (arrival (arriving j x y list)) t (arrival_standing_refused t z.sound (arriving j x y list) n.fit (true→T (stands (decode t) j) (sym e ∙ w)))
 
     -- 6
-    pub closing_standing : (j : ℕ) {h g : Bool} → h ≡ within 1 s.jobs j → not h ≡ false → g ≡ stands (decode t) j → not g ≡ true → Leaves (outcome (closing (closing_of j list)) t) (Refused NotStanding) t list
+    pub closing_standing : (j : ℕ) {h g : Bool} → h ≡ within 1 s.jobs j → not h ≡ false → g ≡ stands (decode t) j → not g ≡ true → Leaves (outcome (closing (closing_of j list)) t) (Err NotStanding) t list
     closing_standing j e n d w =
         refused_leaves NotStanding (closing (closing_of j list)) t (closing_standing_refused t z.sound (closing_of j list) (T→true (within 1 (length (decode t).named) j) (passed (job_of_board z j e) n)) (failed d w))
 
-    -- 8, or an accepted arrival
-    pub arrival_left : {u left : List ℕ} (j x y : ℕ) (r : Attempt) → MayArrive (decode t) j (x ∷ y ∷ []) → ArrivalOf j x y (lent t list) (lent u left) r → Leaves (outcome (arrival (arriving j x y list)) t) (arrived_as r) u left
-    unfolding arrival_outcome
-    arrival_left j x y (attempt.Refused q) m a =
+    -- 8 ..
+    pub arrival_short : {u left : List ℕ} (j x y : ℕ) (r : Refusal) → MayArrive (decode t) j (x ∷ y ∷ []) → ArrivalOf j x y (lent t list) (lent u left) (Err r) → Leaves (outcome (arrival (arriving j x y list)) t) (Err r) u left
+    arrival_short j x y r m a =
         refused_as (arrival (arriving j x y list)) a refl (arrival_list_refused t z.sound (arriving j x y list) m a.short)
-    arrival_left j x y (Made f) m a =
-        let e = (arrival_accepted t z.sound (arriving j x y list) ((arrival_exact t z.sound (arriving j x y list)).1 (m, a.room))).is in
-        rw e (record { answer = λ i. arrived (a.holder i) (a.bench i) (a.moved i); bytes = a.table; lent = a.list })
 
-    -- 8, or an accepted closing
-    pub closing_left : {u left : List ℕ} (j : ℕ) (r : Attempt) → T (stands (decode t) j) → ClosingOf j (lent t list) (lent u left) r → Leaves (outcome (closing (closing_of j list)) t) (closed_as r) u left
-    unfolding closing_outcome
-    closing_left j (attempt.Refused q) p a =
+    pub closing_short : {u left : List ℕ} (j : ℕ) (r : Refusal) → T (stands (decode t) j) → ClosingOf j (lent t list) (lent u left) (Err r) → Leaves (outcome (closing (closing_of j list)) t) (Err r) u left
+    closing_short j r p a =
         refused_as (closing (closing_of j list)) a refl (closing_list_refused t z.sound (closing_of j list) p a.short)
-    closing_left j (Made f) p a =
-        let e = (closing_accepted t z.sound (closing_of j list) ((closing_exact t z.sound (closing_of j list)).1 (p, a.room))).is in
-        rw e (record { answer = λ i. closed (a.bench i) (a.moved i); bytes = a.table; lent = a.list })
+
+    -- .. or an accepted change
+    pub arrival_made : {u left : List ℕ} (j x y : ℕ) (e : Effect) → MayArrive (decode t) j (x ∷ y ∷ []) → ArrivalOf j x y (lent t list) (lent u left) (Ok e) → Leaves (outcome (arrival (arriving j x y list)) t) (Ok (Arrived e.holder e.bench e.moved)) u left
+    unfolding arrival_outcome
+    arrival_made j x y e m a =
+        let made = (arrival_accepted t z.sound (arriving j x y list) ((arrival_exact t z.sound (arriving j x y list)).1 (m, a.room))).is in
+        rw made (record { answer = λ i. arrived (a.holder i) (a.bench i) (a.moved i); bytes = a.table; lent = a.list })
+
+    pub closing_made : {u left : List ℕ} (j : ℕ) (e : Effect) → T (stands (decode t) j) → ClosingOf j (lent t list) (lent u left) (Ok e) → Leaves (outcome (closing (closing_of j list)) t) (Ok (Closed e.bench e.moved)) u left
+    unfolding closing_outcome
+    closing_made j e p a =
+        let made = (closing_accepted t z.sound (closing_of j list) ((closing_exact t z.sound (closing_of j list)).1 (p, a.room))).is in
+        rw made (record { answer = λ i. closed (a.bench i) (a.moved i); bytes = a.table; lent = a.list })

@@ -1,11 +1,13 @@
 -- The pair question from its walks: what the first one leaves for the second, and what both of them answer.
-use Prim.Native.Nat.{ℕ, zero, suc, ◌+◌, ◌*◌, ◌≤◌}
+use Rattle.std.specs.Prelude.{Option, Some, None, Result, Ok, Err}
+use Rattle.std.specs.Option.{option_or}
+use Prim.Native.Nat.{ℕ, suc, ◌+◌, ◌*◌, ◌≤◌}
 use native.Mathlib.Omega.{arith}
 use mathlib.Core.Path.{◌≡◌, refl, sym, ap, subst, ◌∙◌}
-use mathlib.Core.Logic.{◌⊎◌, ◌≢◌}
+use mathlib.Core.Logic.{◌⊎◌}
 use mathlib.Core.Bool.{true, false}
 use mathlib.Core.List.{List, [], ◌∷◌}
-use mathlib.Core.Option.{none, some}
+use mathlib.Core.Option.{none}
 use lib.Dec.{T}
 use lib.ListN.{length, length-append}
 use Rattle.spec_lists.specs.Lists.{within, nth}
@@ -14,157 +16,145 @@ use Rattle.spec_table.specs.Table.{most_jobs, chains}
 use Rattle.spec_pair.specs.Pair.{End, broken, unmatched, matched, Walk, walk, met_by, is_broken, first_walk, second_walk, unreadable_pair, records_read, job_found}
 use Rattle.spec_calls.specs.Answers.{said}
 use Rattle.spec_calls.specs.Calls.{between, between_told, between_fact, outcome}
-use Rattle.spec_lists.proofs.Tests.{true→T, within_low}
-use Rattle.spec_table.proofs.Named.{pair_fits, pair_misfits}
-use Rattle.spec_pair.proofs.Walks.{pair_read, met_within, found_second, found_first}
+use Rattle.spec_lists.proofs.Tests.{true→T}
+use Rattle.spec_table.proofs.Named.{pair_misfits}
+use Rattle.spec_pair.proofs.Walks.{pair_read, found_second, found_first}
 use Rattle.spec_calls.proofs.Pairs.{between_sizes_refused, between_benches_refused, between_unreadable_refused, between_answered}
 use Rattle.table_words.specs.Bytes.{layout_in}
-use Rattle.table_size.specs.Sizes.{SizeOf, BenchIn, size_in}
-use Rattle.table_size.proofs.Sizes.{misfit_size, bench_in}
+use Rattle.table_size.specs.Sizes.{SizeOf, SizeIn}
+use Rattle.table_size.proofs.Sizes.{misfit_size}
 use Rattle.table_size.specs.declared.Size.{Size}
-use Rattle.table_size.specs.declared.Sizing.TheVariants.{Misfit}
+use Rattle.table_refusals.specs.declared.Refusal.{Refusal}
 use Rattle.table_refusals.specs.declared.Refusal.TheVariants as code
 use Rattle.table_pair.specs.Walking.{match_in, end_of, walk_of}
 use Rattle.table_pair.specs.declared.Walked.{Walked}
-use Rattle.table_pair.specs.declared.Walked.TheVariants as walked
 use Rattle.board_answers.specs.declared.Answer.{Answer}
-use Rattle.board_answers.specs.declared.Answer.TheVariants as told
-use Rattle.board_answers.specs.Answered.{answer_of, Leaves}
+use Rattle.board_answers.specs.Answered.{accepted_of, Leaves}
 use Rattle.board_answers.proofs.Formal.{answered_leaves, refused_leaves}
-use Rattle.board_pair.specs.ChainsRead.{FirstRead}
 
--- what a walk that the code tells says of the walk as defined
-walked_broken : (w : Walk) → walked.Broken ≡ walk_of w → w.end ≡ broken
-walked_broken w e = go w.end refl e
+-- a walk that the code tells as refused is broken ..
+walk_refused : (w : Walk) {r : Refusal} → Err r ≡ walk_of w → (w.end ≡ broken) × (r ≡ code.Unsound)
+walk_refused w {r} e = go w.end refl e
   where
-    go : (z : End) → w.end ≡ z → walked.Broken ≡ end_of z (length w.read) → w.end ≡ broken
-    go broken h d = h
+    go : (z : End) → w.end ≡ z → Err r ≡ end_of z (length w.read) → (w.end ≡ broken) × (r ≡ code.Unsound)
+    go broken h d = (h, cc)
     go unmatched h d = absurd (true→T false cc)
     go (matched j) h d = absurd (true→T false cc)
 
-walked_unmatched : (w : Walk) (n : ℕ) → walked.Unmatched n ≡ walk_of w → (w.end ≡ unmatched) × (length w.read ≡ n)
-walked_unmatched w n e = go w.end refl e
-  where
-    go : (z : End) → w.end ≡ z → walked.Unmatched n ≡ end_of z (length w.read) → (w.end ≡ unmatched) × (length w.read ≡ n)
-    go broken h d = absurd (true→T false cc)
-    go unmatched h d = (h, cc)
-    go (matched j) h d = absurd (true→T false cc)
+-- .. and any other ends with what it found, or without a match
+abbrev found_end : Option ℕ → End
+found_end None = unmatched
+found_end (Some j) = matched j
 
-walked_matched : (w : Walk) (j n : ℕ) → walked.Matched j n ≡ walk_of w → (w.end ≡ matched j) × (length w.read ≡ n)
-walked_matched w j n e = go w.end refl e
-  where
-    go : (z : End) → w.end ≡ z → walked.Matched j n ≡ end_of z (length w.read) → (w.end ≡ matched j) × (length w.read ≡ n)
-    go broken h d = absurd (true→T false cc)
-    go unmatched h d = absurd (true→T false cc)
-    go (matched i) h d = (let same : i ≡ j = cc in h ∙ ap matched same, cc)
+found_unbroken : (o : Option ℕ) → is_broken (found_end o) ≡ false
+found_unbroken None = refl
+found_unbroken (Some j) = refl
 
--- a job's number as a match
-match_in_lem : (j : ℕ) → 1 ≤ j → match_in j ≡ some j
-match_in_lem zero l = absurd (omega arith)
-match_in_lem (suc i) l = refl
+found_met : (o : Option ℕ) → met_by (found_end o) ≡ match_in o
+found_met None = refl
+found_met (Some j) = refl
+
+-- a walk that the code tells has this end, and this many records
+pub record WalkRead (w : Walk) (v : Walked) : Type 0 where
+  pub end : w.end ≡ found_end v.job
+  pub records : length w.read ≡ v.records
+
+walk_read : (w : Walk) {v : Walked} → Ok v ≡ walk_of w → WalkRead w v
+walk_read w {v} e = go w.end refl e
+  where
+    go : (z : End) → w.end ≡ z → Ok v ≡ end_of z (length w.read) → WalkRead w v
+    go broken h d = absurd (true→T false cc)
+    go unmatched h d =
+        let same : v ≡ record { job = None; records = length w.read } = cc in
+        record { end = h ∙ sym (ap (λ v. found_end v.job) same); records = sym (ap (λ v. v.records) same) }
+    go (matched j) h d =
+        let same : v ≡ record { job = Some j; records = length w.read } = cc in
+        record { end = h ∙ sym (ap (λ v. found_end v.job) same); records = sym (ap (λ v. v.records) same) }
 
 -- a table without a size is refused with 1 ..
-pub misfit_refused : (t : List ℕ) (x y : ℕ) → size_in t ≡ Misfit → Leaves (outcome (between x y) t) (told.Refused code.Sizes) t []
-misfit_refused t x y e = refused_leaves code.Sizes (between x y) t (between_sizes_refused x y t (misfit_size t e))
+pub misfit_refused : (t : List ℕ) (x y : ℕ) {r : Refusal} → SizeIn t (Err r) → Leaves (outcome (between x y) t) (Err r) t []
+misfit_refused t x y {r} e =
+    rw e.value.refusal (refused_leaves code.Sizes (between x y) t (between_sizes_refused x y t (misfit_size t e)))
 
 module _ {t : List ℕ} {s : Size} (z : SizeOf t s) (x y : ℕ) where
   -- .. benches that are not two different ones of 1 to B with 4
-  pub benches_refused : (within 1 s.benches x ≡ false) ⊎ (within 1 s.benches y ≡ false) ⊎ (x ≡ y) → Leaves (outcome (between x y) t) (told.Refused code.BenchNumber) t []
+  pub benches_refused : (within 1 s.benches x ≡ false) ⊎ (within 1 s.benches y ≡ false) ⊎ (x ≡ y) → Leaves (outcome (between x y) t) (Err code.BenchNumber) t []
   benches_refused w =
       let misfit = ap (λ b. names_fit b (x ∷ y ∷ [])) z.benches ∙ pair_misfits s.benches x y w in
       refused_leaves code.BenchNumber (between x y) t (between_benches_refused x y t z.fit misfit)
 
   module _ (f : T (names_fit s.benches (x ∷ y ∷ []))) where
-    -- both are benches of the table
-    pub first_bench : BenchIn s x
-    first_bench = bench_in s x ((pair_fits s.benches x y).0 f).0
-
-    pub second_bench : BenchIn s y
-    second_bench = bench_in s y ((pair_fits s.benches x y).0 f).1
-
     in_layout : T (names_fit (layout_in t).benches (x ∷ y ∷ []))
     in_layout = subst (λ b. T (names_fit b (x ∷ y ∷ []))) (sym z.benches) f
 
     -- a broken walk gives 2
-    pair_refused : unreadable_pair (layout_in t) x y ≡ true → Leaves (outcome (between x y) t) (told.Refused code.Unsound) t []
+    pair_refused : unreadable_pair (layout_in t) x y ≡ true → Leaves (outcome (between x y) t) (Err code.Unsound) t []
     pair_refused u = refused_leaves code.Unsound (between x y) t (between_unreadable_refused x y t z.fit in_layout u)
 
     -- the first walk as the code tells it
-    abbrev first_told : Walked
+    abbrev first_told : Result Walked Refusal
     first_told = walk_of (walk (layout_in t) x y none 0 (nth (chains (layout_in t)) x []))
 
-    pub first_refused : walked.Broken ≡ first_told → Leaves (outcome (between x y) t) (told.Refused code.Unsound) t []
+    pub first_refused : {r : Refusal} → Err r ≡ first_told → Leaves (outcome (between x y) t) (Err r) t []
     unfolding unreadable_pair first_walk
-    first_refused e = pair_refused (rw (walked_broken (first_walk (layout_in t) x y) e))
+    first_refused e =
+        let w = walk_refused (first_walk (layout_in t) x y) e in
+        rw w.1 (pair_refused (rw w.0))
 
     -- any other first walk leaves its match and its records for the second
-    pub first_unmatched : (n : ℕ) → walked.Unmatched n ≡ first_told → FirstRead t x y 0 n
+    pub first_read : {v : Walked} → Ok v ≡ first_told → WalkRead (first_walk (layout_in t) x y) v
     unfolding first_walk
-    first_unmatched n e =
-        let w = walked_unmatched (first_walk (layout_in t) x y) n e in
-        record { unbroken = ap is_broken w.0; match = ap met_by w.0; records = w.1 }
+    first_read e = walk_read (first_walk (layout_in t) x y) e
 
-    pub first_matched : (j n : ℕ) → walked.Matched j n ≡ first_told → FirstRead t x y j n
-    unfolding first_walk
-    first_matched j n e =
-        let w = walked_matched (first_walk (layout_in t) x y) j n e in
-        let low = within_low 1 (layout_in t).jobs j (met_within (layout_in t) x y none 0 (nth (chains (layout_in t)) x []) j w.0) in
-        record { unbroken = ap is_broken w.0; match = ap met_by w.0 ∙ sym (match_in_lem j low); records = w.1 }
+    module _ {v : Walked} (r : WalkRead (first_walk (layout_in t) x y) v) where
+      -- the first walk is not broken, and met what it found
+      first_unbroken : is_broken (first_walk (layout_in t) x y).end ≡ false
+      first_unbroken = ap is_broken r.end ∙ found_unbroken v.job
 
-    module _ {met read : ℕ} (r : FirstRead t x y met read) where
+      first_met : met_by (first_walk (layout_in t) x y).end ≡ match_in v.job
+      first_met = ap met_by r.end ∙ found_met v.job
+
       -- the second walk as the code tells it: it begins with the match that the first has left
-      abbrev second_told : Walked
-      second_told = walk_of (walk (layout_in t) y x (match_in met) 0 (nth (chains (layout_in t)) y []))
+      abbrev second_told : Result Walked Refusal
+      second_told = walk_of (walk (layout_in t) y x (match_in v.job) 0 (nth (chains (layout_in t)) y []))
 
       second_is : second_told ≡ walk_of (second_walk (layout_in t) x y)
       unfolding second_walk
-      second_is = ap (λ m. walk_of (walk (layout_in t) y x m 0 (nth (chains (layout_in t)) y []))) (sym r.match)
+      second_is = ap (λ m. walk_of (walk (layout_in t) y x m 0 (nth (chains (layout_in t)) y []))) (sym first_met)
 
-      pub second_refused : walked.Broken ≡ second_told → Leaves (outcome (between x y) t) (told.Refused code.Unsound) t []
+      pub second_refused : {q : Refusal} → Err q ≡ second_told → Leaves (outcome (between x y) t) (Err q) t []
       unfolding unreadable_pair
-      second_refused e = pair_refused (rw (r.unbroken, walked_broken (second_walk (layout_in t) x y) (e ∙ second_is)))
+      second_refused e =
+          let w = walk_refused (second_walk (layout_in t) x y) (e ∙ second_is) in
+          rw w.1 (pair_refused (rw (first_unbroken, w.0)))
 
-      -- the records of both
-      module _ (n : ℕ) (unbroken : is_broken (second_walk (layout_in t) x y).end ≡ false) (h : length (second_walk (layout_in t) x y).read ≡ n) where
-        records_read_lem : length (records_read (layout_in t) x y) ≡ read + n
+      pub second_read : {u : Walked} → Ok u ≡ second_told → WalkRead (second_walk (layout_in t) x y) u
+      second_read e = walk_read (second_walk (layout_in t) x y) (e ∙ second_is)
+
+      module _ {u : Walked} (w : WalkRead (second_walk (layout_in t) x y) u) where
+        second_unbroken : is_broken (second_walk (layout_in t) x y).end ≡ false
+        second_unbroken = ap is_broken w.end ∙ found_unbroken u.job
+
+        -- the records of both ..
+        records_read_lem : length (records_read (layout_in t) x y) ≡ v.records + u.records
         unfolding records_read
-        records_read_lem = rw r.unbroken (length-append (first_walk (layout_in t) x y).read (second_walk (layout_in t) x y).read ∙ omega (arith, r.records, h))
+        records_read_lem =
+            rw first_unbroken (length-append (first_walk (layout_in t) x y).read (second_walk (layout_in t) x y).read ∙ omega (arith, r.records, w.records))
 
-        pair_answered : (a : Answer) → answer_of a ≡ said (between_fact (job_found (layout_in t) x y) (read + n)) → Leaves (outcome (between x y) t) a t []
-        unfolding between_told unreadable_pair
-        pair_answered a e =
-            let fact = ap (λ k. said (between_fact (job_found (layout_in t) x y) k)) records_read_lem ∙ sym e in
-            answered_leaves (between_answered x y t z.fit in_layout (rw (r.unbroken, unbroken)) ∙ (λ i. record { answer = fact i; table = t; lent = [] }))
-
-        both_few : read + n ≤ 2 * suc most_jobs
+        -- .. are few
+        pub both_few : v.records + u.records ≤ 2 * suc most_jobs
         both_few = omega (arith, records_read_lem, pair_read (layout_in t) x y, z.jobs, z.limits.jobs_most)
 
-      -- a match of the second is the answer, since no number above the first match is read ..
-      pub second_matched : (j n : ℕ) → walked.Matched j n ≡ second_told → Leaves (outcome (between x y) t) (told.Between j (read + n)) t []
-      second_matched j n e =
-          let w = walked_matched (second_walk (layout_in t) x y) j n (e ∙ second_is) in
-          pair_answered n (ap is_broken w.0) w.1 (told.Between j (read + n)) (rw (found_second (layout_in t) x y j w.0))
+        -- a match of the second is the answer, since no number above the first match is read; without one the first is
+        found : job_found (layout_in t) x y ≡ match_in (option_or u.job v.job)
+        found = go u.job w.end
+          where
+            go : (o : Option ℕ) → (second_walk (layout_in t) x y).end ≡ found_end o → job_found (layout_in t) x y ≡ match_in (option_or o v.job)
+            go None e = found_first (layout_in t) x y e ∙ first_met
+            go (Some j) e = found_second (layout_in t) x y j e
 
-      -- .. without one the first is ..
-      unmatched_answered : (n : ℕ) → walked.Unmatched n ≡ second_told → (a : Answer) → answer_of a ≡ said (between_fact (match_in met) (read + n)) → Leaves (outcome (between x y) t) a t []
-      unmatched_answered n e a q =
-          let w = walked_unmatched (second_walk (layout_in t) x y) n (e ∙ second_is) in
-          pair_answered n (ap is_broken w.0) w.1 a (q ∙ ap (λ m. said (between_fact m (read + n))) (sym (found_first (layout_in t) x y w.0 ∙ r.match)))
-
-      pub second_first : (n : ℕ) → walked.Unmatched n ≡ second_told → met ≢ 0 → Leaves (outcome (between x y) t) (told.Between met (read + n)) t []
-      second_first n e d = unmatched_answered n e (told.Between met (read + n)) (rw (match_in_lem met (omega (arith, d))))
-
-      -- .. if there is one ..
-      pub second_none : (n : ℕ) → walked.Unmatched n ≡ second_told → met ≡ 0 → Leaves (outcome (between x y) t) (told.NoneBetween (read + n)) t []
-      second_none n e z = unmatched_answered n e (told.NoneBetween (read + n)) (rw z)
-
-      -- .. and both counts added are small
-      pub matched_few : (j n : ℕ) → walked.Matched j n ≡ second_told → read + n ≤ 2 * suc most_jobs
-      matched_few j n e =
-          let w = walked_matched (second_walk (layout_in t) x y) j n (e ∙ second_is) in
-          both_few n (ap is_broken w.0) w.1
-
-      pub unmatched_few : (n : ℕ) → walked.Unmatched n ≡ second_told → read + n ≤ 2 * suc most_jobs
-      unmatched_few n e =
-          let w = walked_unmatched (second_walk (layout_in t) x y) n (e ∙ second_is) in
-          both_few n (ap is_broken w.0) w.1
+        pub pair_answered : (a : Answer) {o : Option ℕ} → o ≡ option_or u.job v.job → accepted_of a ≡ said (between_fact (match_in o) (v.records + u.records)) → Leaves (outcome (between x y) t) (Ok a) t []
+        unfolding between_told unreadable_pair
+        pair_answered a q e =
+            let fact = ap (λ k. said (between_fact (job_found (layout_in t) x y) k)) records_read_lem ∙ ap (λ m. said (between_fact m (v.records + u.records))) (found ∙ ap match_in (sym q)) ∙ sym e in
+            answered_leaves (between_answered x y t z.fit in_layout (rw (first_unbroken, second_unbroken)) ∙ (λ i. record { answer = fact i; table = t; lent = [] }))

@@ -27,6 +27,7 @@ use Rattle.sharing_tight_set.specs.declared.Extent.{Extent}
 use Rattle.sharing_visits.specs.Marks.{mark}
 use Rattle.sharing_tight_set.specs.MarkedSets.{marked, TightSet}
 use Rattle.sharing_tight_set.proofs.AsSet.{passing_few}
+use Rattle.std.specs.Prelude.{Ok, Err}
 use Rattle.board_answers.specs.Answered.{Leaves}
 use Rattle.table_refusals.specs.declared.Refusal.TheVariants as code
 use Rattle.board_answers.specs.declared.Answer.TheVariants as told
@@ -61,33 +62,33 @@ bench_low b v h p =
 
 module _ {t : List ℕ} {s : Size} (z : SoundTable t s) where
   -- form check
-  pub form_sound : Leaves (outcome (ask form_check []) t) told.Sound t []
+  pub form_sound : Leaves (outcome (ask form_check []) t) (Ok told.Sound) t []
   unfolding question_conditions asked accepted
   form_sound = answered_leaves (sound_outcome (ask form_check []) tt t z.sound)
 
   -- level check
-  pub level_told : (y : Bool) → y ≡ level (decode t) → Leaves (outcome (ask level_check []) t) (cond y told.Level told.NotLevel) t []
+  pub level_told : (y : Bool) → y ≡ level (decode t) → Leaves (outcome (ask level_check []) t) (Ok (cond y told.Level told.NotLevel)) t []
   unfolding question_conditions asked accepted
   level_told true e = answered_leaves (sound_outcome (ask level_check []) tt t z.sound ∙ rw (sym e))
   level_told false e = answered_leaves (sound_outcome (ask level_check []) tt t z.sound ∙ rw (sym e))
 
   -- the heaviest load
-  pub heaviest_told : (n : ℕ) → n ≡ heaviest (decode t) → Leaves (outcome (ask heaviest_load []) t) (told.Heaviest n) t []
+  pub heaviest_told : (n : ℕ) → n ≡ heaviest (decode t) → Leaves (outcome (ask heaviest_load []) t) (Ok (told.Heaviest n)) t []
   unfolding question_conditions asked accepted
   heaviest_told n e = answered_leaves (sound_outcome (ask heaviest_load []) tt t z.sound ∙ rw e)
 
   module _ (x : ℕ) where
     -- the load of a bench of 1 to B ..
-    pub load_told : {h : Bool} (n : ℕ) → h ≡ within 1 s.benches x → h ≡ true → n ≡ load (decode t).holders x → Leaves (outcome (ask (load_of x) []) t) (told.Load n) t []
+    pub load_told : {h : Bool} (n : ℕ) → h ≡ within 1 s.benches x → h ≡ true → n ≡ load (decode t).holders x → Leaves (outcome (ask (load_of x) []) t) (Ok (told.Load n)) t []
     unfolding question_conditions asked accepted
     load_told n b w e = answered_leaves (sound_outcome (ask (load_of x) []) tt t z.sound ∙ rw (sym (bench_of_board z x b) ∙ w, e))
 
     -- .. and 4 for any other number
-    pub bench_refused : {h : Bool} → h ≡ within 1 s.benches x → h ≡ false → Leaves (outcome (ask (load_of x) []) t) (told.Refused code.BenchNumber) t []
+    pub bench_refused : {h : Bool} → h ≡ within 1 s.benches x → h ≡ false → Leaves (outcome (ask (load_of x) []) t) (Err code.BenchNumber) t []
     bench_refused b w = refused_leaves code.BenchNumber (ask (load_of x) []) t (load_refused t z.sound x (sym (bench_of_board z x b) ∙ w))
 
   -- a height of 0 gives 7
-  pub zero_refused : (h : ℕ) (list : List ℕ) → h ≡ 0 → Leaves (outcome (ask (tight_set_of h) list) t) (told.Refused code.Height) t list
+  pub zero_refused : (h : ℕ) (list : List ℕ) → h ≡ 0 → Leaves (outcome (ask (tight_set_of h) list) t) (Err code.Height) t list
   zero_refused h list p = refused_leaves code.Height (ask (tight_set_of h) list) t (tight_height_refused t z.sound h list (inl p))
 
   module _ {h : ℕ} {marks : List Bool} {r : Extent} (m : TightSet (decode t) s h marks r) where
@@ -101,7 +102,7 @@ module _ {t : List ℕ} {s : Size} (z : SoundTable t s) where
       list_room f = omega (arith, m.benches, ap length m.set)
 
       -- a height of 1 or more whose set has no bench gives 7
-      pub high_refused : h ≢ 0 → r.benches ≡ 0 → Leaves (outcome (ask (tight_set_of h) list) t) (told.Refused code.Height) t list
+      pub high_refused : h ≢ 0 → r.benches ≡ 0 → Leaves (outcome (ask (tight_set_of h) list) t) (Err code.Height) t list
       high_refused p e =
           let high = empty_high (decode t) z.storable.valid h p (sym m.benches ∙ e) in
           refused_leaves code.Height (ask (tight_set_of h) list) t (tight_height_refused t z.sound h list (inr high))
@@ -114,12 +115,12 @@ module _ {t : List ℕ} {s : Size} (z : SoundTable t s) where
         high = bench_low (decode t) z.storable.valid h (λ k. e (m.benches ∙ k))
 
         -- a list that is shorter than the set's words gives 8
-        pub short_refused : length list < 2 * r.benches → Leaves (outcome (ask (tight_set_of h) list) t) (told.Refused code.ListTooShort) t list
+        pub short_refused : length list < 2 * r.benches → Leaves (outcome (ask (tight_set_of h) list) t) (Err code.ListTooShort) t list
         short_refused f =
             refused_leaves code.ListTooShort (ask (tight_set_of h) list) t (tight_list_refused t z.sound h list low high (omega (arith, m.benches)))
 
         -- in any other the marked benches are the set
-        pub set_told : (u : List ℕ) → 2 * r.benches ≤ length list → u ≡ in_list (marked s marks) list → Leaves (outcome (ask (tight_set_of h) list) t) (told.TightSet r.benches r.jobs) t u
+        pub set_told : (u : List ℕ) → 2 * r.benches ≤ length list → u ≡ in_list (marked s marks) list → Leaves (outcome (ask (tight_set_of h) list) t) (Ok (told.TightSet r.benches r.jobs)) t u
         unfolding tight_set_told
         set_told u f w =
             answered_leaves (tight_answered t z.sound h list low high (omega (arith, m.benches)) ∙ rw (w, m.set, m.benches, m.jobs))

@@ -9,67 +9,52 @@ ghost use Rattle.table_board.specs.BoardView.{Loaded};
 ghost use Rattle.board_answers.specs.Answered.{Leaves};
 
 use board_answers::Answer;
-use graph_lists::scratch;
-use table_form::Form;
 use table_refusals::Refusal;
 use table_size::Size;
 
 // Checks the form: sound, or the refusal.
-pub fn form_check(t: &[u8]) -> Answer
+pub fn form_check(t: &[u8]) -> Result<Answer, Refusal>
     ensures { Leaves (outcome (ask form_check []) t.now) result t.now [] }
 {
-    let mut loads = scratch::benches();
-    match table_form::check(t, &mut loads) {
-        Form::Refused(r) => Answer::Refused(r),
-        Form::Sound(_, _) => Answer::Sound,
-    }
+    let mut loads = [0; Size::MOST_BENCHES + 1];
+    table_form::check(t, &mut loads)?;
+    Ok(Answer::Sound)
 }
 
 // Checks whether no path improves.
-pub fn level_check(t: &[u8]) -> Answer
+pub fn level_check(t: &[u8]) -> Result<Answer, Refusal>
     ensures { Leaves (outcome (ask level_check []) t.now) result t.now [] }
 {
     // Serves the form check first: one array less to clear.
-    let mut queue = scratch::benches();
-    let mut loads = scratch::benches();
-    match table_form::check_with(t, &mut queue, &mut loads) {
-        Form::Refused(r) => Answer::Refused(r),
-        Form::Sound(s, rising) => {
-            if sharing_levelling::is_level(t, s, rising, &loads, &mut queue) {
-                Answer::Level
-            } else {
-                Answer::NotLevel
-            }
-        }
+    let mut queue = [0; Size::MOST_BENCHES + 1];
+    let mut loads = [0; Size::MOST_BENCHES + 1];
+    let form = table_form::check_with(t, &mut queue, &mut loads)?;
+    if sharing_levelling::is_level(t, form.size, form.rising, &loads, &mut queue) {
+        Ok(Answer::Level)
+    } else {
+        Ok(Answer::NotLevel)
     }
 }
 
 // Answers the load of a bench.
-pub fn load(t: &[u8], bench: usize) -> Answer
+pub fn load(t: &[u8], bench: usize) -> Result<Answer, Refusal>
     ensures { Leaves (outcome (ask (load_of bench) []) t.now) result t.now [] }
 {
-    let mut loads = scratch::benches();
-    match table_form::check(t, &mut loads) {
-        Form::Refused(r) => Answer::Refused(r),
-        Form::Sound(s, _) => {
-            if s.has_bench(bench) {
-                Answer::Load(loads[bench] as usize)
-            } else {
-                Answer::Refused(Refusal::BenchNumber)
-            }
-        }
+    let mut loads = [0; Size::MOST_BENCHES + 1];
+    let form = table_form::check(t, &mut loads)?;
+    if !form.size.has_bench(bench) {
+        return Err(Refusal::BenchNumber);
     }
+    Ok(Answer::Load(usize::from(loads[bench])))
 }
 
 // Answers the heaviest load.
-pub fn heaviest(t: &[u8]) -> Answer
+pub fn heaviest(t: &[u8]) -> Result<Answer, Refusal>
     ensures { Leaves (outcome (ask heaviest_load []) t.now) result t.now [] }
 {
-    let mut loads = scratch::benches();
-    match table_form::check(t, &mut loads) {
-        Form::Refused(r) => Answer::Refused(r),
-        Form::Sound(s, _) => Answer::Heaviest(sharing_loads::find_heaviest(t, s, &loads).load),
-    }
+    let mut loads = [0; Size::MOST_BENCHES + 1];
+    let form = table_form::check(t, &mut loads)?;
+    Ok(Answer::Heaviest(sharing_loads::find_heaviest(t, form.size, &loads).load))
 }
 
 // Lists the tight set on a sound table, or refuses with 7 or 8, in this order.
@@ -79,36 +64,34 @@ fn tight_set_on(
     loads: &[u16; Size::MOST_BENCHES + 1],
     height: usize,
     list: &mut [u8],
-) -> Answer
+) -> Result<Answer, Refusal>
     requires sound_table { SoundTable t.now s }
     requires loaded { Loaded (decode t.now) loads.now }
     ensures { Leaves (outcome (ask (tight_set_of height) list.old) t.now) result
         t.now list.new }
 {
     if height == 0 {
-        return Answer::Refused(Refusal::Height);
+        return Err(Refusal::Height);
     }
     let mut marks = sharing_tight_set::unmarked();
-    let e = sharing_tight_set::tight_set(t, s, loads, height, &mut marks);
+    let extent = sharing_tight_set::tight_set(t, s, loads, height, &mut marks);
     // No bench has this load: the height is above the heaviest.
-    if e.benches == 0 {
-        return Answer::Refused(Refusal::Height);
+    if extent.benches == 0 {
+        return Err(Refusal::Height);
     }
-    if list.len() < 2 * e.benches {
-        return Answer::Refused(Refusal::ListTooShort);
+    if list.len() < 2 * extent.benches {
+        return Err(Refusal::ListTooShort);
     }
     sharing_tight_set::write(s, &marks, list);
-    Answer::TightSet(e.benches, e.jobs)
+    Ok(Answer::TightSet(extent.benches, extent.jobs))
 }
 
 // Lists the tight set of a height: its benches, rising, as words at the list's beginning.
-pub fn tight_set(t: &[u8], height: usize, list: &mut [u8]) -> Answer
+pub fn tight_set(t: &[u8], height: usize, list: &mut [u8]) -> Result<Answer, Refusal>
     ensures { Leaves (outcome (ask (tight_set_of height) list.old) t.now) result
         t.now list.new }
 {
-    let mut loads = scratch::benches();
-    match table_form::check(t, &mut loads) {
-        Form::Refused(r) => Answer::Refused(r),
-        Form::Sound(s, _) => tight_set_on(t, s, &loads, height, list),
-    }
+    let mut loads = [0; Size::MOST_BENCHES + 1];
+    let form = table_form::check(t, &mut loads)?;
+    tight_set_on(t, form.size, &loads, height, list)
 }

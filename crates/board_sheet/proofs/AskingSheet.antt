@@ -14,19 +14,16 @@ use Rattle.table_size.specs.Sizes.{SoundTable}
 use Rattle.table_board.specs.BoardView.{Loaded}
 use Rattle.sheet_jobs.specs.JobLists.{JobLists}
 use Rattle.sheet_lines.specs.WrittenLines.{LoadedBoard, LoadsOf, LengthOf, Sheeted, RoomForAll, SheetWritten}
+use Rattle.std.specs.Prelude.{Ok, Err}
 use Rattle.board_answers.specs.Answered.{Leaves}
 use Rattle.table_refusals.specs.declared.Refusal.TheVariants as code
 use Rattle.board_answers.specs.declared.Answer.TheVariants as told
 use Rattle.board_answers.proofs.Formal.{answered_leaves, refused_leaves}
 
 module _ {t loads : List ℕ} {s : Size} (z : SoundTable t s) (l : Loaded (decode t) loads) where
-  -- the table's board has these loads ..
+  -- the table's board has these loads
   loaded_board : LoadedBoard (decode t) s loads
   loaded_board = record { storable = z.storable; benches = z.size.board_benches; loaded = l }
-
-  -- .. so that they are those of a board
-  pub board_loads : LoadsOf s loads
-  board_loads = (decode t, loaded_board)
 
   module _ {n : ℕ} (m : LengthOf s loads n) (page : List ℕ) where
     -- what was computed is the sheet's length
@@ -34,7 +31,7 @@ module _ {t loads : List ℕ} {s : Size} (z : SoundTable t s) (l : Loaded (decod
     length_is = m (decode t) loaded_board
 
     -- a page that is shorter gives 11 ..
-    pub short_refused : length page < n → Leaves (outcome (ask wall_sheet page) t) (told.Refused code.PageTooShort) t page
+    pub short_refused : length page < n → Leaves (outcome (ask wall_sheet page) t) (Err code.PageTooShort) t page
     short_refused h = refused_leaves code.PageTooShort (ask wall_sheet page) t (sheet_refused t z.sound page (omega (arith, length_is)))
 
     module _ {head next : List ℕ} (j : JobLists (decode t) head next) (h : n ≤ length page) where
@@ -42,11 +39,7 @@ module _ {t loads : List ℕ} {s : Size} (z : SoundTable t s) (l : Loaded (decod
       sheeted : Sheeted (decode t) s loads head next
       sheeted = record { board = loaded_board; lists = j }
 
-      -- .. any other has room for it ..
-      pub page_room : RoomForAll s loads head next page
-      page_room = (decode t, sheeted, omega (arith, length_is))
-
-      -- .. and gets it
-      pub sheet_written : (u : List ℕ) → SheetWritten s loads head next page u → Leaves (outcome (ask wall_sheet page) t) (told.Sheet n) t u
+      -- .. and any other gets it
+      pub sheet_written : (u : List ℕ) → SheetWritten s loads head next page u → Leaves (outcome (ask wall_sheet page) t) (Ok (told.Sheet n)) t u
       unfolding sheet_told
       sheet_written u w = answered_leaves (sheet_answered t z.sound page (omega (arith, length_is)) ∙ rw (w (decode t) sheeted, length_is, zero-add))

@@ -8,13 +8,11 @@ ghost use Rattle.table_board.specs.BoardView.{Loaded};
 ghost use Rattle.board_answers.specs.Answered.{Leaves};
 
 use board_answers::Answer;
-use graph_lists::scratch;
-use table_form::Form;
 use table_refusals::Refusal;
 use table_size::Size;
 
 // Writes the sheet of a sound table, or refuses with 11 before a byte is written.
-fn sheet_on(t: &[u8], s: Size, loads: &[u16; Size::MOST_BENCHES + 1], page: &mut [u8]) -> Answer
+fn sheet_on(t: &[u8], s: Size, loads: &[u16; Size::MOST_BENCHES + 1], page: &mut [u8]) -> Result<Answer, Refusal>
     requires sound_table { SoundTable t.now s }
     requires loaded { Loaded (decode t.now) loads.now }
     ensures { Leaves (outcome (ask wall_sheet page.old) t.now) result
@@ -22,23 +20,21 @@ fn sheet_on(t: &[u8], s: Size, loads: &[u16; Size::MOST_BENCHES + 1], page: &mut
 {
     let length = sheet_lines::sheet_length(s, loads);
     if page.len() < length {
-        return Answer::Refused(Refusal::PageTooShort);
+        return Err(Refusal::PageTooShort);
     }
-    let mut head = scratch::benches();
-    let mut next = scratch::jobs();
+    let mut head = [0; Size::MOST_BENCHES + 1];
+    let mut next = [0; Size::MOST_JOBS + 1];
     sheet_jobs::list_jobs(t, s, &mut head, &mut next);
     sheet_lines::write(s, loads, &head, &next, page);
-    Answer::Sheet(length)
+    Ok(Answer::Sheet(length))
 }
 
 // Writes the sheet at the page's beginning: bench by bench its number, its load and its jobs, rising.
-pub fn sheet(t: &[u8], page: &mut [u8]) -> Answer
+pub fn sheet(t: &[u8], page: &mut [u8]) -> Result<Answer, Refusal>
     ensures { Leaves (outcome (ask wall_sheet page.old) t.now) result
         t.now page.new }
 {
-    let mut loads = scratch::benches();
-    match table_form::check(t, &mut loads) {
-        Form::Refused(r) => Answer::Refused(r),
-        Form::Sound(s, _) => sheet_on(t, s, &loads, page),
-    }
+    let mut loads = [0; Size::MOST_BENCHES + 1];
+    let form = table_form::check(t, &mut loads)?;
+    sheet_on(t, form.size, &loads, page)
 }

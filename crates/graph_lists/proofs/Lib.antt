@@ -1,3 +1,2 @@
--- Lists by key, keys of benches.
+-- Lists by key.
 pub mod Listing
-pub mod Keying

@@ -2,26 +2,19 @@
 ghost use Rattle.graph_lists.specs.Arrays.{Tells};
 ghost use Rattle.graph_lists.specs.Keys.{QueuedIn, WantedIn};
 
-use table_size::Size;
+use table_size::PerBench;
 
 // Tells whether a wanted bench, one with a key of at most `limit`, stands in the queue from place `begin` to
 // `end`.
 pub fn wanted_among(
-    queue: &[u16; Size::MOST_BENCHES + 1],
+    queue: &PerBench<u16>,
     begin: usize,
     end: usize,
-    key: &[u16; Size::MOST_BENCHES + 1],
+    key: &PerBench<u16>,
     limit: u16,
 ) -> bool
     requires { QueuedIn queue.now begin end }
     ensures { Tells (WantedIn queue.now begin end key.now limit) result }
 {
-    let mut i = begin;
-    while i < end {
-        if key[queue[i] as usize] <= limit {
-            return true;
-        }
-        i += 1;
-    }
-    false
+    (begin..end).any(|i| key[usize::from(queue[i])] <= limit)
 }

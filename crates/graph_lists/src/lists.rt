@@ -7,11 +7,9 @@ pub fn list_by(n: usize, key: &[u16], head: &mut [u16], next: &mut [u16])
     requires { Listable n key.now head.old next.old }
     ensures { ListedBy (length head.old) n key.now head.new next.new }
 {
-    let mut i = n;
-    while 0 < i {
-        let k = key[i] as usize;
+    for i in (1..n + 1).rev() {
+        let k = usize::from(key[i]);
         next[i] = head[k];
         head[k] = i as u16;
-        i -= 1;
     }
 }

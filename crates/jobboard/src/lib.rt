@@ -10,14 +10,14 @@ ghost use Rattle.jobboard.specs.Desk.{Reported};
 pub fn jobboard_blank(table: &mut [u8], benches: u32, jobs: u32) -> u32
     ensures { Reported (blanking benches jobs table.old) result table.new [] [] [] }
 {
-    board_changes::blank(table, benches as usize, jobs as usize).number()
+    board_answers::number(board_changes::blank(table, benches as usize, jobs as usize))
 }
 
 // Checks the form: 0 for a sound table, 1 where its sizes do not fit, else 2.
 pub fn jobboard_check(table: &[u8]) -> u32
     ensures { Reported (outcome (ask form_check []) table.now) result table.now [] [] [] }
 {
-    board_questions::form_check(table).number()
+    board_answers::number(board_questions::form_check(table))
 }
 
 // Takes in a job that names two benches; the other jobs that move go as words to the list's beginning. Results: the bench
@@ -59,8 +59,8 @@ pub fn jobboard_closing(
         table.new list.new (fell.old ∷ moved.old ∷ [])
         (fell.new ∷ moved.new ∷ []) }
 {
-    let a = board_changes::closing(table, job as usize, list);
-    jobboard_report::two(a, fell, moved)
+    let answer = board_changes::closing(table, job as usize, list);
+    jobboard_report::two(answer, fell, moved)
 }
 
 // Levels within an allowance of paths. Results: the paths turned, and 1 for level or 0 for stopped.

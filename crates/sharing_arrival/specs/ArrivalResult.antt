@@ -1,5 +1,5 @@
 -- Arrival: the path is the rule's, found while every byte is as it was; what comes of it.
-use Rattle.std.specs.Prelude.{ℕ, ◌≡◌, ◌⊎◌, ◌≢◌, List, [], ◌∷◌}
+use Rattle.std.specs.Prelude.{ℕ, ◌≡◌, ◌⊎◌, ◌≢◌, List, [], ◌∷◌, Result}
 use Rattle.spec_table.specs.Board.{Board, put}
 use Rattle.spec_sharing.specs.Sharing.{lightest_named, arrival_choice, arrive}
 use Rattle.spec_table.specs.Table.{decode}
@@ -7,7 +7,8 @@ use Rattle.graph_lists.specs.Arrays.{at}
 use Rattle.sharing_paths.specs.FoundPaths.{last_of, PathFound, AfterIn}
 use Rattle.sharing_paths.specs.declared.FoundPath.{FoundPath}
 use Rattle.sharing_effects.specs.Effects.{Lent, AttemptOf}
-use Rattle.sharing_effects.specs.declared.Attempt.{Attempt}
+use Rattle.table_refusals.specs.declared.Refusal.{Refusal}
+use Rattle.sharing_effects.specs.declared.Effect.{Effect}
 use Rattle.sharing_arrival.specs.declared.Intake.{Intake}
 
 -- bench x gets job j of these benches, and the rule's path from there is found: r and `path` tell it
@@ -24,5 +25,5 @@ EntersAt b j x path r e =
     (((r.jobs ≡ 0) ⊎ (at path 0 ≢ j)) × (e.place ≡ 0) × (e.holder ≡ x))
 
 -- what comes of the arrival of job j for benches x and y
-abbrev pub ArrivalOf : ℕ → ℕ → ℕ → Lent → Lent → Attempt → Type 0
+abbrev pub ArrivalOf : ℕ → ℕ → ℕ → Lent → Lent → Result Effect Refusal → Type 0
 ArrivalOf j x y before after r = AttemptOf j (arrive (decode before.table) j (x ∷ y ∷ [])) before after r

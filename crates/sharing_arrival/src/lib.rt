@@ -14,7 +14,7 @@ ghost use Rattle.sharing_paths.specs.FoundPaths.{JobAt};
 ghost use Rattle.sharing_effects.specs.Effects.{lent};
 ghost use Rattle.sharing_arrival.specs.ArrivalResult.{ArrivalFound, EntersAt, ArrivalOf};
 
-use sharing_effects::{Attempt, Effect};
+use sharing_effects::Effect;
 use sharing_paths::FoundPath;
 use table_refusals::Refusal;
 use table_size::Size;
@@ -122,7 +122,7 @@ pub fn arrive_in_order(
     first: usize,
     second: usize,
     list: &mut [u8],
-) -> Attempt
+) -> Result<Effect, Refusal>
     requires in_order { InOrder t.old s }
     requires may_arrive { MayArrive (decode t.old) j (first ∷ second ∷ []) }
     requires loaded { Loaded (decode t.old) loads.old }
@@ -137,12 +137,12 @@ pub fn arrive_in_order(
     let end = found.jobs;
     let moved = end - place;
     if list.len() < 2 * moved {
-        return Attempt::Refused(Refusal::ListTooShort);
+        return Err(Refusal::ListTooShort);
     }
     let whole = &path[..];
     table_words::write_list(list, &whole[place..end]);
     apply_arrival(t, s, j, first, second, intake, found, path);
-    Attempt::Made(Effect {
+    Ok(Effect {
         holder: intake.holder,
         bench: found.bench,
         moved,

@@ -11,7 +11,7 @@ use Rattle.table_size.specs.declared.Size.{Size}
 use Rattle.table_order.specs.InOrder.{TableOf}
 use Rattle.sharing_effects.specs.Effects.{lent, TooShort, MadeAs}
 use Rattle.sharing_effects.specs.declared.Effect.{Effect}
-use Rattle.sharing_effects.specs.declared.Attempt.TheVariants.{Refused, Made}
+use Rattle.std.specs.Prelude.{Ok, Err}
 use Rattle.sharing_changes.specs.TaskResult.{MayDo, TaskOf}
 use Rattle.sharing_changes.specs.declared.Task.{Task}
 use Rattle.sharing_changes.specs.declared.Task.TheVariants.{Arrive, Close}
@@ -35,10 +35,10 @@ module _ (t : List ℕ) {u : List ℕ} {s : Size} (k : TableOf u s (decode t)) w
   may_copied task m = subst (λ (c : Board). MayDo c task) (sym k.board) m
 
   module _ (v list list' : List ℕ) where
-    pub refused_copied : (task : Task) (r : Refusal) → TaskOf task (lent u list) (lent v list') (Refused r) → TaskOf task (lent t list) (lent t list') (Refused r)
+    pub refused_copied : (task : Task) (r : Refusal) → TaskOf task (lent u list) (lent v list') (Err r) → TaskOf task (lent t list) (lent t list') (Err r)
     refused_copied (Arrive j x y) r h = short_copied (ap (λ (b : Board). arrive b j (x ∷ y ∷ [])) k.board) h
     refused_copied (Close j) r h = short_copied (ap (λ (b : Board). close b j) k.board) h
 
-    pub made_copied : (task : Task) (f : Effect) → TaskOf task (lent u list) (lent v list') (Made f) → TaskOf task (lent t list) (lent v list') (Made f)
+    pub made_copied : (task : Task) (f : Effect) → TaskOf task (lent u list) (lent v list') (Ok f) → TaskOf task (lent t list) (lent v list') (Ok f)
     made_copied (Arrive j x y) f h = done_copied (ap (λ (b : Board). arrive b j (x ∷ y ∷ [])) k.board) h
     made_copied (Close j) f h = done_copied (ap (λ (b : Board). close b j) k.board) h

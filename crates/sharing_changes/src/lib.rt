@@ -15,7 +15,8 @@ ghost use Rattle.sharing_closing.specs.ClosingResult.{ClosingOf};
 ghost use Rattle.sharing_effects.specs.Effects.{lent};
 ghost use Rattle.sharing_changes.specs.TaskResult.{MayDo, TaskOf};
 
-use sharing_effects::Attempt;
+use sharing_effects::Effect;
+use table_refusals::Refusal;
 use table_size::Size;
 
 // What is to be done.
@@ -35,7 +36,7 @@ fn do_in_order(
     path: &mut [u16; Size::MOST_BENCHES + 1],
     task: Task,
     list: &mut [u8],
-) -> Attempt
+) -> Result<Effect, Refusal>
     requires in_order { InOrder t.old s }
     requires may_do { MayDo (decode t.old) task }
     requires loaded { Loaded (decode t.old) loads.old }
@@ -59,7 +60,7 @@ fn do_in_copy(
     task: Task,
     list: &mut [u8],
     copy: &mut [u8],
-) -> Attempt
+) -> Result<Effect, Refusal>
     requires sound_table { SoundTable t.old s }
     requires may_do { MayDo (decode t.old) task }
     requires loaded { Loaded (decode t.old) loads.old }
@@ -68,13 +69,9 @@ fn do_in_copy(
     ensures { TaskOf task (lent t.old list.old) (lent t.new list.new) result }
 {
     table_copies::copy_in_order(t, s, copy);
-    match do_in_order(copy, s, loads, path, task, list) {
-        Attempt::Refused(r) => Attempt::Refused(r),
-        Attempt::Made(e) => {
-            table_copies::copy_back(copy, t);
-            Attempt::Made(e)
-        }
-    }
+    let effect = do_in_order(copy, s, loads, path, task, list)?;
+    table_copies::copy_back(copy, t);
+    Ok(effect)
 }
 
 // Does the task on a table in any order: makes the room for the copy.
@@ -85,7 +82,7 @@ fn do_stored(
     path: &mut [u16; Size::MOST_BENCHES + 1],
     task: Task,
     list: &mut [u8],
-) -> Attempt
+) -> Result<Effect, Refusal>
     requires sound_table { SoundTable t.old s }
     requires may_do { MayDo (decode t.old) task }
     requires loaded { Loaded (decode t.old) loads.old }
@@ -108,7 +105,7 @@ pub fn arrive(
     first: usize,
     second: usize,
     list: &mut [u8],
-) -> Attempt
+) -> Result<Effect, Refusal>
     requires sound_table { SoundTable t.old s }
     requires variant { T rising ↔ (t.old ≡ encode (decode t.old)) }
     requires may_arrive { MayArrive (decode t.old) j (first ∷ second ∷ []) }
@@ -132,7 +129,7 @@ pub fn close(
     path: &mut [u16; Size::MOST_BENCHES + 1],
     j: usize,
     list: &mut [u8],
-) -> Attempt
+) -> Result<Effect, Refusal>
     requires sound_table { SoundTable t.old s }
     requires variant { T rising ↔ (t.old ≡ encode (decode t.old)) }
     requires t { T (stands (decode t.old) j) }

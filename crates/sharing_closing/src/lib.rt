@@ -11,7 +11,7 @@ ghost use Rattle.table_order.specs.InOrder.{InOrder};
 ghost use Rattle.sharing_effects.specs.Effects.{lent};
 ghost use Rattle.sharing_closing.specs.ClosingResult.{ClosingFound, ClosingOf};
 
-use sharing_effects::{Attempt, Effect};
+use sharing_effects::Effect;
 use sharing_paths::FoundPath;
 use table_board::jobs;
 use table_refusals::Refusal;
@@ -65,7 +65,7 @@ pub fn close_in_order(
     path: &mut [u16; Size::MOST_BENCHES + 1],
     j: usize,
     list: &mut [u8],
-) -> Attempt
+) -> Result<Effect, Refusal>
     requires in_order { InOrder t.old s }
     requires t { T (stands (decode t.old) j) }
     requires loaded { Loaded (decode t.old) loads.old }
@@ -76,12 +76,12 @@ pub fn close_in_order(
     let found = find_closing(t, s, loads, j, path);
     let moved = found.jobs;
     if list.len() < 2 * moved {
-        return Attempt::Refused(Refusal::ListTooShort);
+        return Err(Refusal::ListTooShort);
     }
     let whole = &path[..];
     table_words::write_list(list, &whole[..moved]);
     apply_closing(t, s, j, found, path);
-    Attempt::Made(Effect {
+    Ok(Effect {
         holder: 0,
         bench: found.bench,
         moved,

@@ -1,5 +1,5 @@
 -- What an arrival or a closing leaves of the table and of the list that is lent for the moved jobs, and what it tells.
-use Rattle.std.specs.Prelude.{ℕ, ◌*◌, ◌≤◌, ◌<◌, ◌≡◌, List, length}
+use Rattle.std.specs.Prelude.{ℕ, ◌*◌, ◌≤◌, ◌<◌, ◌≡◌, List, length, Result, Ok, Err}
 use Rattle.spec_table.specs.Board.{holder_of}
 use Rattle.spec_table.specs.Table.{in_list, encode}
 use Rattle.spec_sharing.specs.Sharing.{Change}
@@ -7,8 +7,6 @@ use Rattle.spec_calls.specs.Answers.{list_too_short}
 use Rattle.table_refusals.specs.Refusals.{refusal_of}
 use Rattle.table_refusals.specs.declared.Refusal.{Refusal}
 use Rattle.sharing_effects.specs.declared.Effect.{Effect}
-use Rattle.sharing_effects.specs.declared.Attempt.{Attempt}
-use Rattle.sharing_effects.specs.declared.Attempt.TheVariants.{Refused, Made}
 
 -- bytes that are lent to a change: the table's, and the list's
 pub record Lent : Type 0 where
@@ -35,6 +33,6 @@ pub record MadeAs (j : ℕ) (c : Change) (before after : Lent) (e : Effect) : Ty
   pub moved : e.moved ≡ length c.moved
 
 -- what comes of the change c of job j
-abbrev pub AttemptOf : ℕ → Change → Lent → Lent → Attempt → Type 0
-AttemptOf j c before after (Refused r) = TooShort c before after r
-AttemptOf j c before after (Made e) = MadeAs j c before after e
+abbrev pub AttemptOf : ℕ → Change → Lent → Lent → Result Effect Refusal → Type 0
+AttemptOf j c before after (Err r) = TooShort c before after r
+AttemptOf j c before after (Ok e) = MadeAs j c before after e

@@ -1,7 +1,6 @@
-// What comes of an arrival or a closing that its numbers allow.
+// What comes of an arrival or a closing that its numbers allow: `Ok` with an effect where it was made, `Err` where it was
+// refused, and every lent byte is as it was.
 #![tactic(auto)]
-
-use table_refusals::Refusal;
 
 // What was done: the bench that holds the job in the end (0 for a closed one), the bench whose load rose or fell, and the
 // other jobs that changed holder.
@@ -10,11 +9,4 @@ pub struct Effect {
     pub holder: usize,
     pub bench: usize,
     pub moved: usize,
-}
-
-// The change was made, or it was refused, and every lent byte is as it was.
-#[derive(Clone, Copy)]
-pub enum Attempt {
-    Refused(Refusal),
-    Made(Effect),
 }

@@ -29,34 +29,23 @@ pub record CountedOn (f : ℕ → ℕ) (n left₀ more done best left : ℕ) : T
   pub most : best ≡ greatest (n + done) f
   pub rest : total (n + done) f + left ≡ total n f + left₀
 
-module _ {f : ℕ → ℕ} {n left₀ more : ℕ} where
-  -- at first none ..
-  pub on_start : {best : ℕ} → best ≡ greatest n f → CountedOn f n left₀ more 0 best left₀
-  on_start e = let z : n + 0 ≡ n = omega arith in record { few = omega arith; most = rw z e; rest = rw z (omega arith) }
+module _ {f : ℕ → ℕ} {n left₀ more done best left : ℕ} (h : CountedOn f n left₀ more done best left) (l : done < more) where
+  next : n + (done + 1) ≡ suc (n + done)
+  next = omega arith
 
-  module _ {done best left : ℕ} (h : CountedOn f n left₀ more done best left) (l : done < more) where
-    next : n + (done + 1) ≡ suc (n + done)
-    next = omega arith
+  -- the next one has no more jobs than are left, if they all together have no more ..
+  pub on_few : total (n + more) f ≤ total n f + left₀ → f (n + (done + 1)) ≤ left
+  on_few m = rw next (omega (arith, h.rest, total_rises (suc (n + done)) (n + more) f (omega arith)))
 
-    -- .. the next one has no more jobs than are left, if they all together have no more ..
-    pub on_few : total (n + more) f ≤ total n f + left₀ → f (n + (done + 1)) ≤ left
-    on_few m = rw next (omega (arith, h.rest, total_rises (suc (n + done)) (n + more) f (omega arith)))
-
-    -- .. and brings its load
-    pub on_turn : {p : ℕ} → total (n + more) f ≤ total n f + left₀ → p ≡ max best (f (n + (done + 1))) → CountedOn f n left₀ more (done + 1) p (left - f (n + (done + 1)))
-    on_turn m e =
-        record { few = omega arith; most = rw next (omega (arith, h.most, rw next at e)); rest = omega (arith, h.rest, on_few m, ap (λ (k : ℕ). total k f) next, ap f next) }
+  -- .. and brings its load
+  pub on_turn : {p : ℕ} → total (n + more) f ≤ total n f + left₀ → p ≡ max best (f (n + (done + 1))) → CountedOn f n left₀ more (done + 1) p (left - f (n + (done + 1)))
+  on_turn m e =
+      record { few = omega arith; most = rw next (omega (arith, h.most, rw next at e)); rest = omega (arith, h.rest, on_few m, ap (λ (k : ℕ). total k f) next, ap f next) }
 
 module _ {s : Size} {loads : List ℕ} {c : Count} (k : CountOf s loads c) where
   -- those not counted hold the jobs that are left
   pub more_few : (more : ℕ) → c.benches + more ≤ s.benches → total (c.benches + more) (at loads) ≤ total c.benches (at loads) + c.left
   more_few more l = omega (arith, k.left, total_rises (c.benches + more) s.benches (at loads) l)
-
-  -- with all of `more` it is a count again
-  pub on_end : {more done best left : ℕ} → c.benches + more ≤ s.benches → CountedOn (at loads) c.benches c.left more done best left → more ≤ done → CountOf s loads (record { benches = c.benches + more; best = best; left = left })
-  on_end {more} {done} l h m =
-      let e : done ≡ more = omega (arith, h.few) in
-      record { few = l; best = rw e at h.most; left = omega (arith, k.left, rw e at h.rest) }
 
 -- where the count ends
 

@@ -6,9 +6,8 @@ use native.Mathlib.Decide.{ℕ_discrete}
 use mathlib.Core.Path.{◌≡◌, refl, sym, ap, subst}
 use mathlib.Core.Logic.{inl, inr}
 use mathlib.Core.List.{List}
-use Rattle.table_size.specs.declared.Size.{Size}
 use Rattle.graph_lists.specs.Arrays.{at}
-use Rattle.sharing_loads.specs.LoadRanks.{NoHeavier, Lightest, LightestAt}
+use Rattle.sharing_loads.specs.LoadRanks.{NoHeavier, LightestAt}
 
 -- a bench is no heavier than another if its load is not higher, nor its number where the loads are equal
 no_heavier : (loads : List ℕ) (y z : ℕ) → at loads y ≤ at loads z → (at loads y ≡ at loads z → y ≤ z) → NoHeavier loads y z
@@ -46,10 +45,3 @@ module _ {loads : List ℕ} {bench : ℕ → ℕ} {begin : ℕ} where
         | no d ↦ k.least i l (omega arith)
       ];
     }
-
--- of benches 1 to B it is the lightest bench of the board
-pub lightest_end : {s : Size} {loads : List ℕ} {x y : ℕ} → LightestAt loads (λ z. z) 1 x y → x ≡ s.benches + 1 → Lightest s loads y
-lightest_end k e = record {
-  is = let (i, l, u, d) = k.is in record { least = omega arith; most = omega arith };
-  least = λ z b. k.least z b.least (omega (arith, b.most));
-}

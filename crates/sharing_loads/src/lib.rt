@@ -3,14 +3,13 @@
 
 ghost use Rattle.std.specs.Prelude.{◌≡◌, ◌+◌, ◌≤◌};
 ghost use Rattle.spec_table.specs.Table.{decode};
-ghost use Rattle.table_size.specs.Sizes.{Limits, SoundTable};
+ghost use Rattle.table_size.specs.Sizes.{SoundTable};
 ghost use Rattle.table_board.specs.BoardView.{Loaded};
-ghost use Rattle.graph_lists.specs.Arrays.{LoadsIn};
 ghost use Rattle.sharing_loads.specs.HeaviestLoad.{HeaviestOf, CountOf, NotBefore};
 ghost use Rattle.sharing_loads.specs.LoadRanks.{Lightest, NextLower};
 
 use table_board::jobs;
-use table_size::Size;
+use table_size::{PerBench, Size};
 
 // The heaviest load, and how many benches were counted, from bench 1 up, until it was known.
 #[derive(Clone, Copy)]
@@ -34,27 +33,21 @@ const LONG: usize = 32;
 const SHORT: usize = 8;
 
 // Counts so many benches more.
-fn count_on(s: Size, loads: &[u16; Size::MOST_BENCHES + 1], c: Count, more: usize) -> Count
-    requires limits { Limits s }
+fn count_on(s: Size, loads: &PerBench<u16>, c: Count, more: usize) -> Count
     requires count_of { CountOf s loads.now c }
     requires more_bound { c.benches + more ≤ s.benches }
     ensures count_of_2 { CountOf s loads.now result }
     ensures benches_value { result.benches ≡ c.benches + more }
 {
-    let benches = c.benches;
+    let benches = c.benches + more;
     let mut best = c.best;
     let mut left = c.left;
-    let mut done = 0;
-    while done < more {
-        done += 1;
-        let n = loads[benches + done];
+    for &n in &loads[c.benches + 1..benches + 1] {
         left -= n;
-        if best < n {
-            best = n;
-        }
+        best = best.max(n);
     }
     Count {
-        benches: benches + more,
+        benches,
         best,
         left,
     }
@@ -63,11 +56,10 @@ fn count_on(s: Size, loads: &[u16; Size::MOST_BENCHES + 1], c: Count, more: usiz
 // Counts stretches of this length, as long as the count does not end in the next one.
 fn count_stretches(
     s: Size,
-    loads: &[u16; Size::MOST_BENCHES + 1],
+    loads: &PerBench<u16>,
     start: Count,
     stretch: usize,
 ) -> Count
-    requires limits { Limits s }
     requires count_of { CountOf s loads.now start }
     requires not_before { NotBefore s loads.now start }
     requires le_stretch { 1 ≤ stretch }
@@ -88,7 +80,7 @@ fn count_stretches(
 
 // Finds the heaviest load, from bench 1 up, until the standing jobs not yet counted are no more than the best load so
 // far: stretch by stretch, as long as that does not come to hold in one, and then bench by bench.
-pub fn find_heaviest(t: &[u8], s: Size, loads: &[u16; Size::MOST_BENCHES + 1]) -> Heaviest
+pub fn find_heaviest(t: &[u8], s: Size, loads: &PerBench<u16>) -> Heaviest
     requires sound_table { SoundTable t.now s }
     requires loaded { Loaded (decode t.now) loads.now }
     ensures { HeaviestOf (decode t.now) result }
@@ -104,43 +96,34 @@ pub fn find_heaviest(t: &[u8], s: Size, loads: &[u16; Size::MOST_BENCHES + 1]) -
         c = count_on(s, loads, c, 1);
     }
     Heaviest {
-        load: c.best as usize,
+        load: usize::from(c.best),
         benches: c.benches,
     }
 }
 
 // Finds the bench with the lowest load, then the lowest number.
-pub fn lightest(s: Size, loads: &[u16; Size::MOST_BENCHES + 1]) -> usize
-    requires { Limits s }
+pub fn lightest(s: Size, loads: &PerBench<u16>) -> usize
     ensures { Lightest s loads.now result }
 {
-    let benches = s.benches();
     let mut low = 1;
-    let mut x = 2;
-    while x <= benches {
+    for x in 2..s.benches() + 1 {
         if loads[x] < loads[low] {
             low = x;
         }
-        x += 1;
     }
     low
 }
 
 // Finds the greatest load below `load`, 0 where no bench has less.
-pub fn next_lower(s: Size, loads: &[u16; Size::MOST_BENCHES + 1], load: usize) -> usize
-    requires limits { Limits s }
-    requires loads_in { LoadsIn s loads.now }
+pub fn next_lower(s: Size, loads: &PerBench<u16>, load: usize) -> usize
     ensures { NextLower s loads.now load result }
 {
-    let benches = s.benches();
     let mut lower = 0;
-    let mut x = 1;
-    while x <= benches {
-        let n = loads[x] as usize;
-        if n < load && lower < n {
-            lower = n;
+    for &n in &loads[1..s.benches() + 1] {
+        let n = usize::from(n);
+        if n < load {
+            lower = lower.max(n);
         }
-        x += 1;
     }
     lower
 }

@@ -10,7 +10,7 @@ ghost use Rattle.table_size.specs.Sizes.{BenchIn};
 ghost use Rattle.table_order.specs.InOrder.{InOrder, FirstFrom};
 ghost use Rattle.sharing_search.specs.Searching.{Course, Searching, Discovered, Grown, AtBench, AtLevel, Level};
 
-use table_size::Size;
+use table_size::{PerBench, Size};
 
 // How many benches are found, and the next job on the chain, 0 for none.
 #[derive(Clone, Copy)]
@@ -24,8 +24,8 @@ pub fn discover(
     y: usize,
     j: u16,
     found: usize,
-    queue: &mut [u16; Size::MOST_BENCHES + 1],
-    came: &mut [u16; Size::MOST_BENCHES + 1],
+    queue: &mut PerBench<u16>,
+    came: &mut PerBench<u16>,
 ) -> usize
     requires y_le_most_benches { y ≤ most_benches }
     requires found_le_most_benches { found ≤ most_benches }
@@ -49,8 +49,8 @@ pub fn expand(
     job: usize,
     limit: usize,
     found: usize,
-    queue: &mut [u16; Size::MOST_BENCHES + 1],
-    came: &mut [u16; Size::MOST_BENCHES + 1],
+    queue: &mut PerBench<u16>,
+    came: &mut PerBench<u16>,
 ) -> Expansion
     requires in_order { InOrder t.now s }
     requires bench_in { BenchIn s x }
@@ -81,8 +81,8 @@ pub fn expand_level(
     begin: usize,
     end: usize,
     goal: usize,
-    queue: &mut [u16; Size::MOST_BENCHES + 1],
-    came: &mut [u16; Size::MOST_BENCHES + 1],
+    queue: &mut PerBench<u16>,
+    came: &mut PerBench<u16>,
 ) -> usize
     requires in_order { InOrder t.now s }
     requires goal_le_most_benches { goal ≤ most_benches }
@@ -93,13 +93,14 @@ pub fn expand_level(
         Level c s.benches goal result queue.new came.new }
 {
     let mut found = end;
-    let mut done = begin;
-    while done < end && came[goal] == 0 {
-        let x = queue[done] as usize;
+    for place in begin..end {
+        if came[goal] != 0 {
+            break;
+        }
+        let x = usize::from(queue[place]);
         let job = table_order::first_job(t, s, x);
         let e = expand(t, s, x, job, Size::MOST_JOBS + 1, found, queue, came);
         found = e.found;
-        done += 1;
     }
     found
 }

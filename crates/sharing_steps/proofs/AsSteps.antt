@@ -3,7 +3,7 @@ use Prim.Native.Nat.{ℕ, ◌+◌, ◌-◌, ◌≤◌, ◌<◌}
 use native.Mathlib.Omega.{arith}
 use native.Mathlib.Decide.{ℕ_discrete, dec_le}
 use mathlib.Core.Path.{◌≡◌, refl, sym, ap, subst, ◌∙◌}
-use mathlib.Core.Logic.{inl, inr, ◌≢◌}
+use mathlib.Core.Logic.{◌⊎◌, inl, inr, ◌≢◌}
 use mathlib.Core.List.{List, [], ◌∷◌}
 use lib.Dec.{T}
 use lib.ListN.{length, get_or-eq_default}
@@ -113,6 +113,15 @@ module _ (t : List ℕ) (s : Size) (j : ℕ) (holds_board : HoldsBoard t s) wher
     led_of x z m n =
         let sum = (held_other led_held).sum in
         (omega (arith, sum, m.value, n.value), record { value = omega (arith, sum, m.value, n.value); most = omega (arith, sum, m.value, n.value, holder_most t s j holds_board) })
+
+  module _ (x : ℕ) (e : (x ≡ holder_of (decode t) j) ⊎ (x ≡ other_of (decode t) j)) (d : x ≢ 0) where
+    -- one of its two benches tells that it names two ..
+    pub end_place : (k : ℕ) → 1 ≤ k → k ≤ 2 → Position (names_of (decode t) j) k
+    end_place = elim e [ inl h ↦ held_place x h d | inr o ↦ led_place x o d ]
+
+    -- .. and is no more than their sum
+    pub end_few : (m n : ℕ) → NameOf t s j 1 m → NameOf t s j 2 n → x ≤ m + n
+    end_few m n a b = elim e [ inl h ↦ (held_of x h d m n a b).0 | inr o ↦ (led_of x o d m n a b).0 ]
 
 -- loads
 

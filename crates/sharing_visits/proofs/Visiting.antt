@@ -14,10 +14,9 @@ use Rattle.spec_lists.specs.Lists.{bit, within, total, In}
 use Rattle.spec_table.specs.Table.{most_benches, most_jobs}
 use Rattle.spec_lists.proofs.Tests.{true→T, T→true, false→not, within_low, within_high, Compared, same, other, compared}
 use Rattle.spec_lists.proofs.Counting.{total_le, total_but_one}
-use Rattle.table_size.specs.declared.Size.{Size}
 use Rattle.graph_lists.specs.Arrays.{at, Reached, here, step}
 use Rattle.sharing_visits.specs.ArrayChains.{chain_along, chain_on, Walkable, FromChain, Leads}
-use Rattle.sharing_visits.specs.Marks.{mark, Marks, Heavy, FromHeavy, ClosedOver}
+use Rattle.sharing_visits.specs.Marks.{mark, Marks, ClosedOver}
 
 -- chains
 
@@ -165,17 +164,6 @@ module _ {J : ℕ → ℕ → Type 0} where
       shut z y n t j true e = q.grows y (p.shut z y n (true→T (mark m₁ z) e) j)
       shut z y n t j false e = q.shut z y (false→not (mark m₁ z) e) t j
 
-  -- the same benches, said otherwise
-  closed_same : (P Q : ℕ → Type 0) (m m' : List Bool) → ((y : ℕ) → Q y ↔ P y) → ClosedOver J P m m' → ClosedOver J Q m m'
-  closed_same P Q m m' f p =
-      record {
-        long = p.long;
-        grows = p.grows;
-        every = λ y i. p.every y ((f y).0 i);
-        only = λ y n t. let r = p.only y n t in (r.0, (f r.0).1 r.1, r.2);
-        shut = p.shut;
-      }
-
 module _ (head next to : List ℕ) where
   -- a job on x's chain leads to y
   abbrev J : ℕ → ℕ → Type 0
@@ -235,75 +223,6 @@ pub record Passed (loads : List ℕ) (h x y : ℕ) : Type 0 where
   pub before : y < x
   pub heavy : h ≤ at loads y
 
-module _ {loads : List ℕ} {h x y : ℕ} where
-  -- a bench that comes before x comes before the next one ..
-  pub passed_on : Passed loads h x y → Passed loads h (x + 1) y
-  passed_on p = record { least = p.least; before = omega (arith, p.before); heavy = p.heavy }
-
-  -- .. one that comes before the next one is x or comes before x ..
-  pub passed_before : y ≢ x → Passed loads h (x + 1) y → Passed loads h x y
-  passed_before d p = record { least = p.least; before = omega (arith, p.before); heavy = p.heavy }
-
-  -- .. and is not x where x has less
-  pub passed_light : at loads x < h → Passed loads h (x + 1) y → Passed loads h x y
-  passed_light l p = passed_before (λ e. omega (arith, p.heavy, ap (at loads) e)) p
-
--- at the end they are all of them
-pub passed_all : (loads : List ℕ) (h x : ℕ) (s : Size) → x ≡ s.benches + 1 → (y : ℕ) → Passed loads h x y ↔ Heavy s loads h y
-passed_all loads h x s e y = (
-  λ p. (record { least = p.least; most = omega (arith, p.before) }, p.heavy),
-  λ (b, l). record { least = b.least; before = omega (arith, b.most); heavy = l },
-)
-
 -- such a bench leads to y
 abbrev pub FromPassed : (ℕ → ℕ → Type 0) → List ℕ → ℕ → ℕ → ℕ → Type 0
 FromPassed J loads h x y = (z : ℕ) × Passed loads h x z × J z y
-
--- what the chains before bench x bring in is in
-pub record Walked (J : ℕ → ℕ → Type 0) (loads : List ℕ) (h benches : ℕ) (m₀ m : List Bool) (x : ℕ) : Type 0 where
-  pub least : 1 ≤ x
-  pub most : x ≤ benches + 1
-  pub brought : ClosedOver J (FromPassed J loads h x) m₀ m
-
--- none yet ..
-pub walked_start : {J : ℕ → ℕ → Type 0} (loads : List ℕ) (h benches : ℕ) (m : List Bool) → Marks m → Walked J loads h benches m m 1
-walked_start {J} loads h benches m l =
-    record {
-      least = omega arith;
-      most = omega arith;
-      brought = closed_none (FromPassed J loads h 1) m l (λ y (z, p, i). absurd (omega (arith, p.least, p.before)));
-    }
-
-module _ {J : ℕ → ℕ → Type 0} {loads : List ℕ} {h benches : ℕ} {m₀ m : List Bool} {x : ℕ} (v : Walked J loads h benches m₀ m x) where
-  module _ (u : x ≤ benches) where
-    -- .. the next bench has such a load ..
-    pub walked_turn : (m' : List Bool) → h ≤ at loads x → ClosedOver J (J x) m m' → Walked J loads h benches m₀ m' (x + 1)
-    walked_turn m' l p =
-        record {
-          least = omega arith;
-          most = omega arith;
-          brought = closed_both (FromPassed J loads h x) (J x) (FromPassed J loads h (x + 1)) m₀ m m' (λ y. (λ (z, b, i). split y z b i (compared z x), join y)) v.brought p;
-        }
-      where
-        split : (y z : ℕ) → Passed loads h (x + 1) z → J z y → {a : Bool} → Compared z x a → FromPassed J loads h x y ⊎ J x y
-        split y z b i (same e) = inr (subst (λ (k : ℕ). J k y) e i)
-        split y z b i (other d) = inl (z, passed_before d b, i)
-
-        join : (y : ℕ) → FromPassed J loads h x y ⊎ J x y → FromPassed J loads h (x + 1) y
-        join y (inl (z, b, i)) = (z, passed_on b, i)
-        join y (inr i) = (x, record { least = v.least; before = omega arith; heavy = l }, i)
-
-    -- .. or it has not ..
-    pub walked_pass : at loads x < h → Walked J loads h benches m₀ m (x + 1)
-    walked_pass l =
-        record {
-          least = omega arith;
-          most = omega arith;
-          brought = closed_same (FromPassed J loads h x) (FromPassed J loads h (x + 1)) m₀ m (λ y. (λ (z, b, i). (z, passed_light l b, i), λ (z, b, i). (z, passed_on b, i))) v.brought;
-        }
-
-  -- .. and at the end all are walked
-  pub walked_end : (s : Size) → benches ≡ s.benches → benches < x → ClosedOver J (FromHeavy s loads h J) m₀ m
-  walked_end s e u =
-      let all = passed_all loads h x s (omega (arith, v.most)) in
-      closed_same (FromPassed J loads h x) (FromHeavy s loads h J) m₀ m (λ y. (λ (z, b, i). (z, (all z).1 b, i), λ (z, b, i). (z, (all z).0 b, i))) v.brought

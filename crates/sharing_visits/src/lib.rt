@@ -6,25 +6,22 @@
 ghost use Rattle.std.specs.Prelude.{◌≡◌, T};
 ghost use Rattle.spec_lists.specs.Lists.{within};
 ghost use Rattle.spec_table.specs.Table.{most_benches};
-ghost use Rattle.table_size.specs.Sizes.{Limits};
-ghost use Rattle.graph_lists.specs.Arrays.{LoadsIn};
 ghost use Rattle.sharing_visits.specs.ArrayChains.{Walkable, BenchChains, FromChain, Leads};
-ghost use Rattle.sharing_visits.specs.Marks.{Marks, FromHeavy, ClosedOver};
+ghost use Rattle.sharing_visits.specs.Marks.{FromHeavy, ClosedOver};
 
-use table_size::Size;
+use table_size::{PerBench, PerJob, Size};
 
 // Marks bench x and what it brings in.
 #[cycle(visit_walk)]
 fn visit(
-    head: &[u16; Size::MOST_BENCHES + 1],
-    next: &[u16; Size::MOST_JOBS + 1],
-    to: &[u16; Size::MOST_JOBS + 1],
+    head: &PerBench<u16>,
+    next: &PerJob<u16>,
+    to: &PerJob<u16>,
     x: usize,
-    marks: &mut [bool; Size::MOST_BENCHES + 1],
+    marks: &mut PerBench<bool>,
 )
     requires bench_chains { BenchChains head.now next.now to.now }
     requires t { T (within 1 most_benches x) }
-    requires marks { Marks marks.old }
     ensures { ClosedOver (Leads head.now next.now to.now) (λ y. y ≡ x)
         marks.old marks.new }
 {
@@ -32,56 +29,49 @@ fn visit(
         return;
     }
     marks[x] = true;
-    walk(head, next, to, head[x] as usize, marks);
+    walk(head, next, to, usize::from(head[x]), marks);
 }
 
 // Marks what the chain from job j on brings in.
 #[cycle(visit_walk)]
 fn walk(
-    head: &[u16; Size::MOST_BENCHES + 1],
-    next: &[u16; Size::MOST_JOBS + 1],
-    to: &[u16; Size::MOST_JOBS + 1],
+    head: &PerBench<u16>,
+    next: &PerJob<u16>,
+    to: &PerJob<u16>,
     j: usize,
-    marks: &mut [bool; Size::MOST_BENCHES + 1],
+    marks: &mut PerBench<bool>,
 )
     requires bench_chains { BenchChains head.now next.now to.now }
     requires walkable { Walkable next.now to.now j }
-    requires marks { Marks marks.old }
     ensures { ClosedOver (Leads head.now next.now to.now)
         (FromChain next.now to.now j) marks.old marks.new }
 {
     if j == 0 {
         return;
     }
-    visit(head, next, to, to[j] as usize, marks);
+    visit(head, next, to, usize::from(to[j]), marks);
     // Keeps this call last: compiled, it is a loop along the chain and takes no stack.
-    walk(head, next, to, next[j] as usize, marks);
+    walk(head, next, to, usize::from(next[j]), marks);
 }
 
 // Marks what the chains of the benches with load h or more bring in.
 pub fn walk_heavy(
     s: Size,
-    head: &[u16; Size::MOST_BENCHES + 1],
-    next: &[u16; Size::MOST_JOBS + 1],
-    to: &[u16; Size::MOST_JOBS + 1],
-    loads: &[u16; Size::MOST_BENCHES + 1],
+    head: &PerBench<u16>,
+    next: &PerJob<u16>,
+    to: &PerJob<u16>,
+    loads: &PerBench<u16>,
     h: usize,
-    marks: &mut [bool; Size::MOST_BENCHES + 1],
+    marks: &mut PerBench<bool>,
 )
-    requires limits { Limits s }
-    requires bench_chains { BenchChains head.now next.now to.now }
-    requires marks { Marks marks.old }
-    requires loads_in { LoadsIn s loads.now }
+    requires { BenchChains head.now next.now to.now }
     ensures { ClosedOver (Leads head.now next.now to.now)
         (FromHeavy s loads.now h (Leads head.now next.now to.now))
         marks.old marks.new }
 {
-    let benches = s.benches();
-    let mut x = 1;
-    while x <= benches {
-        if h <= loads[x] as usize {
-            walk(head, next, to, head[x] as usize, marks);
+    for x in 1..s.benches() + 1 {
+        if h <= usize::from(loads[x]) {
+            walk(head, next, to, usize::from(head[x]), marks);
         }
-        x += 1;
     }
 }

@@ -1,4 +1,5 @@
 -- The passes of the form check find a table formed exactly if the definition does.
+use Rattle.std.specs.Prelude.{Option, Some, None}
 use Prim.Native.Nat.{ℕ, zero, suc, ◌+◌, ◌≤◌}
 use native.Mathlib.Omega.{arith}
 use mathlib.Core.Path.{◌≡◌, refl, sym, ap, ◌∙◌, subst}
@@ -23,8 +24,6 @@ use Rattle.table_size.specs.Sizes.{SizeOf}
 use Rattle.table_size.specs.declared.Size.{Size}
 use Rattle.table_size.proofs.Sizes.{heads_long, entries_long}
 use Rattle.table_record_form.specs.Kinds.{counted}
-use Rattle.table_record_form.specs.declared.Seen.{Seen}
-use Rattle.table_record_form.specs.declared.Seen.TheVariants.{Jobs, Broken}
 use Rattle.table_record_form.proofs.CountedRecords.{AllFit, counted_seen, fit_counted}
 use Rattle.table_chain_form.specs.ChainWalks.{only_if, walked, all_walked}
 use Rattle.table_chain_form.proofs.Walking.{all_broken}
@@ -83,15 +82,15 @@ pub spare_formed : (l : Layout) → (l.spare ≡ 0 → ⊥) → formed l ≡ fal
 spare_formed l d = refused l (λ f. d f.spare)
 
 -- a record does not fit
-pub broken_formed : (l : Layout) → counted l.benches 0 l.entries ≡ Broken → formed l ≡ false
+pub broken_formed : (l : Layout) → counted l.benches 0 l.entries ≡ None → formed l ≡ false
 broken_formed l e = refused l (λ f. fit_counted l.benches 0 l.entries f.entry e)
 
 -- word 2 is not the number of standing jobs
-pub count_formed : (l : Layout) (n : ℕ) → counted l.benches 0 l.entries ≡ Jobs n → (l.standing ≡ n → ⊥) → formed l ≡ false
+pub count_formed : (l : Layout) (n : ℕ) → counted l.benches 0 l.entries ≡ Some n → (l.standing ≡ n → ⊥) → formed l ≡ false
 count_formed l n e d = refused l (λ f. d (omega (arith, f.standing, (counted_seen l.benches 0 1 l.entries n e).1)))
 
 -- no more than J jobs stand
-pub counted_few : (l : Layout) (n : ℕ) → Whole l → counted l.benches 0 l.entries ≡ Jobs n → n ≤ l.jobs
+pub counted_few : (l : Layout) (n : ℕ) → Whole l → counted l.benches 0 l.entries ≡ Some n → n ≤ l.jobs
 counted_few l n w e =
     let es = l.entries in
     omega (arith, w.entries, (counted_seen l.benches 0 1 es n e).1, standing_total 1 es, total_most (length es) (λ j. bit (filled_at es j)) (λ j. bit_le (filled_at es j)))
@@ -130,7 +129,7 @@ module _ (es : List Entry) where
     long : length (follow es (suc k) j) + m ≡ n
 
   -- a walk that is not broken is such
-  walked_walk : (x n j m k : ℕ) → walked es x n j ≡ Jobs m → n ≤ k → ChainWalk x n j m k
+  walked_walk : (x n j m k : ℕ) → walked es x n j ≡ Some m → n ≤ k → ChainWalk x n j m k
   walked_walk x zero zero m k q h = record { held = λ i n. absurd n; ends = tt; long = let d : 0 ≡ m = cc in omega arith }
   walked_walk x zero (suc j) m k q h = absurd (true→T false cc)
   walked_walk x (suc n) zero m k q h = record { held = λ i n. absurd n; ends = tt; long = let d : suc n ≡ m = cc in omega arith }
@@ -147,27 +146,27 @@ module _ (es : List Entry) where
       first d r i (inl e) = ap (holder_at es) e ∙ d
       first d r i (inr e) = r i e
 
-      go : (z : Bool) → eqb holder x ≡ z → (walked es x n next ≡ Jobs m → ChainWalk x n next m k) → only_if z (walked es x n next) ≡ Jobs m → ChainWalk x (suc n) (suc j) m (suc k)
+      go : (z : Bool) → eqb holder x ≡ z → (walked es x n next ≡ Some m → ChainWalk x n next m k) → only_if z (walked es x n next) ≡ Some m → ChainWalk x (suc n) (suc j) m (suc k)
       go true d ih r =
           let p = ih r in
           record { held = first (T-eqb holder x (true→T (eqb holder x) d)) p.held; ends = p.ends; long = omega (arith, p.long) }
       go false d ih r = absurd (true→T false cc)
 
   -- what it left is what is not on the chain
-  pub walked_long : (x n j m k : ℕ) → walked es x n j ≡ Jobs m → n ≤ k → length (follow es (suc k) j) + m ≡ n
+  pub walked_long : (x n j m k : ℕ) → walked es x n j ≡ Some m → n ≤ k → length (follow es (suc k) j) + m ≡ n
   walked_long x n j m k q h = (walked_walk x n j m k q h).long
 
   -- it went over a chain of x's own jobs, and left the others ..
-  walked_own : (x n j m k : ℕ) → walked es x n j ≡ Jobs m → n ≤ k → Own x (follow es (suc k) j) × (length (follow es (suc k) j) + m ≡ n)
+  walked_own : (x n j m k : ℕ) → walked es x n j ≡ Some m → n ≤ k → Own x (follow es (suc k) j) × (length (follow es (suc k) j) + m ≡ n)
   walked_own x n j m k q h =
       let p = walked_walk x n j m k q h in
       (held_own x (follow es (suc k) j) p.held (ends_distinct es (suc k) n j p.ends), p.long)
 
   -- .. and a chain of jobs that x holds is walked so
-  held_walked : (x n j m k : ℕ) → Held x (follow es (suc k) j) → length (follow es (suc k) j) ≤ k → length (follow es (suc k) j) + m ≡ n → walked es x n j ≡ Jobs m
-  held_walked x zero zero m k o s h = ap Jobs (omega arith)
+  held_walked : (x n j m k : ℕ) → Held x (follow es (suc k) j) → length (follow es (suc k) j) ≤ k → length (follow es (suc k) j) + m ≡ n → walked es x n j ≡ Some m
+  held_walked x zero zero m k o s h = ap Some (omega arith)
   held_walked x zero (suc j) m k o s h = absurd (omega arith)
-  held_walked x (suc n) zero m k o s h = ap Jobs (omega arith)
+  held_walked x (suc n) zero m k o s h = ap Some (omega arith)
   held_walked x (suc n) (suc j) m zero o s h = absurd (omega arith)
   held_walked x (suc n) (suc j) m (suc k) o s h =
       rw (eq-eqb (holder_at es (suc j)) x (o (suc j) (inl refl))) (held_walked x n (after es (suc j)) m k (λ i e. o i (inr e)) (omega arith) (omega arith))
@@ -183,7 +182,7 @@ abbrev AllOwn : List Entry → ℕ → List (List ℕ) → Type 0
 AllOwn es x cs = (s : ℕ × List ℕ) → In s (enumerate x cs) → Own es s.0 s.1
 
 -- chains walked to the last of n jobs are such, with n jobs on them ..
-all_walked_own : (es : List Entry) (x k : ℕ) (heads : List ℕ) (n : ℕ) → T (all_walked es x heads (Jobs n)) → n ≤ k → AllOwn es x (map (follow es (suc k)) heads) × (length (together (map (follow es (suc k)) heads)) ≡ n)
+all_walked_own : (es : List Entry) (x k : ℕ) (heads : List ℕ) (n : ℕ) → T (all_walked es x heads (Some n)) → n ≤ k → AllOwn es x (map (follow es (suc k)) heads) × (length (together (map (follow es (suc k)) heads)) ≡ n)
 unfolding flat_map
 all_walked_own es x k [] n t h = (λ s i. absurd i, sym (T-eqb n 0 t))
 all_walked_own es x k (j ∷ heads) n t h = go (walked es x n j) refl (λ m. all_walked_own es (suc x) k heads m) t
@@ -198,15 +197,15 @@ all_walked_own es x k (j ∷ heads) n t h = go (walked es x n j) refl (λ m. all
     first o r s (inl d) = subst (λ (p : ℕ × List ℕ). Own es p.0 p.1) (sym d) o
     first o r s (inr i) = r s i
 
-    go : (r : Seen) → walked es x n j ≡ r → ((m : ℕ) → T (all_walked es (suc x) heads (Jobs m)) → m ≤ k → AllOwn es (suc x) cs × (length (together cs) ≡ m)) → T (all_walked es (suc x) heads r) → AllOwn es x (c ∷ cs) × (length (c ++ together cs) ≡ n)
-    go (Jobs m) q ih t =
+    go : (r : Option ℕ) → walked es x n j ≡ r → ((m : ℕ) → T (all_walked es (suc x) heads (Some m)) → m ≤ k → AllOwn es (suc x) cs × (length (together cs) ≡ m)) → T (all_walked es (suc x) heads r) → AllOwn es x (c ∷ cs) × (length (c ++ together cs) ≡ n)
+    go (Some m) q ih t =
         let p = walked_own es x n j m k q h in
         let r = ih m t (omega (arith, p.1)) in
         (first p.0 r.0, omega (arith, p.1, r.1, length-append c (together cs)))
-    go Broken q ih t = absurd (rw (all_broken es (suc x) heads) at t)
+    go None q ih t = absurd (rw (all_broken es (suc x) heads) at t)
 
 -- .. and such chains are walked to the last job
-own_all_walked : (es : List Entry) (x k : ℕ) (heads : List ℕ) (n : ℕ) → AllOwn es x (map (follow es (suc k)) heads) → ((c : List ℕ) → In c (map (follow es (suc k)) heads) → length c ≤ k) → length (together (map (follow es (suc k)) heads)) ≡ n → T (all_walked es x heads (Jobs n))
+own_all_walked : (es : List Entry) (x k : ℕ) (heads : List ℕ) (n : ℕ) → AllOwn es x (map (follow es (suc k)) heads) → ((c : List ℕ) → In c (map (follow es (suc k)) heads) → length c ≤ k) → length (together (map (follow es (suc k)) heads)) ≡ n → T (all_walked es x heads (Some n))
 unfolding flat_map
 own_all_walked es x k [] n o s e = eqb_T n 0 (sym e)
 own_all_walked es x k (j ∷ heads) n o s e =
@@ -311,8 +310,8 @@ module _ (l : Layout) (w : Whole l) (fit : AllFit l.benches l.entries) where
       go own j false q = omega (arith, own_most own j, ap bit q)
 
 -- the records fit and words 2 and 3 are right: the chains decide
-pub walked_formed : (l : Layout) (n : ℕ) → Whole l → l.spare ≡ 0 → counted l.benches 0 l.entries ≡ Jobs n → l.standing ≡ n → formed l ≡ all_walked l.entries 1 l.heads (Jobs n)
-walked_formed l n w z e c = tests_same (formed l) (all_walked es 1 l.heads (Jobs n)) (λ t. walks (formed_is l t), λ t. formed_back l (forms t))
+pub walked_formed : (l : Layout) (n : ℕ) → Whole l → l.spare ≡ 0 → counted l.benches 0 l.entries ≡ Some n → l.standing ≡ n → formed l ≡ all_walked l.entries 1 l.heads (Some n)
+walked_formed l n w z e c = tests_same (formed l) (all_walked es 1 l.heads (Some n)) (λ t. walks (formed_is l t), λ t. formed_back l (forms t))
   where
     es : List Entry
     es = l.entries
@@ -326,12 +325,12 @@ walked_formed l n w z e c = tests_same (formed l) (all_walked es 1 l.heads (Jobs
     number : length (standing_in es) ≡ n
     number = omega (arith, seen.1)
 
-    walks : Formed l → T (all_walked es 1 l.heads (Jobs n))
+    walks : Formed l → T (all_walked es 1 l.heads (Some n))
     walks f =
         let own = formed_own l f in
         own_all_walked es 1 l.jobs l.heads n own (own_short l w fit own) (formed_long l w fit f ∙ number)
 
-    forms : T (all_walked es 1 l.heads (Jobs n)) → Formed l
+    forms : T (all_walked es 1 l.heads (Some n)) → Formed l
     forms t =
         let r = all_walked_own es 1 l.jobs l.heads n t (counted_few l n w e) in
         record {

@@ -1,7 +1,8 @@
 -- The walks bench by bench: what is left of them, and the lengths of the chains behind.
+use Rattle.std.specs.Prelude.{Option, Some, None}
 use Prim.Native.Nat.{ℕ, suc, ◌+◌, ◌-◌, ◌≤◌, ◌<◌}
 use native.Mathlib.Omega.{arith}
-use mathlib.Core.Path.{◌≡◌, refl, sym, ap, ◌∙◌}
+use mathlib.Core.Path.{◌≡◌, sym, ap, ◌∙◌}
 use mathlib.Core.Bool.{Bool, false}
 use mathlib.Core.List.{List, []}
 use lib.Dec.{eqb}
@@ -15,10 +16,7 @@ use Rattle.table_words.specs.Bytes.{layout_in}
 use Rattle.table_size.specs.Sizes.{SizeOf, ByBench}
 use Rattle.table_size.specs.declared.Size.{Size}
 use Rattle.table_size.proofs.Sizes.{heads_long}
-use Rattle.table_record_form.specs.declared.Seen.{Seen}
-use Rattle.table_record_form.specs.declared.Seen.TheVariants.{Jobs, Broken}
 use Rattle.table_chain_form.specs.ChainWalks.{walked, all_walked}
-use Rattle.table_chain_form.specs.ChainLengths.{ChainLengths}
 use Rattle.table_chain_form.proofs.Walking.{all_step, all_broken, all_end}
 use Rattle.table_chain_form.proofs.Formed.{walked_long}
 
@@ -28,7 +26,7 @@ pub record LengthsTo (l : Layout) (s : Size) (x : ℕ) (lengths : List ℕ) : Ty
   pub chain : (y : ℕ) → 1 ≤ y → y < x → get_or lengths y 0 ≡ length (nth (chains l) y [])
 
 -- one more, as its walk found it
-lengths_turn : {l : Layout} {s : Size} {x : ℕ} {lengths : List ℕ} (n m : ℕ) → LengthsTo l s x lengths → x < length lengths → x ≤ s.benches → walked l.entries x n (nth l.heads x 0) ≡ Jobs m → n ≤ l.jobs → LengthsTo l s (x + 1) (set lengths x (n - m))
+lengths_turn : {l : Layout} {s : Size} {x : ℕ} {lengths : List ℕ} (n m : ℕ) → LengthsTo l s x lengths → x < length lengths → x ≤ s.benches → walked l.entries x n (nth l.heads x 0) ≡ Some m → n ≤ l.jobs → LengthsTo l s (x + 1) (set lengths x (n - m))
 lengths_turn {l} {s} {x} {lengths} n m to short bench e few =
     record {
       by_bench = record {
@@ -51,43 +49,28 @@ lengths_turn {l} {s} {x} {lengths} n m to short bench e few =
     go y low high (other d) = get_or-set_other lengths x y (n - m) 0 (λ k. d (sym k)) ∙ to.chain y low (omega arith)
 
 -- a table's walk at bench x, with `left` jobs left before it, and all walks of `count` jobs
-abbrev walk_at : List ℕ → ℕ → ℕ → Seen
+abbrev walk_at : List ℕ → ℕ → ℕ → Option ℕ
 walk_at t x left = walked (layout_in t).entries x left (nth (layout_in t).heads x 0)
 
 abbrev walks_of : List ℕ → ℕ → Bool
-walks_of t count = all_walked (layout_in t).entries 1 (layout_in t).heads (Jobs count)
+walks_of t count = all_walked (layout_in t).entries 1 (layout_in t).heads (Some count)
 
 -- the walks that are left from bench x on, with `left` jobs left before it, are all walks, and the lengths behind are right
 pub record WalkedTo (t : List ℕ) (s : Size) (count left x : ℕ) (lengths : List ℕ) : Type 0 where
   pub least : 1 ≤ x
   pub most : x ≤ s.benches + 1
   pub few : left ≤ s.jobs
-  pub rest : all_walked (layout_in t).entries x (drop (x - 1) (layout_in t).heads) (Jobs left) ≡ walks_of t count
+  pub rest : all_walked (layout_in t).entries x (drop (x - 1) (layout_in t).heads) (Some left) ≡ walks_of t count
   pub behind : LengthsTo (layout_in t) s x lengths
 
--- before the first bench none is behind ..
-pub walks_start : (t : List ℕ) (s : Size) (count : ℕ) {lengths : List ℕ} → ByBench s lengths → count ≤ s.jobs → WalkedTo t s count count 1 lengths
-walks_start t s count b few =
-    record {
-      least = omega arith;
-      most = omega arith;
-      few = few;
-      rest = refl;
-      behind = record { by_bench = b; chain = λ y low high. absurd (omega arith) };
-    }
-
 module _ {t : List ℕ} {s : Size} {count left x : ℕ} {lengths : List ℕ} (size : SizeOf t s) (to : WalkedTo t s count left x lengths) where
-  -- .. after the last all jobs are met exactly if none is left, and all lengths are there ..
+  -- after the last all jobs are met exactly if none is left ..
   pub walks_end : s.benches < x → eqb left 0 ≡ walks_of t count
   walks_end h =
       let long = heads_long t s size in
       all_end (layout_in t).entries x left (layout_in t).heads (omega arith) ∙ to.rest
 
-  pub walks_lengths : s.benches < x → ChainLengths (layout_in t) s lengths
-  walks_lengths h =
-      record { by_bench = to.behind.by_bench; chain = λ y b. to.behind.chain y b.least (omega arith) }
-
-  module _ {r : Seen} (bench : x ≤ s.benches) (e : r ≡ walk_at t x left) where
+  module _ {r : Option ℕ} (bench : x ≤ s.benches) (e : r ≡ walk_at t x left) where
     -- .. and bench x's walk is the next ..
     walks_next : walks_of t count ≡ all_walked (layout_in t).entries (x + 1) (drop (x + 1 - 1) (layout_in t).heads) r
     walks_next =
@@ -95,10 +78,10 @@ module _ {t : List ℕ} {s : Size} {count left x : ℕ} {lengths : List ℕ} (si
         rw e (sym to.rest ∙ all_step (layout_in t).entries x left (layout_in t).heads to.least (omega arith))
 
     -- .. which breaks all ..
-    pub walks_broken : r ≡ Broken → false ≡ walks_of t count
+    pub walks_broken : r ≡ None → false ≡ walks_of t count
     walks_broken d = sym (rw (d, all_broken) at walks_next)
 
-    module _ {n : ℕ} (d : r ≡ Jobs n) where
+    module _ {n : ℕ} (d : r ≡ Some n) where
       -- .. or leaves some of the jobs ..
       pub walks_less : n ≤ left
       walks_less =

@@ -11,70 +11,59 @@ ghost use Rattle.table_chain_form.specs.ChainWalks.{walked, all_walked};
 ghost use Rattle.table_chain_form.specs.ChainLengths.{ChainLengths};
 
 use table_header::heads;
-use table_record_form::Seen;
-use table_size::Size;
+use table_record_form::Counted;
+use table_size::{PerBench, Size};
 
-// Walks bench x's chain, before which `left` jobs are not yet met; how many are left after it.
-fn walk(t: &[u8], s: Size, x: usize, left: usize) -> Seen
+// Walks bench x's chain, before which `left` jobs are not yet met; how many are left after it. None where the chain has
+// more, or a job that x does not hold.
+fn walk(t: &[u8], s: Size, x: usize, mut left: usize) -> Option<usize>
     requires size_of { SizeOf t.now s }
     requires bench_in { BenchIn s x }
     ensures { result ≡ walked (layout_in t.now).entries x left
         (nth (layout_in t.now).heads x 0) }
 {
     let jobs = s.jobs();
-    let mut left = left;
     let mut j = heads::head(t, s, x);
     while j != 0 {
         if left == 0 || jobs < j {
-            return Seen::Broken;
+            return None;
         }
         let next = table_records::read_record(t, s, j).next;
         if table_records::holder_at(t, s, j) != x {
-            return Seen::Broken;
+            return None;
         }
         left -= 1;
         j = next;
     }
-    Seen::Jobs(left)
+    Some(left)
 }
 
 // Tells whether all chains have together this number of jobs, each held by its chain's bench. Leaves in `loads`, at
 // each bench, the number of jobs on its chain: a walk counts them anyway.
-fn walk_all(t: &[u8], s: Size, count: usize, loads: &mut [u16; Size::MOST_BENCHES + 1]) -> bool
+fn walk_all(t: &[u8], s: Size, count: usize, loads: &mut PerBench<u16>) -> bool
     requires size_of { SizeOf t.now s }
     requires by_bench { ByBench s loads.old }
     requires count_le_jobs { count ≤ s.jobs }
     ensures value { result ≡ all_walked (layout_in t.now).entries 1 (layout_in t.now).heads
-        (Seen.Jobs count) }
+        (Some count) }
     ensures chain_lengths { T result → ChainLengths (layout_in t.now) s loads.new }
 {
-    let benches = s.benches();
     let mut left = count;
-    let mut x = 1;
-    while x <= benches {
-        match walk(t, s, x, left) {
-            Seen::Broken => return false,
-            Seen::Jobs(n) => {
-                loads[x] = (left - n) as u16;
-                left = n;
-            }
-        }
-        x += 1;
+    for x in 1..s.benches() + 1 {
+        let Some(n) = walk(t, s, x, left) else {
+            return false;
+        };
+        loads[x] = (left - n) as u16;
+        left = n;
     }
     left == 0
 }
 
-// Tests the clauses of the sound table after its sizes; the first `done` records are counted, and `count` of them
-// stand. Of a table that passes, leaves in `loads`, at each bench, the number of jobs on its chain.
-pub fn is_formed(
-    t: &[u8],
-    s: Size,
-    done: usize,
-    count: usize,
-    loads: &mut [u16; Size::MOST_BENCHES + 1],
-) -> bool
+// Tests the clauses of the sound table after its sizes; the records of `done` are counted already. Of a table that
+// passes, leaves in `loads`, at each bench, the number of jobs on its chain.
+pub fn is_formed(t: &[u8], s: Size, done: Counted, loads: &mut PerBench<u16>) -> bool
     requires size_of { SizeOf t.now s }
-    requires counted_to { CountedTo t.now s done count }
+    requires counted_to { CountedTo t.now s done.records done.jobs }
     requires by_bench { ByBench s loads.old }
     ensures value { result ≡ formed (layout_in t.now) }
     ensures chain_lengths { T result → ChainLengths (layout_in t.now) s loads.new }
@@ -82,13 +71,11 @@ pub fn is_formed(
     if table_header::spare_word(t, s) != 0 {
         return false;
     }
-    match table_record_form::count_records(t, s, done, count) {
-        Seen::Broken => false,
-        Seen::Jobs(count) => {
-            if table_header::standing_word(t, s) != count {
-                return false;
-            }
-            walk_all(t, s, count, loads)
-        }
+    let Some(count) = table_record_form::count_records(t, s, done) else {
+        return false;
+    };
+    if table_header::standing_word(t, s) != count {
+        return false;
     }
+    walk_all(t, s, count, loads)
 }

@@ -3,12 +3,13 @@ use Prim.Native.Nat.{ℕ, zero, suc, ◌+◌, ◌-◌, ◌≤◌, ◌<◌}
 use native.Mathlib.Omega.{arith}
 use mathlib.Core.Path.{◌≡◌, refl, sym, ap, ◌∙◌, subst}
 use mathlib.Core.Logic.{◌⊎◌, inl, inr, ◌≢◌}
-use mathlib.Core.Bool.{true, false, not}
+use mathlib.Core.Bool.{Bool, true, false, not}
 use mathlib.Core.List.{List, [], ◌∷◌, ◌++◌, map, append-nil}
 use lib.Dec.{eqb}
 use lib.ListN.{length, get_or, take, drop, length-drop}
 use lib.Seq.{length-take-le, take-length, drop-length, take-suc, drop-cons, append_snoc, get_or_at, set_at, map-set_same}
 use borrow.Author.Tests.{ne_eqb}
+use Rattle.std.specs.Int.{from_bool}
 use Rattle.spec_lists.specs.Lists.{bit, range, filter, empty, nth, update}
 use Rattle.spec_table.specs.Board.{Board, names_of, holder_of, standing, stands}
 use Rattle.spec_table.specs.Table.{Entry, vacant, filled, holder_in, Layout, layout_of, board_of, decode, encode, first_held, entry_for, entries_from, bytes_of, flat, Storable}
@@ -161,18 +162,18 @@ pushed_holds_board t u s (suc j) k i l = same_board t u s (pushed (suc j) (layou
         ∙ (λ m. record { benches = (layout_in t).benches; named = named m; holders = holders m })
 
 -- a job without a holder is pushed by leaving it ..
-pub push_vacant : {t : List ℕ} {s : Size} {j : ℕ} → HoldsBoard t s → holder_of (decode t) j ≡ 0 → Pushed t t s j 0
+pub push_vacant : {t : List ℕ} {s : Size} {j : ℕ} → HoldsBoard t s → holder_of (decode t) j ≡ 0 → Pushed t t s j false
 unfolding pushed
 push_vacant {t} {s} {j} k e =
     record {
       holds_board = k;
       board = refl;
       layout = ap (push_for (layout_in t) j) (sym e ∙ holder_record t j);
-      count = sym (ap bit (stands_held t s j k ∙ ap (λ (h : ℕ). not (eqb h 0)) e));
+      stands = sym (stands_held t s j k ∙ ap (λ (h : ℕ). not (eqb h 0)) e);
     }
 
 -- .. and one that bench x holds by another next job in its record and another head of x
-pub push_held : {t v u : List ℕ} {s : Size} {j x n : ℕ} → HoldsBoard t s → JobIn s j → x ≡ holder_of (decode t) j → x ≢ 0 → HeadOf t x n → HasLayout v s (with_entry (layout_in t) j (with_next (nth (layout_in t).entries j vacant) n)) → HasLayout u s (with_head (layout_in v) x j) → Pushed t u s j 1
+pub push_held : {t v u : List ℕ} {s : Size} {j x n : ℕ} → HoldsBoard t s → JobIn s j → x ≡ holder_of (decode t) j → x ≢ 0 → HeadOf t x n → HasLayout v s (with_entry (layout_in t) j (with_next (nth (layout_in t).entries j vacant) n)) → HasLayout u s (with_head (layout_in v) x j) → Pushed t u s j true
 unfolding pushed
 push_held {t} {v} {u} {s} {j} {x} {n} k i h d w next head =
     let e : Entry = nth (layout_in t).entries j vacant in
@@ -184,7 +185,7 @@ push_held {t} {v} {u} {s} {j} {x} {n} k i h d w next head =
     ∙ sym at in
     let same = pushed_holds_board t u s j k i (record { size = head.size; layout = layout }) in
     let held : eqb (holder_of (decode t) j) 0 ≡ false = ne_eqb (holder_of (decode t) j) 0 (λ e. d (h ∙ e)) in
-    record { holds_board = same.0; board = same.1; layout = layout; count = sym (ap bit (stands_held t s j k ∙ ap not held)) }
+    record { holds_board = same.0; board = same.1; layout = layout; stands = sym (stands_held t s j k ∙ ap not held) }
 
 -- the holder of a job is a bench
 pub held_bench : (t : List ℕ) (s : Size) (j x : ℕ) → HolderOf t s j x → x ≢ 0 → BenchIn s x
@@ -221,14 +222,19 @@ pushing_start t s k =
       count = rw (sym k.size.board_jobs, drop-length (decode t).named);
     }
 
+-- what stands counts 1
+from_bit : (b : Bool) → from_bool b ≡ bit b
+from_bit true = refl
+from_bit false = refl
+
 -- .. each turn pushes the next one down ..
-pub pushing_turn : {t u v : List ℕ} {s : Size} {n m j : ℕ} → 1 ≤ j → Pushing t u s n j → Pushed u v s j m → Pushing t v s (n + m) (j - 1)
-pushing_turn {j = zero} l p q = absurd (omega arith)
-pushing_turn {t} {m} {j = suc j} l p q =
+pub pushing_turn : {t u v : List ℕ} {s : Size} {n m j : ℕ} {stood : Bool} → 1 ≤ j → Pushing t u s n j → Pushed u v s j stood → m ≡ from_bool stood → Pushing t v s (n + m) (j - 1)
+pushing_turn {j = zero} l p q f = absurd (omega arith)
+pushing_turn {t} {m} {j = suc j} {stood} l p q f =
     let e : suc j - 1 ≡ j = omega arith in
     let named : List (List ℕ) = (decode t).named in
     let few : j < length named = omega (arith, p.number, p.holds_board.size.board_jobs, ap (λ (b : Board). length b.named) p.board) in
-    let held : m ≡ bit (stands (decode t) (suc j)) = q.count ∙ ap (λ (b : Board). bit (stands b (suc j))) p.board in
+    let held : m ≡ bit (stands (decode t) (suc j)) = f ∙ from_bit stood ∙ ap bit (q.stands ∙ ap (λ (b : Board). stands b (suc j)) p.board) in
     rw e
     (record {
       number = omega (arith, p.number);

@@ -1,7 +1,7 @@
 -- Chains made anew, as the code goes: from the last job down, each held job is pushed at the front of its holder's
 -- chain.
-use Rattle.std.specs.Prelude.{ℕ, zero, suc, ◌≤◌, ◌<◌, ◌≡◌, List, ◌∷◌, ◌↔◌, T, length, get_or}
-use Rattle.spec_lists.specs.Lists.{bit, nth, In, distinct}
+use Rattle.std.specs.Prelude.{ℕ, zero, suc, ◌≤◌, ◌<◌, ◌≡◌, Bool, List, ◌∷◌, ◌↔◌, T, length, get_or}
+use Rattle.spec_lists.specs.Lists.{nth, In, distinct}
 use Rattle.spec_table.specs.Board.{stands, standing, holder_of}
 use Rattle.spec_table.specs.Table.{Layout, vacant, holder_in, decode, encode, follow}
 use Rattle.table_words.specs.Bytes.{layout_in}
@@ -65,12 +65,12 @@ abbrev pub pushed_from : ℕ → Layout → Layout
 pushed_from zero l = l
 pushed_from (suc j) l = pushed_from j (pushed (suc j) l)
 
--- the table u is t after job j was pushed; n is 1 if it stands
-pub record Pushed (t u : List ℕ) (s : Size) (j n : ℕ) : Type 0 where
+-- the table u is t after job j was pushed, and whether it stands
+pub record Pushed (t u : List ℕ) (s : Size) (j : ℕ) (stood : Bool) : Type 0 where
   pub holds_board : HoldsBoard u s
   pub board : decode u ≡ decode t
   pub layout : layout_in u ≡ pushed j (layout_in t)
-  pub count : n ≡ bit (stands (decode t) j)
+  pub stands : stood ≡ stands (decode t) j
 
 -- the table u is t after all jobs were pushed; n is the number of those that stand
 pub record Linked (t u : List ℕ) (s : Size) (n : ℕ) : Type 0 where

@@ -10,7 +10,7 @@ ghost use Rattle.table_chains.specs.Chains.{ChainOf, StoredHeads, NextOf, Chains
 
 use table_board::jobs;
 use table_header::heads;
-use table_size::Size;
+use table_size::{PerBench, Size};
 
 // Reads the first job on bench x's chain, 0 for none.
 pub fn head(t: &[u8], s: Size, x: usize) -> usize
@@ -22,7 +22,7 @@ pub fn head(t: &[u8], s: Size, x: usize) -> usize
 }
 
 // Writes, at x, the first job on bench x's chain; 0 stands beyond the last bench.
-pub fn copy_heads(t: &[u8], s: Size, head: &mut [u16; Size::MOST_BENCHES + 1])
+pub fn copy_heads(t: &[u8], s: Size, head: &mut PerBench<u16>)
     requires sound_table { SoundTable t.now s }
     requires head_value { head.old ≡ replicate (most_benches + 1) 0 }
     ensures { StoredHeads t.now s head.new }
@@ -40,20 +40,20 @@ pub fn next(t: &[u8], s: Size, j: usize) -> usize
     r.next
 }
 
-// Puts job j at the front of its holder's chain; 1 if it stands, else 0.
-fn push(t: &mut [u8], s: Size, j: usize) -> usize
+// Puts job j at the front of its holder's chain; tells whether it stands.
+fn push(t: &mut [u8], s: Size, j: usize) -> bool
     requires holds_board { HoldsBoard t.old s }
     requires job_in { JobIn s j }
     ensures { Pushed t.old t.new s j result }
 {
     let x = jobs::holder(t, s, j);
     if x == 0 {
-        return 0;
+        return false;
     }
     let behind = heads::head(t, s, x);
     table_records::write_next(t, s, j, behind);
     heads::write_head(t, s, x, j);
-    1
+    true
 }
 
 // Puts every standing job at the front of its holder's chain, from the last job down, so that chains rise; tells
@@ -63,10 +63,8 @@ fn push_all(t: &mut [u8], s: Size) -> usize
     ensures { Linked t.old t.new s result }
 {
     let mut count = 0;
-    let mut j = s.jobs();
-    while 0 < j {
-        count += push(t, s, j);
-        j -= 1;
+    for j in (1..s.jobs() + 1).rev() {
+        count += usize::from(push(t, s, j));
     }
     count
 }

@@ -1,4 +1,5 @@
 -- What the form check answers, and that it is true of the table and of the loads.
+use Rattle.std.specs.Prelude.{Result, Ok, Err}
 use Prim.Native.Nat.{ℕ}
 use native.Mathlib.Decide.{dec_le}
 use native.Mathlib.Omega.{arith}
@@ -14,41 +15,40 @@ use Rattle.spec_calls.proofs.Refusals.{form_stops}
 use Rattle.spec_calls.proofs.ChainOrder.{sound_outcome}
 use Rattle.table_words.specs.Bytes.{layout_in}
 use Rattle.table_size.proofs.Sizes.{misfit_size}
-use Rattle.table_size.specs.Sizes.{size_in, SizeOf, SoundTable}
+use Rattle.table_size.specs.Sizes.{SizeIn, SizeOf, SoundTable}
 use Rattle.table_size.specs.declared.Size.{Size}
-use Rattle.table_size.specs.declared.Sizing.TheVariants.{Misfit}
 use Rattle.table_board.specs.BoardView.{Loaded}
 use Rattle.table_board.proofs.RecordsAsBoard.{sound_holds_board, load_beyond}
 use Rattle.spec_table.proofs.AnyOrder.{chain_load}
 use Rattle.table_chain_form.specs.ChainLengths.{ChainLengths}
 use Rattle.table_rising.specs.Passing.{Rising, Encoded}
 use Rattle.table_refusals.specs.Refusals.{refusal_of}
-use Rattle.table_refusals.specs.declared.Refusal.TheVariants.{Sizes, Unsound}
+use Rattle.table_refusals.specs.declared.Refusal.TheVariants.{Unsound}
+use Rattle.table_refusals.specs.declared.Refusal.{Refusal}
 use Rattle.table_form.specs.FormCheck.{Checked, FormOf}
-use Rattle.table_form.specs.declared.Form.{Form}
-use Rattle.table_form.specs.declared.Form.TheVariants.{Refused, Sound}
+use Rattle.table_form.specs.declared.Sound.{Sound}
 
 -- what is said of the table is the definition's answer
-answered : (t loads : List ℕ) (f : Form) → Checked t loads f → FormOf t loads f
+answered : (t loads : List ℕ) (f : Result Sound Refusal) → Checked t loads f → FormOf t loads f
 unfolding question_conditions asked accepted
-answered t loads (Refused r) k = record { answer = sym (form_stops (ask form_check []) tt t (refusal_of r) k); says = k }
-answered t loads (Sound s rising) k =
+answered t loads (Err r) k = record { answer = sym (form_stops (ask form_check []) tt t (refusal_of r) k); says = k }
+answered t loads (Ok s) k =
     record { answer = sym (ap (λ o. o.answer) (sound_outcome (ask form_check []) tt t k.sound.sound)); says = k }
 
 -- refusal 1 where the sizes do not fit ..
-pub misfit_answered : (t loads : List ℕ) → size_in t ≡ Misfit → FormOf t loads (Refused Sizes)
-misfit_answered t loads e = answered t loads (Refused Sizes) (rw (misfit_size t e))
+pub misfit_answered : (t loads : List ℕ) {r : Refusal} → SizeIn t (Err r) → FormOf t loads (Err r)
+misfit_answered t loads {r} e = answered t loads (Err r) (rw (misfit_size t e, e.value.refusal))
 
 module _ {t : List ℕ} {s : Size} (z : SizeOf t s) where
   -- .. 2 where they do, but the clauses after them do not hold ..
-  pub unformed_answered : (loads : List ℕ) → formed (layout_in t) ≡ false → FormOf t loads (Refused Unsound)
+  pub unformed_answered : (loads : List ℕ) → formed (layout_in t) ≡ false → FormOf t loads (Err Unsound)
   unfolding sound
-  unformed_answered loads e = answered t loads (Refused Unsound) (rw (T→true (fits t) z.fit, e))
+  unformed_answered loads e = answered t loads (Err Unsound) (rw (T→true (fits t) z.fit, e))
 
   -- .. and sound where they do: by the walks, which leave the lengths of the chains, where the pass did not get through ..
-  pub formed_answered : {loads : List ℕ} → formed (layout_in t) ≡ true → ChainLengths (layout_in t) s loads → (Encoded t s → ⊥) → FormOf t loads (Sound s false)
+  pub formed_answered : {loads : List ℕ} → formed (layout_in t) ≡ true → ChainLengths (layout_in t) s loads → (Encoded t s → ⊥) → FormOf t loads (Ok (record { size = s; rising = false }))
   unfolding sound
-  formed_answered {loads} e c not = answered t loads (Sound s false) (record { sound = found; loaded = loaded; bytes = (λ n. absurd n, λ b. not (record { holds_board = sound_holds_board t s found; bytes = b })) })
+  formed_answered {loads} e c not = answered t loads (Ok (record { size = s; rising = false })) (record { sound = found; loaded = loaded; bytes = (λ n. absurd n, λ b. not (record { holds_board = sound_holds_board t s found; bytes = b })) })
     where
       is_sound_lem : T (sound t)
       is_sound_lem = both (fits t) (formed (layout_in t)) z.fit (true→T (formed (layout_in t)) e)
@@ -67,5 +67,5 @@ module _ {t : List ℕ} {s : Size} (z : SizeOf t s) where
           }
 
 -- .. or by the one pass, which shows the bytes, too
-pub rising_answered : {t : List ℕ} {s : Size} {loads : List ℕ} → Rising t s loads → FormOf t loads (Sound s true)
-rising_answered {t} {s} {loads} r = answered t loads (Sound s true) (record { sound = r.sound; loaded = r.loaded; bytes = (λ n. r.bytes, λ b. tt) })
+pub rising_answered : {t : List ℕ} {s : Size} {loads : List ℕ} → Rising t s loads → FormOf t loads (Ok (record { size = s; rising = true }))
+rising_answered {t} {s} {loads} r = answered t loads (Ok (record { size = s; rising = true })) (record { sound = r.sound; loaded = r.loaded; bytes = (λ n. r.bytes, λ b. tt) })

@@ -3,52 +3,50 @@
 // table, but the pair question, and each gets the loads from it.
 #![tactic(auto)]
 
-ghost use Rattle.std.specs.Prelude.{◌≡◌, ◌+◌, length, replicate};
+ghost use Rattle.std.specs.Prelude.{◌≡◌, ◌+◌, replicate};
 ghost use Rattle.spec_table.specs.Table.{most_benches};
 ghost use Rattle.table_form.specs.FormCheck.{FormOf};
 
 use table_refusals::Refusal;
-use table_rising::Pass;
-use table_size::{Size, Sizing};
+use table_size::{PerBench, Size};
 
-// What the form check answers.
+// What the form check tells of a sound table: its size, and whether the bytes are the encoding of the board, every
+// chain rising.
 #[derive(Clone, Copy)]
-pub enum Form {
-    // Refusal 1 or 2.
-    Refused(Refusal),
-    // The table's size, and whether the bytes are the encoding of the board, every chain rising.
-    Sound(Size, bool),
+pub struct Sound {
+    pub size: Size,
+    pub rising: bool,
 }
 
 // Checks any bytes. Where they are sound, `loads` gets the load of each bench. `due` is lent, zeros at first, and free
 // afterwards: a call that searches need not clear another array.
 pub fn check_with(
     t: &[u8],
-    due: &mut [u16; Size::MOST_BENCHES + 1],
-    loads: &mut [u16; Size::MOST_BENCHES + 1],
-) -> Form
+    due: &mut PerBench<u16>,
+    loads: &mut PerBench<u16>,
+) -> Result<Sound, Refusal>
     requires due_value { due.old ≡ replicate (most_benches + 1) 0 }
     requires loads_value { loads.old ≡ replicate (most_benches + 1) 0 }
-    ensures due_len { length due.new ≡ most_benches + 1 }
-    ensures form_of { FormOf t.now loads.new result }
+    ensures { FormOf t.now loads.new result }
 {
-    match Size::of(t) {
-        Sizing::Misfit => Form::Refused(Refusal::Sizes),
-        Sizing::Fit(s) => match table_rising::pass_over(t, s, due, loads) {
-            Pass::Rising => Form::Sound(s, true),
-            Pass::Ended(done, count) => {
-                if table_chain_form::is_formed(t, s, done, count, loads) {
-                    Form::Sound(s, false)
-                } else {
-                    Form::Refused(Refusal::Unsound)
-                }
+    let size = Size::of(t)?;
+    match table_rising::pass_over(t, size, due, loads) {
+        Ok(()) => Ok(Sound { size, rising: true }),
+        Err(done) => {
+            if table_chain_form::is_formed(t, size, done, loads) {
+                Ok(Sound {
+                    size,
+                    rising: false,
+                })
+            } else {
+                Err(Refusal::Unsound)
             }
-        },
+        }
     }
 }
 
 // Checks any bytes, with an array of its own for the due jobs.
-pub fn check(t: &[u8], loads: &mut [u16; Size::MOST_BENCHES + 1]) -> Form
+pub fn check(t: &[u8], loads: &mut PerBench<u16>) -> Result<Sound, Refusal>
     requires { loads.old ≡ replicate (most_benches + 1) 0 }
     ensures { FormOf t.now loads.new result }
 {

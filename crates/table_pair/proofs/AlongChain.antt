@@ -1,15 +1,15 @@
 -- A walk along a chain, record by record: what is left of it ends as the whole does.
+use Rattle.std.specs.Prelude.{Option, Some, None, Result, Ok, Err}
 use Prim.Native.Nat.{ℕ, zero, suc, ◌+◌, ◌-◌, ◌≤◌, ◌<◌}
 use native.Mathlib.Omega.{arith}
 use mathlib.Core.Path.{◌≡◌, refl, sym, ap, ◌∙◌}
-use mathlib.Core.Logic.{◌⊎◌, ⊎_elim}
 use mathlib.Core.Bool.{Bool, true, false, cond}
 use mathlib.Core.List.{List, []}
 use lib.Dec.{ltb}
 use lib.ListN.{length}
-use borrow.Author.Tests.{lt-ltb, le-ltb, ltb-true}
+use borrow.Author.Tests.{lt-ltb, le-ltb}
 use Rattle.spec_lists.specs.Lists.{within, nth}
-use Rattle.spec_lists.proofs.Tests.{true→T, T→true, never→false, both, left, right, within_high, within_both}
+use Rattle.spec_lists.proofs.Tests.{true→T, T→true, both, within_both}
 use Rattle.spec_table.proofs.Sound.{chain_from_lem}
 use Rattle.spec_table.specs.Table.{Entry, Layout, vacant, follow, chains}
 use Rattle.spec_pair.specs.Pair as paper
@@ -18,13 +18,23 @@ use Rattle.table_size.specs.Sizes.{SizeOf}
 use Rattle.table_size.specs.Written.{HeadOf}
 use Rattle.table_size.specs.declared.Size.{Size}
 use Rattle.table_pair.specs.Walking.{match_in, end_of, walk_of, step_at}
-use Rattle.table_pair.specs.declared.Step.{Step}
-use Rattle.table_pair.specs.declared.Step.TheVariants as step
+use Rattle.table_refusals.specs.declared.Refusal.{Refusal}
+use Rattle.table_refusals.specs.declared.Refusal.TheVariants.{Unsound}
 use Rattle.table_pair.specs.declared.Walked.{Walked}
-use Rattle.table_pair.specs.declared.Walked.TheVariants as walked
+
+-- how a walk ends
+abbrev End : Type 0
+End = Result Walked Refusal
+
+-- without a match, and at one, after so many records
+abbrev unmatched : ℕ → End
+unmatched read = end_of paper.unmatched read
+
+abbrev matched : ℕ → ℕ → End
+matched j read = end_of (paper.matched j) read
 
 -- how a walk ends of which n records are read before
-abbrev end_after : ℕ → paper.Walk → Walked
+abbrev end_after : ℕ → paper.Walk → End
 end_after n w = end_of w.end (n + length w.read)
 
 -- where none is, as the walk by itself
@@ -32,10 +42,10 @@ none_before : (w : paper.Walk) → end_after 0 w ≡ walk_of w
 none_before w = let none : 0 + length w.read ≡ length w.read = omega arith in ap (end_of w.end) none
 
 -- the record of job j is read after n others: the end, or how the walk goes on
-abbrev at_step : ℕ → ℕ → Walked → Step → Walked
-at_step j n onward step.Broken = walked.Broken
-at_step j n onward step.Match = walked.Matched j (n + 1)
-at_step j n onward (step.Next next) = onward
+abbrev at_step : ℕ → ℕ → End → Result (Option ℕ) Refusal → End
+at_step j n onward (Err r) = Err r
+at_step j n onward (Ok None) = matched j (n + 1)
+at_step j n onward (Ok (Some next)) = onward
 
 module _ (l : Layout) (x y j : ℕ) where
   -- what the record says is what the walk does
@@ -46,89 +56,76 @@ module _ (l : Layout) (x y j : ℕ) where
       e : Entry
       e = nth l.entries j vacant
 
-      go : (held named : Bool) → end_after n (paper.read_then j (cond held (cond named (paper.stop (paper.matched j)) onward) (paper.stop paper.broken))) ≡ at_step j n (end_after (n + 1) onward) (cond held (cond named step.Match (step.Next e.next)) step.Broken)
+      go : (held named : Bool) → end_after n (paper.read_then j (cond held (cond named (paper.stop (paper.matched j)) onward) (paper.stop paper.broken))) ≡ at_step j n (end_after (n + 1) onward) (cond held (Ok (cond named None (Some e.next))) (Err Unsound))
       go false named = refl
       go true true = refl
       go true false = let more : n + suc (length onward.read) ≡ n + 1 + length onward.read = omega arith in rw more refl
 
   -- a walk that goes on goes on with the record's next job
-  next_job : {n : ℕ} → step_at l x y j ≡ step.Next n → (nth l.entries j vacant).next ≡ n
+  next_job : {n : ℕ} → step_at l x y j ≡ Ok (Some n) → (nth l.entries j vacant).next ≡ n
   unfolding step_at
   next_job {n} = go (paper.is_held_by l.benches x e) (paper.names_both x y e.names)
     where
       e : Entry
       e = nth l.entries j vacant
 
-      go : (held named : Bool) → cond held (cond named step.Match (step.Next e.next)) step.Broken ≡ step.Next n → e.next ≡ n
+      go : (held named : Bool) → cond held (Ok (cond named None (Some e.next))) (Err Unsound) ≡ Ok (Some n) → e.next ≡ n
       go false named q = absurd (true→T false cc)
       go true true q = absurd (true→T false cc)
       go true false q = cc
 
--- "a number above the first match" ..
-above : (first j : ℕ) → 0 < first → first < j → paper.is_above (match_in first) j ≡ true
-above zero j m h = absurd (omega arith)
-above (suc m) j n h = lt-ltb (suc m) j h
+-- no "number above the first match"
+not_above : (met : Option ℕ) (j : ℕ) → ((m : ℕ) → met ≡ Some m → j ≤ m) → paper.is_above (match_in met) j ≡ false
+not_above None j h = refl
+not_above (Some m) j h = le-ltb m j (h m refl)
 
--- .. or none
-not_above : (first j : ℕ) → (0 < first → j ≤ first) → paper.is_above (match_in first) j ≡ false
-not_above zero j h = refl
-not_above (suc m) j h = le-ltb (suc m) j (h (omega arith))
-
--- "a number of 1 to J above the one before" ..
+-- "a number of 1 to J above the one before"
 may : (jobs before j : ℕ) → before < j → j ≤ jobs → paper.may_follow jobs before j ≡ true
 may jobs before j a b =
     T→true (paper.may_follow jobs before j) (both (within 1 jobs j) (ltb before j) (within_both 1 jobs j (omega arith) b) (true→T (ltb before j) (lt-ltb before j a)))
 
--- .. or another
-may_not : (jobs before j : ℕ) → (j ≤ before) ⊎ (jobs < j) → paper.may_follow jobs before j ≡ false
-may_not jobs before j o =
-    never→false (paper.may_follow jobs before j)
-    (λ t. let low = ltb-true before j (T→true (ltb before j) (right (within 1 jobs j) (ltb before j) t)) in
-    let high = within_high 1 jobs j (left (within 1 jobs j) (ltb before j) t) in
-    ⊎_elim (λ h. omega arith) (λ h. omega arith) o)
-
 -- the end of the whole walk along bench x's chain
-abbrev whole_of : Layout → ℕ → ℕ → ℕ → Walked
-whole_of l x y first = walk_of (paper.walk l x y (match_in first) 0 (nth (chains l) x []))
+abbrev whole_of : Layout → ℕ → ℕ → Option ℕ → End
+whole_of l x y met = walk_of (paper.walk l x y (match_in met) 0 (nth (chains l) x []))
 
 -- the end of the walk from job j on, after the job `before`, with so many records read and room for so many on the chain
-abbrev rest_of : Layout → ℕ → ℕ → ℕ → ℕ → ℕ → ℕ → ℕ → Walked
-rest_of l x y first before read room j =
-    end_after read (paper.walk l x y (match_in first) before (follow l.entries room j))
+abbrev rest_of : Layout → ℕ → ℕ → Option ℕ → ℕ → ℕ → ℕ → ℕ → End
+rest_of l x y met before read room j =
+    end_after read (paper.walk l x y (match_in met) before (follow l.entries room j))
 
 -- "or its end"
-rest_end : (l : Layout) (x y first before read room j : ℕ) → j ≡ 0 → rest_of l x y first before read (suc room) j ≡ walked.Unmatched read
-rest_end l x y first before read room j e = let none : read + 0 ≡ read = omega arith in rw e (ap walked.Unmatched none)
+rest_end : (l : Layout) (x y : ℕ) (met : Option ℕ) (before read room j : ℕ) → j ≡ 0 → rest_of l x y met before read (suc room) j ≡ unmatched read
+rest_end l x y met before read room j e = let none : read + 0 ≡ read = omega arith in rw e (ap unmatched none)
 
 -- job j is on the chain: the walk ends there, or reads its record
-rest_step : (l : Layout) (x y first before read room j : ℕ) → 1 ≤ j → let onward = paper.walk l x y (match_in first) j (follow l.entries room (nth l.entries j vacant).next) in rest_of l x y first before read (suc room) j ≡ cond (paper.is_above (match_in first) j) (walked.Unmatched read) (cond (paper.may_follow l.jobs before j) (at_step j read (end_after (read + 1) onward) (step_at l x y j)) walked.Broken)
-rest_step l x y first before read room zero h = absurd (omega arith)
-rest_step l x y first before read room (suc i) h = go (paper.is_above (match_in first) (suc i)) (paper.may_follow l.jobs before (suc i))
+rest_step : (l : Layout) (x y : ℕ) (met : Option ℕ) (before read room j : ℕ) → 1 ≤ j → let onward = paper.walk l x y (match_in met) j (follow l.entries room (nth l.entries j vacant).next) in rest_of l x y met before read (suc room) j ≡ cond (paper.is_above (match_in met) j) (unmatched read) (cond (paper.may_follow l.jobs before j) (at_step j read (end_after (read + 1) onward) (step_at l x y j)) (Err Unsound))
+rest_step l x y met before read room zero h = absurd (omega arith)
+rest_step l x y met before read room (suc i) h = go (paper.is_above (match_in met) (suc i)) (paper.may_follow l.jobs before (suc i))
   where
     onward : paper.Walk
-    onward = paper.walk l x y (match_in first) (suc i) (follow l.entries room (nth l.entries (suc i) vacant).next)
+    onward = paper.walk l x y (match_in met) (suc i) (follow l.entries room (nth l.entries (suc i) vacant).next)
 
-    go : (above may : Bool) → end_after read (cond above (paper.stop paper.unmatched) (cond may (paper.at_record l x y (suc i) onward) (paper.stop paper.broken))) ≡ cond above (walked.Unmatched read) (cond may (at_step (suc i) read (end_after (read + 1) onward) (step_at l x y (suc i))) walked.Broken)
-    go true may = let none : read + 0 ≡ read = omega arith in ap walked.Unmatched none
+    go : (above may : Bool) → end_after read (cond above (paper.stop paper.unmatched) (cond may (paper.at_record l x y (suc i) onward) (paper.stop paper.broken))) ≡ cond above (unmatched read) (cond may (at_step (suc i) read (end_after (read + 1) onward) (step_at l x y (suc i))) (Err Unsound))
+    go true may = let none : read + 0 ≡ read = omega arith in ap unmatched none
     go false true = read_record l x y (suc i) read onward
     go false false = refl
 
 -- `read` records are read, `before` is the last of them, and job j is the next on the chain: what is left of the walk ends
 -- as the whole does. The numbers rise, so that no more records are read than the last number says, and the chain is not
 -- cut off before a number that does not rise
-pub record Along (t : List ℕ) (s : Size) (x y first before read j : ℕ) : Type 0 where
+pub record Along (t : List ℕ) (s : Size) (x y : ℕ) (met : Option ℕ) (before read j : ℕ) : Type 0 where
   pub few : read ≤ before
   pub most : before ≤ s.jobs
   pub room : ℕ
   pub all : read + room ≡ s.jobs
-  pub rest : rest_of (layout_in t) x y first before read (suc room) j ≡ whole_of (layout_in t) x y first
+  pub rest : rest_of (layout_in t) x y met before read (suc room) j ≡ whole_of (layout_in t) x y met
 
 -- before the first job nothing is read ..
-pub along_start : {t : List ℕ} {s : Size} {x j : ℕ} (y first : ℕ) → SizeOf t s → HeadOf t x j → Along t s x y first 0 0 j
-along_start {t} {s} {x} {j} y first size h =
+pub along_start : {t : List ℕ} {s : Size} {x j : ℕ} (y : ℕ) (met : Option ℕ) → SizeOf t s → HeadOf t x j → Along t s x y met 0 0 j
+along_start {t} {s} {x} {j} y met size h =
     let l = layout_in t in
     let f = follow l.entries (suc l.jobs) in
-    let w = paper.walk l x y (match_in first) 0 in
+    let w = paper.walk l x y (match_in met) 0 in
     record {
       few = omega arith;
       most = omega arith;
@@ -138,59 +135,49 @@ along_start {t} {s} {x} {j} y first size h =
     }
 
 -- job j's record is to be read after that of the job `before`, and may be
-pub record ToRead (s : Size) (first before j : ℕ) : Type 0 where
-  pub limit : 0 < first → j ≤ first
+pub record ToRead (s : Size) (met : Option ℕ) (before j : ℕ) : Type 0 where
+  pub limit : (m : ℕ) → met ≡ Some m → j ≤ m
   pub after : before < j
   pub most : j ≤ s.jobs
 
-module _ {t : List ℕ} {s : Size} {x y first before read j : ℕ} (size : SizeOf t s) (along : Along t s x y first before read j) where
+module _ {t : List ℕ} {s : Size} {x y : ℕ} {met : Option ℕ} {before read j : ℕ} (size : SizeOf t s) (along : Along t s x y met before read j) where
   abbrev l : Layout
   l = layout_in t
 
-  abbrev whole : Walked
-  whole = whole_of l x y first
+  abbrev whole : End
+  whole = whole_of l x y met
 
   -- .. and the walk ends with the chain ..
-  pub along_end : j ≡ 0 → walked.Unmatched read ≡ whole
-  along_end e = sym (rest_end l x y first before read along.room j e) ∙ along.rest
+  pub along_end : j ≡ 0 → unmatched read ≡ whole
+  along_end e = sym (rest_end l x y met before read along.room j e) ∙ along.rest
 
-  -- .. or at "a number above the first match (that record is not read)" ..
-  pub along_above : 0 < first → first < j → walked.Unmatched read ≡ whole
-  along_above m h = rw (above first j m h) at (sym (rest_step l x y first before read along.room j (omega arith)) ∙ along.rest)
-
-  -- .. or at no "number of 1 to J above the one before" ..
-  pub along_wrong : 1 ≤ j → (0 < first → j ≤ first) → (j ≤ before) ⊎ (s.jobs < j) → walked.Broken ≡ whole
-  along_wrong h limit o =
-      let wrong = may_not l.jobs before j (rw size.jobs o) in
-      rw (not_above first j limit, wrong) at (sym (rest_step l x y first before read along.room j h) ∙ along.rest)
-
-  module _ (to : ToRead s first before j) {r : Step} (says : r ≡ step_at l x y j) where
-    abbrev onward : Walked
-    onward = rest_of l x y first j (read + 1) along.room (nth l.entries j vacant).next
+  module _ (to : ToRead s met before j) where
+    abbrev onward : End
+    onward = rest_of l x y met j (read + 1) along.room (nth l.entries j vacant).next
 
     -- .. and else reads the record ..
-    along_read : at_step j read onward r ≡ whole
-    along_read =
+    along_read : {r : Result (Option ℕ) Refusal} → r ≡ step_at l x y j → at_step j read onward r ≡ whole
+    along_read says =
         let right = may l.jobs before j to.after (rw size.jobs to.most) in
-        let next = sym (rest_step l x y first before read along.room j (omega (arith, to.after))) ∙ along.rest in
-        ap (at_step j read onward) says ∙ rw (not_above first j to.limit, right) at next
+        let next = sym (rest_step l x y met before read along.room j (omega (arith, to.after))) ∙ along.rest in
+        ap (at_step j read onward) says ∙ rw (not_above met j to.limit, right) at next
 
     -- .. which may not be read ..
-    pub along_broken : r ≡ step.Broken → walked.Broken ≡ whole
-    along_broken e = rw e at along_read
+    pub along_broken : {r : Refusal} → Err r ≡ step_at l x y j → Err r ≡ whole
+    along_broken says = along_read says
 
     -- .. or matches ..
-    pub along_match : r ≡ step.Match → walked.Matched j (read + 1) ≡ whole
-    along_match e = rw e at along_read
+    pub along_match : Ok None ≡ step_at l x y j → matched j (read + 1) ≡ whole
+    along_match says = along_read says
 
     -- .. or leads on
-    pub along_turn : {n : ℕ} → r ≡ step.Next n → Along t s x y first j (read + 1) n
-    along_turn {n} e =
+    pub along_turn : {n : ℕ} → Ok (Some n) ≡ step_at l x y j → Along t s x y met j (read + 1) n
+    along_turn {n} says =
         let more : suc (along.room - 1) ≡ along.room = omega (arith, along.few, along.all, to.after, to.most) in
         record {
           few = omega (arith, along.few, to.after);
           most = to.most;
           room = along.room - 1;
           all = omega (arith, along.all, more);
-          rest = rw (more, ← next_job l x y j (sym says ∙ e)) (sym (ap (at_step j read onward) e) ∙ along_read);
+          rest = rw (more, ← next_job l x y j (sym says)) (along_read says);
         }

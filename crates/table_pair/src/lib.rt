@@ -11,57 +11,46 @@ ghost use Rattle.table_pair.specs.Walking.{match_in, walk_of, step_at};
 
 use table_header::heads;
 use table_record_form::Kind;
+use table_records::Record;
+use table_refusals::Refusal;
 use table_size::Size;
 
-// What a record says to the walk that reads it.
+// What a walk found: the matching job, if there is one, and how many records it read.
 #[derive(Clone, Copy)]
-enum Step {
-    // It fails.
-    Broken,
-    // It names both benches.
-    Match,
-    // The walk goes on with this job.
-    Next(usize),
+pub struct Walked {
+    pub job: Option<usize>,
+    pub records: usize,
 }
 
-// How a walk ends.
-#[derive(Clone, Copy)]
-pub enum Walked {
-    // At a number or record that fails.
-    Broken,
-    // Without a match: the records read.
-    Unmatched(usize),
-    // At a matching job: the job, the records read.
-    Matched(usize, usize),
-}
-
-// Reads job j's record on bench x's chain: it must name two different benches of 1 to B, and x must hold it.
-fn step_at(t: &[u8], s: Size, x: usize, y: usize, j: usize) -> Step
+// Reads job j's record on bench x's chain: it must name two different benches of 1 to B, and x must hold it. The next
+// job on the chain, or None where it names y, too.
+fn step_at(t: &[u8], s: Size, x: usize, y: usize, j: usize) -> Result<Option<usize>, Refusal>
     requires size_of { SizeOf t.now s }
     requires job_in { JobIn s j }
     ensures { result ≡ step_at (layout_in t.now) x y j }
 {
     let r = table_records::read_record(t, s, j);
-    let first = r.first;
-    let second = r.second;
-    let next = r.next;
-    match table_record_form::kind_of(s, r) {
-        Kind::Fitting => {
-            if table_records::holder_at(t, s, j) != x {
-                return Step::Broken;
-            }
-            if first == y || second == y {
-                return Step::Match;
-            }
-            Step::Next(next)
-        }
-        _ => Step::Broken,
+    let Record {
+        first,
+        second,
+        next,
+        ..
+    } = r;
+    let Kind::Fitting = table_record_form::kind_of(s, r) else {
+        return Err(Refusal::Unsound);
+    };
+    if table_records::holder_at(t, s, j) != x {
+        return Err(Refusal::Unsound);
     }
+    if first == y || second == y {
+        return Ok(None);
+    }
+    Ok(Some(next))
 }
 
-// Reads bench x's chain up to a match with bench y, a number above `met`, or its end. `met` is the first match, 0 for
-// none; the record of a number above it is not read, so that the number is not tested.
-pub fn walk(t: &[u8], s: Size, x: usize, y: usize, met: usize) -> Walked
+// Reads bench x's chain up to a match with bench y, a number above `met`, or its end. `met` is the first match; the
+// record of a number above it is not read, so that the number is not tested.
+pub fn walk(t: &[u8], s: Size, x: usize, y: usize, met: Option<usize>) -> Result<Walked, Refusal>
     requires size_of { SizeOf t.now s }
     requires bench_in { BenchIn s x }
     ensures { result ≡ walk_of (walk (layout_in t.now) x y (match_in met) 0
@@ -69,24 +58,24 @@ pub fn walk(t: &[u8], s: Size, x: usize, y: usize, met: usize) -> Walked
 {
     let jobs = s.jobs();
     let mut before = 0;
-    let mut read = 0;
+    let mut records = 0;
     let mut j = heads::head(t, s, x);
     while j != 0 {
-        if 0 < met && met < j {
-            return Walked::Unmatched(read);
+        if met.is_some_and(|first| first < j) {
+            return Ok(Walked { job: None, records });
         }
         if j <= before || jobs < j {
-            return Walked::Broken;
+            return Err(Refusal::Unsound);
         }
-        read += 1;
-        match step_at(t, s, x, y, j) {
-            Step::Broken => return Walked::Broken,
-            Step::Match => return Walked::Matched(j, read),
-            Step::Next(next) => {
-                before = j;
-                j = next;
-            }
-        }
+        records += 1;
+        let Some(next) = step_at(t, s, x, y, j)? else {
+            return Ok(Walked {
+                job: Some(j),
+                records,
+            });
+        };
+        before = j;
+        j = next;
     }
-    Walked::Unmatched(read)
+    Ok(Walked { job: None, records })
 }

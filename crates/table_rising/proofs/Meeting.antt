@@ -3,7 +3,7 @@ use Prim.Native.Nat.{ℕ, suc, ◌+◌, ◌*◌, ◌≤◌, ◌<◌}
 use native.Mathlib.Omega.{arith}
 use native.Mathlib.Numerals.{add-one}
 use mathlib.Core.Path.{◌≡◌, refl, sym, ap, subst, ◌∙◌}
-use mathlib.Core.Logic.{inr, ◌≢◌, ◌↔◌}
+use mathlib.Core.Logic.{◌↔◌}
 use mathlib.Core.Bool.{Bool}
 use mathlib.Core.List.{List}
 use lib.Dec.{T, eqb}
@@ -19,7 +19,7 @@ use Rattle.spec_table.specs.Table.{most_benches, words, Entry, vacant, filled, h
 use Rattle.spec_table.proofs.Sound.{fit_storable, standing_from, standing_count, layout_pairs, two_benches, holder_within, holder_record}
 use Rattle.spec_table.proofs.Places.{word_at}
 use Rattle.table_words.specs.Bytes.{layout_in}
-use Rattle.table_size.specs.Sizes.{SizeOf, BenchIn, ByBench}
+use Rattle.table_size.specs.Sizes.{SizeOf, BenchIn}
 use Rattle.table_size.specs.Written.{record_in, HeadsOf, with_heads, with_standing, cleared}
 use Rattle.table_size.specs.declared.Size.{Size}
 use Rattle.table_size.proofs.Sizes.{heads_long, zeros_by_bench}
@@ -34,7 +34,7 @@ use Rattle.table_record_form.proofs.KindOfRecord.{vacant_unheld, fitting_tests}
 use Rattle.table_record_form.proofs.CountedRecords.{AllFit, counted_none, counted_pass, counted_turn, counted_end, counted_seen}
 use Rattle.table_chains.specs.Chains.{pushed, pushed_from}
 use Rattle.table_chains.proofs.Rebuilding.{rebuild_layout, rebuild_bytes}
-use Rattle.table_rising.specs.Passing.{due_heads, DueWords, Before, Met, Unmet, Passed, NoneDue, Rising}
+use Rattle.table_rising.specs.Passing.{due_heads, DueWords, Before, Met, Passed, NoneDue, Rising}
 use Rattle.table_rising.proofs.Undoing.{undo_vacant, undo_standing}
 use Rattle.table_rising.proofs.LoadCounts.{LoadsTo, loads_start, loads_turn, loads_pass, loads_few, loads_end}
 
@@ -95,25 +95,9 @@ module _ (s : Size) {t : List ℕ} {j : ℕ} {r : Record} (f : RecordOf t j r) (
     holder_there : x ≡ holder_in (record_in t j)
     holder_there = a.value ∙ ap (λ (e : Entry). nth (record_in t j).names e.holder 0) f.entry
 
-    -- .. a bench of 1 to B ..
+    -- .. a bench of 1 to B
     pub read_bench_lem : BenchIn s x
     read_bench_lem = subst (BenchIn s) (sym holder_there) (kind_bench t s j read_fits)
-
-    -- .. if another job is due there, this one can't be met ..
-    pub read_not_met : (due : List ℕ) → get_or due x 0 ≢ j → Unmet s (record_in t j) j due
-    read_not_met due d = inr (read_fits, λ u. d (ap (λ (y : ℕ). get_or due y 0) holder_there ∙ u))
-
-    -- .. and if it is due there, it is met
-    pub read_met : {due loads : List ℕ} → get_or due x 0 ≡ j → Met s (record_in t j) j due loads (set due x r.next) (set loads x (get_or loads x 0 + 1))
-    read_met {due} {loads} u =
-        let n : r.next ≡ (record_in t j).next = ap (λ (e : Entry). e.next) f.entry in
-        record {
-          fits = read_fits;
-          in_turn = ap (λ (y : ℕ). get_or due y 0) (sym holder_there) ∙ u;
-          next = λ i. set due (holder_there i) (n i);
-          word = omega (arith, n, f.small.next);
-          load = λ i. set loads (holder_there i) (get_or loads (holder_there i) 0 + 1);
-        }
 
 -- the pass
 
@@ -138,14 +122,11 @@ meeting_start {t} {s} {due} {loads} z h e small =
       beyond = rw e (zeros_by_bench s).beyond;
     }
 
--- .. until a job is not met, no bench has more than the jobs before it, and none beyond B has one ..
+-- .. until a job is not met, no bench has more than the jobs before it ..
 module _ {t : List ℕ} {s : Size} {due loads : List ℕ} {count done : ℕ} (m : Meeting t s due loads count done) where
   pub meeting_before : SizeOf t s → Before s (done + 1) loads
   meeting_before z =
       record { long = m.loaded.long; below = λ x b. omega (arith, loads_few m.loaded x b.least (omega (arith, b.most, z.limits.benches_most))) }
-
-  pub meeting_by_bench : {loads₂ : List ℕ} → loads₂ ≡ loads → ByBench s loads₂
-  meeting_by_bench e = rw e (record { long = m.loaded.long; beyond = m.beyond })
 
 module _ {t : List ℕ} {s : Size} {due loads : List ℕ} {count done : ℕ} (z : SizeOf t s) (m : Meeting t s due loads count done) (d : done < s.jobs) where
   abbrev e : Entry

@@ -1,5 +1,5 @@
 -- The pass over the jobs in rising order: at each bench the job that is due, the next one that its chain leads to.
-use Rattle.std.specs.Prelude.{ℕ, ◌+◌, ◌<◌, ◌≡◌, ◌⊎◌, ◌≢◌, List, map, length, get_or, set}
+use Rattle.std.specs.Prelude.{ℕ, ◌+◌, ◌<◌, ◌≡◌, ◌⊎◌, ◌≢◌, List, map, length, get_or, set, Result, Ok, Err}
 use Rattle.spec_lists.specs.Lists.{range}
 use Rattle.spec_table.specs.Table.{most_benches, Entry, holder_in, decode, encode}
 use Rattle.table_words.specs.Bytes.{layout_in}
@@ -9,10 +9,9 @@ use Rattle.table_size.specs.declared.Size.{Size}
 use Rattle.table_board.specs.BoardView.{HoldsBoard, Loaded}
 use Rattle.table_chains.specs.Chains.{pushed_from}
 use Rattle.table_record_form.specs.Kinds.{kind_of, CountedTo}
+use Rattle.table_record_form.specs.declared.Counted.{Counted}
 use Rattle.table_record_form.specs.declared.Kind.TheVariants.{Vacant, Fitting, Unfit}
 use Rattle.table_rising.specs.declared.Turn.{Turn}
-use Rattle.table_rising.specs.declared.Reach.{Reach}
-use Rattle.table_rising.specs.declared.Pass.{Pass}
 
 -- the due jobs of benches 1 to B, as heads of chains
 abbrev pub due_heads : Size → List ℕ → List ℕ
@@ -56,9 +55,9 @@ pub record Passed (t : List ℕ) (s : Size) (due loads : List ℕ) (n : ℕ) : T
   pub loaded : Loaded (decode t) loads
 
 -- how many jobs were met: all, or so many of them, and their records are counted
-abbrev pub ReachedAs : List ℕ → Size → List ℕ → List ℕ → Reach → Type 0
-ReachedAs t s due loads (Reach.All n) = Passed t s due loads n
-ReachedAs t s due loads (Reach.Part done count) = CountedTo t s done count
+abbrev pub ReachedAs : List ℕ → Size → List ℕ → List ℕ → Result ℕ Counted → Type 0
+ReachedAs t s due loads (Ok n) = Passed t s due loads n
+ReachedAs t s due loads (Err c) = CountedTo t s c.records c.jobs
 
 -- no job is due: every chain came to its end
 abbrev pub NoneDue : Size → List ℕ → Type 0
@@ -77,9 +76,9 @@ pub record Encoded (t : List ℕ) (s : Size) : Type 0 where
   pub bytes : t ≡ encode (decode t)
 
 -- what is met of such a table: all jobs, and none is due in the end
-abbrev pub AllInTurn : Size → List ℕ → Reach → Type 0
-AllInTurn s due (Reach.All n) = NoneDue s due
-AllInTurn s due (Reach.Part done count) = ⊥
+abbrev pub AllInTurn : Size → List ℕ → Result ℕ Counted → Type 0
+AllInTurn s due (Ok n) = NoneDue s due
+AllInTurn s due (Err c) = ⊥
 
 -- the pass did not get through: the bytes are not the encoding of a board; the first `done` records are counted
 pub record NotRising (t : List ℕ) (s : Size) (loads : List ℕ) (done count : ℕ) : Type 0 where
@@ -88,6 +87,6 @@ pub record NotRising (t : List ℕ) (s : Size) (loads : List ℕ) (done count : 
   pub by_bench : ByBench s loads
 
 -- what each end of the pass says
-abbrev pub PassOf : List ℕ → Size → List ℕ → Pass → Type 0
-PassOf t s loads Pass.Rising = Rising t s loads
-PassOf t s loads (Pass.Ended done count) = NotRising t s loads done count
+abbrev pub PassOf : List ℕ → Size → List ℕ → Result (Unit {0}) Counted → Type 0
+PassOf t s loads (Ok u) = Rising t s loads
+PassOf t s loads (Err c) = NotRising t s loads c.records c.jobs

@@ -3,9 +3,9 @@
 // every chain rising; else they are not, and it is told how many records were counted, for a check that goes on there.
 #![tactic(auto)]
 
-ghost use Rattle.std.specs.Prelude.{◌≡◌, ◌↔◌, ◌+◌, T, length, replicate};
+ghost use Rattle.std.specs.Prelude.{◌≡◌, ◌↔◌, ◌+◌, T, replicate};
 ghost use Rattle.spec_table.specs.Table.{most_benches};
-ghost use Rattle.table_size.specs.Sizes.{SizeOf, JobIn, ByBench, Limits};
+ghost use Rattle.table_size.specs.Sizes.{SizeOf, JobIn, ByBench};
 ghost use Rattle.table_size.specs.Written.{record_in, HeadsOf};
 ghost use Rattle.table_rising.specs.Passing.{
   DueWords,
@@ -19,17 +19,8 @@ ghost use Rattle.table_rising.specs.Passing.{
 };
 
 use table_header::heads;
-use table_record_form::Kind;
-use table_size::Size;
-
-// How the pass ended.
-#[derive(Clone, Copy)]
-pub enum Pass {
-    // Got through.
-    Rising,
-    // Not got through; so many records are counted, and so many of them stand.
-    Ended(usize, usize),
-}
+use table_record_form::{Counted, Kind};
+use table_size::{PerBench, Size};
 
 // What meeting a job tells.
 #[derive(Clone, Copy)]
@@ -41,114 +32,95 @@ enum Turn {
     NotMet,
 }
 
-// How many jobs were met.
-#[derive(Clone, Copy)]
-enum Reach {
-    // All; so many stand.
-    All(usize),
-    // So many, before one that can't be met, and so many of them stand.
-    Part(usize, usize),
-}
-
 // Meets job j. If it stands, it must fit and be due at its holder; then the next job on that chain is due there, and
 // the holder has one job more.
-fn meet(
-    t: &[u8],
-    s: Size,
-    j: usize,
-    due: &mut [u16; Size::MOST_BENCHES + 1],
-    loads: &mut [u16; Size::MOST_BENCHES + 1],
-) -> Turn
+fn meet(t: &[u8], s: Size, j: usize, due: &mut PerBench<u16>, loads: &mut PerBench<u16>) -> Turn
     requires size_of { SizeOf t.now s }
     requires job_in { JobIn s j }
-    requires due_len { length due.old ≡ most_benches + 1 }
     requires due_words { DueWords s due.old }
     requires before { Before s j loads.old }
     ensures { MetAs s (record_in t.now j) j due.old loads.old
         due.new loads.new result }
 {
     let r = table_records::read_record(t, s, j);
-    let place = r.holder;
-    let next = r.next;
     match table_record_form::kind_of(s, r) {
         Kind::Vacant => Turn::Vacant,
         Kind::Unfit => Turn::NotMet,
         Kind::Fitting => {
-            let x = table_records::name_at(t, s, j, place);
+            let x = table_records::name_at(t, s, j, r.holder);
             // Compares in the width of the loop's counter: compiled, j needs no second one of 16 bits.
-            if due[x] as usize != j {
+            if usize::from(due[x]) != j {
                 return Turn::NotMet;
             }
-            due[x] = next as u16;
+            due[x] = r.next as u16;
             loads[x] += 1;
             Turn::Met
         }
     }
 }
 
-// Meets the jobs in rising order, from the first jobs on the chains on, as long as they can be met.
+// Meets the jobs in rising order, from the first jobs on the chains on: how many stand, or what is counted before one
+// that can't be met.
 fn meet_all(
     t: &[u8],
     s: Size,
-    due: &mut [u16; Size::MOST_BENCHES + 1],
-    loads: &mut [u16; Size::MOST_BENCHES + 1],
-) -> Reach
+    due: &mut PerBench<u16>,
+    loads: &mut PerBench<u16>,
+) -> Result<usize, Counted>
     requires size_of { SizeOf t.now s }
     requires heads_of { HeadsOf t.now s due.old }
     requires loads_value { loads.old ≡ replicate (most_benches + 1) 0 }
     ensures reached_as { ReachedAs t.now s due.new loads.new result }
     ensures all_in_turn { Encoded t.now s → AllInTurn s due.new result }
     ensures by_bench { ByBench s loads.new }
-    ensures due_len { length due.new ≡ most_benches + 1 }
 {
-    let jobs = s.jobs();
     let mut count = 0;
-    let mut done = 0;
-    while done < jobs {
-        done += 1;
-        match meet(t, s, done, due, loads) {
-            Turn::NotMet => return Reach::Part(done - 1, count),
-            Turn::Met => count += 1,
+    for j in 1..s.jobs() + 1 {
+        match meet(t, s, j, due, loads) {
             Turn::Vacant => {}
+            Turn::Met => count += 1,
+            Turn::NotMet => {
+                return Err(Counted {
+                    records: j - 1,
+                    jobs: count,
+                });
+            }
         }
     }
-    Reach::All(count)
+    Ok(count)
 }
 
 // Tells whether no job is due: whether the greatest number is 0.
-fn none_due(s: Size, due: &[u16; Size::MOST_BENCHES + 1]) -> bool
-    requires { Limits s }
+fn none_due(s: Size, due: &PerBench<u16>) -> bool
     ensures { T result ↔ NoneDue s due.now }
 {
     s.greatest(due) == 0
 }
 
-// Makes the pass; where it gets through, the loads are the benches'. The jobs that are due stand in `due`, which is
-// lent: what is left in it means nothing.
+// Makes the pass; where it gets through, the loads are the benches', and where not, the error is what is counted. The
+// jobs that are due stand in `due`, which is lent: what is left in it means nothing.
 pub fn pass_over(
     t: &[u8],
     s: Size,
-    due: &mut [u16; Size::MOST_BENCHES + 1],
-    loads: &mut [u16; Size::MOST_BENCHES + 1],
-) -> Pass
+    due: &mut PerBench<u16>,
+    loads: &mut PerBench<u16>,
+) -> Result<(), Counted>
     requires size_of { SizeOf t.now s }
     requires due_value { due.old ≡ replicate (most_benches + 1) 0 }
     requires loads_value { loads.old ≡ replicate (most_benches + 1) 0 }
-    ensures due_len { length due.new ≡ most_benches + 1 }
-    ensures pass_of { PassOf t.now s loads.new result }
+    ensures { PassOf t.now s loads.new result }
 {
     heads::copy_heads(t, s, due);
-    match meet_all(t, s, due, loads) {
-        Reach::Part(done, count) => Pass::Ended(done, count),
-        Reach::All(count) => {
-            if table_header::spare_word(t, s) == 0
-                && table_header::standing_word(t, s) == count
-                && none_due(s, due)
-            {
-                Pass::Rising
-            } else {
-                Pass::Ended(s.jobs(), count)
-            }
-        }
+    let count = meet_all(t, s, due, loads)?;
+    if table_header::spare_word(t, s) == 0
+        && table_header::standing_word(t, s) == count
+        && none_due(s, due)
+    {
+        Ok(())
+    } else {
+        Err(Counted {
+            records: s.jobs(),
+            jobs: count,
+        })
     }
 }

@@ -1,13 +1,9 @@
--- The form check's answer is a refusal, or that the table is sound and the loads are its: all that an arrival asks for.
+-- The form check's refusal; what an arrival on a sound table is, the call that makes it tells.
+use mathlib.Core.List.{[], ◌∷◌}
 use Rattle.spec_calls.specs.Calls.{arrival}
-use Rattle.board_answers.proofs.Formal.{form_refused}
+use Rattle.board_answers.proofs.Formal.{form_refused, passed_on}
 use Rattle.board_changes.proofs.arrival.Goals as goal
 
-pub arrival_on-requires : goal.arrival_on-requires
-arrival_on-requires c = record { found_sound = rw c.in-Sound.is at c.check_with.ensures.form_of.says; path_len = c.check_with.ensures.due_len }
-
-pub returns-in-Refused : goal.returns-in-Refused
-returns-in-Refused c = form_refused _ (arrival _) tt _ (rw c.in-Refused.is at c.check_with.ensures.form_of.says)
-
-pub returns-in-Sound : goal.returns-in-Sound
-returns-in-Sound c = c.arrival_on.ensures
+pub returns-in_err-form : goal.returns-in_err-form
+returns-in_err-form c =
+    passed_on c.from_residual.ensures.1 (form_refused _ (arrival (record { job = c.args.job; given = c.args.first ∷ c.args.second ∷ []; list = c.args.list.now })) tt c.args.t.now c.in_err-form.ensures.form_of.says)

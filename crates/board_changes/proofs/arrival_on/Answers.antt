@@ -4,10 +4,10 @@ use mathlib.Core.Logic.{inl, inr}
 use mathlib.Core.Bool.{not}
 use mathlib.Core.List.{[], ◌∷◌}
 use borrow.Author.Tests.{ne_eqb}
+use Rattle.board_answers.proofs.Formal.{passed_on}
 use Rattle.spec_table.specs.Table.{decode}
 use Rattle.spec_calls.specs.Calls.{MayArrive}
-use Rattle.sharing_effects.specs.declared.Attempt.TheVariants.{Refused, Made}
-use Rattle.board_changes.proofs.ChangeOutcomes.{Numbered, arrival_number, bench_wrong, arrival_bench, readable, arrival_numbered, arrival_standing, may_arrive, arrival_left}
+use Rattle.board_changes.proofs.ChangeOutcomes.{Numbered, arrival_number, bench_wrong, arrival_bench, arrival_numbered, arrival_standing, may_arrive, arrival_short, arrival_made}
 use Rattle.board_changes.proofs.arrival_on.Goals as goal
 use Rattle.board_changes.proofs.arrival_on.Goals.{Else-first-second, Else-stands}
 use Rattle.board_changes.proofs.arrival_on.Goals.{then-not-has_bench-via-then-not-has_bench, then-not-has_bench-via-else-not-has_bench+then-not-has_bench-2, then-not-has_bench-via-else-not-has_bench+else-not-has_bench-2+then-first-second}
@@ -26,9 +26,6 @@ returns-then-not-has_bench c =
     ]
     )
 
-pub stands-requires : goal.stands-requires
-stands-requires c = let both = readable c.requires.found_sound.sound c.args.job c.has_job.ensures (ap not c.if-not-has_job.false) in record { holds_board = both.0; job_in = both.1 }
-
 -- the numbers passed
 passes : (c : Else-first-second) → let a = c.args in Numbered (decode a.t.now) a.job a.first a.second
 passes c =
@@ -42,11 +39,9 @@ returns-then-stands c = arrival_standing c.requires.found_sound.sound c.args.lis
 may : (c : Else-stands) → Numbered (decode c.args.t.now) c.args.job c.args.first c.args.second → MayArrive (decode c.args.t.now) c.args.job (c.args.first ∷ c.args.second ∷ [])
 may c n = may_arrive n c.stands.ensures c.if-stands.false
 
-pub arrive-requires : goal.arrive-requires
-arrive-requires c = record { sound_table = c.requires.found_sound.sound; variant = c.requires.found_sound.bytes; may_arrive = may (goal.at.arrive-requires c).Else-stands (passes (goal.at.arrive-requires c).Else-first-second); loaded = c.requires.found_sound.loaded; path_len = c.requires.path_len }
+pub returns-in_err-effect : goal.returns-in_err-effect
+returns-in_err-effect c =
+    passed_on c.from_residual.ensures.1 (arrival_short c.requires.found_sound.sound c.args.list.now c.args.job c.args.first c.args.second c.in_err-effect.field-0.0 (may (goal.at.returns-in_err-effect c).Else-stands (passes (goal.at.returns-in_err-effect c).Else-first-second)) c.in_err-effect.ensures)
 
-pub returns-in-Refused : goal.returns-in-Refused
-returns-in-Refused c = arrival_left c.requires.found_sound.sound c.args.list.now c.args.job c.args.first c.args.second (Refused c.in-Refused.r) (may (goal.at.returns-in-Refused c).Else-stands (passes (goal.at.returns-in-Refused c).Else-first-second)) (rw c.in-Refused.is at c.arrive.ensures)
-
-pub returns-in-Made : goal.returns-in-Made
-returns-in-Made c = arrival_left c.requires.found_sound.sound c.args.list.now c.args.job c.args.first c.args.second (Made c.in-Made.e) (may (goal.at.returns-in-Made c).Else-stands (passes (goal.at.returns-in-Made c).Else-first-second)) (rw c.in-Made.is at c.arrive.ensures)
+pub returns : goal.returns
+returns c = arrival_made c.requires.found_sound.sound c.args.list.now c.args.job c.args.first c.args.second c.in_ok-effect.effect (may (goal.at.returns c).Else-stands (passes (goal.at.returns c).Else-first-second)) c.in_ok-effect.ensures

@@ -1,13 +1,7 @@
--- The form check's answer is a refusal, or that the table is sound and the loads are its: all that a closing asks for.
+-- The form check's refusal; what a closing on a sound table is, the call that makes it tells.
 use Rattle.spec_calls.specs.Calls.{closing}
-use Rattle.board_answers.proofs.Formal.{form_refused}
+use Rattle.board_answers.proofs.Formal.{form_refused, passed_on}
 use Rattle.board_changes.proofs.closing.Goals as goal
 
-pub closing_on-requires : goal.closing_on-requires
-closing_on-requires c = record { found_sound = rw c.in-Sound.is at c.check_with.ensures.form_of.says; path_len = c.check_with.ensures.due_len }
-
-pub returns-in-Refused : goal.returns-in-Refused
-returns-in-Refused c = form_refused _ (closing _) tt _ (rw c.in-Refused.is at c.check_with.ensures.form_of.says)
-
-pub returns-in-Sound : goal.returns-in-Sound
-returns-in-Sound c = c.closing_on.ensures
+pub returns-in_err-form : goal.returns-in_err-form
+returns-in_err-form c = passed_on c.from_residual.ensures.1 (form_refused _ (closing (record { job = c.args.job; list = c.args.list.now })) tt c.args.t.now c.in_err-form.ensures.form_of.says)

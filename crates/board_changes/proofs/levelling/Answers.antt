@@ -1,26 +1,15 @@
--- The form check's answer is a refusal, or that the table is sound and the loads are its: then it can be levelled.
+-- The form check's refusal, or that the table is sound and the loads are its: then it is levelled.
 use mathlib.Core.Bool.{true, false}
 use Rattle.spec_calls.specs.Calls.{levelling}
-use Rattle.table_form.specs.FormCheck.{FoundSound}
-use Rattle.board_answers.proofs.Formal.{form_refused}
+use Rattle.board_answers.proofs.Formal.{form_refused, passed_on}
 use Rattle.board_changes.proofs.ChangeOutcomes.{levelling_left}
 use Rattle.board_changes.proofs.levelling.Goals as goal
-use Rattle.board_changes.proofs.levelling.Goals.{In-Sound}
 
--- the checked table is sound, and the loads are its
-checked : (c : In-Sound) → FoundSound c.args.t.now c.check_with.new.loads c.in-Sound.s c.in-Sound.rising
-checked c = rw c.in-Sound.is at c.check_with.ensures.form_of.says
+pub returns-in_err-form : goal.returns-in_err-form
+returns-in_err-form c = passed_on c.from_residual.ensures.1 (form_refused _ (levelling c.args.allowance) tt c.args.t.now c.in_err-form.ensures.form_of.says)
 
-pub relevel-l-requires : goal.relevel-l-requires
-relevel-l-requires c =
-    let found = checked (goal.at.relevel-l-requires c).In-Sound in
-    record { sound_table = found.sound; variant = found.bytes; loaded = found.loaded; path_len = c.check_with.ensures.due_len }
+pub returns-then-levelling : goal.returns-then-levelling
+returns-then-levelling c = levelling_left c.in_ok-form.ensures.form_of.says.sound c.args.allowance true c.relevel-levelling.ensures c.if-levelling.true
 
-pub returns-in-Refused : goal.returns-in-Refused
-returns-in-Refused c = form_refused _ (levelling _) tt _ (rw c.in-Refused.is at c.check_with.ensures.form_of.says)
-
-pub returns-then-l : goal.returns-then-l
-returns-then-l c = levelling_left (checked (goal.at.returns-then-l c).In-Sound).sound c.args.allowance true c.relevel-l.ensures c.if-l.true
-
-pub returns-else-l : goal.returns-else-l
-returns-else-l c = levelling_left (checked (goal.at.returns-else-l c).In-Sound).sound c.args.allowance false c.relevel-l.ensures c.if-l.false
+pub returns-else-levelling : goal.returns-else-levelling
+returns-else-levelling c = levelling_left c.in_ok-form.ensures.form_of.says.sound c.args.allowance false c.relevel-levelling.ensures c.if-levelling.false

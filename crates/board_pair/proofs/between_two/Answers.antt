@@ -1,16 +1,36 @@
--- The first walk: broken, or its match and its records go to the second.
-use mathlib.Core.Path.{sym, ◌∙◌}
-use Rattle.board_pair.proofs.AskingPair.{first_bench, first_refused, first_unmatched, first_matched}
+-- Two walks: one that is broken refuses, else both tell the answer.
+use native.Mathlib.Omega.{arith}
+use mathlib.Core.Path.{refl, sym, ◌∙◌}
+use Rattle.board_answers.proofs.Formal.{passed_on}
+use Rattle.board_pair.proofs.AskingPair.{first_refused, first_read, second_refused, second_read, both_few, pair_answered}
 use Rattle.board_pair.proofs.between_two.Goals as goal
 
-pub walk-requires : goal.walk-requires
-walk-requires c = record { size_of = c.requires.size_of; bench_in = first_bench c.requires.size_of c.args.first c.args.second c.requires.t }
+pub returns-in_err-one : goal.returns-in_err-one
+returns-in_err-one c =
+    passed_on c.from_residual.ensures.1 (first_refused c.requires.size_of c.args.first c.args.second c.requires.t c.in_err-one.ensures)
 
-pub with_first-requires : goal.with_first-requires
-with_first-requires c = record { size_of = c.requires.size_of; t = c.requires.t; first_read = first_unmatched c.requires.size_of _ _ c.requires.t _ (sym c.in-Unmatched.is ∙ c.walk.ensures) }
+pub returns-in_err-other : goal.returns-in_err-other
+returns-in_err-other c =
+    let z = c.requires.size_of in
+    let first = first_read z c.args.first c.args.second c.requires.t c.in_ok-one.ensures in
+    passed_on c.from_residual-in_err-other.ensures.1 (second_refused z c.args.first c.args.second c.requires.t first c.in_err-other.ensures)
 
-pub with_first-requires-in-Matched : goal.with_first-requires-in-Matched
-with_first-requires-in-Matched c = record { size_of = c.requires.size_of; t = c.requires.t; first_read = first_matched c.requires.size_of _ _ c.requires.t _ _ (sym c.in-Matched.is ∙ c.walk.ensures) }
+pub overflow_add-records : goal.overflow_add-records
+overflow_add-records c =
+    let z = c.requires.size_of in
+    let first = first_read z c.args.first c.args.second c.requires.t c.in_ok-one.ensures in
+    omega (arith, both_few z c.args.first c.args.second c.requires.t first (second_read z c.args.first c.args.second c.requires.t first c.in_ok-other.ensures))
 
-pub returns-in-Broken : goal.returns-in-Broken
-returns-in-Broken c = first_refused c.requires.size_of _ _ c.requires.t (sym c.in-Broken.is ∙ c.walk.ensures)
+pub returns-in-Some : goal.returns-in-Some
+returns-in-Some c =
+    let z = c.requires.size_of in
+    let first = first_read z c.args.first c.args.second c.requires.t c.in_ok-one.ensures in
+    let both = second_read z c.args.first c.args.second c.requires.t first c.in_ok-other.ensures in
+    pair_answered z c.args.first c.args.second c.requires.t first both _ (sym c.in-Some.is ∙ c.or.ensures) refl
+
+pub returns-in-None : goal.returns-in-None
+returns-in-None c =
+    let z = c.requires.size_of in
+    let first = first_read z c.args.first c.args.second c.requires.t c.in_ok-one.ensures in
+    let both = second_read z c.args.first c.args.second c.requires.t first c.in_ok-other.ensures in
+    pair_answered z c.args.first c.args.second c.requires.t first both _ (sym c.in-None.is ∙ c.or.ensures) refl

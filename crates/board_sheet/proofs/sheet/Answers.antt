@@ -1,16 +1,7 @@
--- The sheet of a sound table.
+-- The form check's refusal; what a sound table's sheet is, the call that writes it tells.
 use Rattle.spec_calls.specs.Calls.{ask, wall_sheet}
-use Rattle.table_form.specs.FormCheck.{FoundSound}
-use Rattle.board_answers.proofs.Formal.{form_refused}
+use Rattle.board_answers.proofs.Formal.{form_refused, passed_on}
 use Rattle.board_sheet.proofs.sheet.Goals as goal
 
-pub sheet_on-requires : goal.sheet_on-requires
-sheet_on-requires c =
-    let f : FoundSound _ _ _ _ = rw c.in-Sound.is at c.check.ensures.says in
-    record { sound_table = f.sound; loaded = f.loaded }
-
-pub returns-in-Refused : goal.returns-in-Refused
-returns-in-Refused c = form_refused _ (ask wall_sheet _) tt _ (rw c.in-Refused.is at c.check.ensures.says)
-
-pub returns-in-Sound : goal.returns-in-Sound
-returns-in-Sound c = c.sheet_on.ensures
+pub returns-in_err-form : goal.returns-in_err-form
+returns-in_err-form c = passed_on c.from_residual.ensures.1 (form_refused _ (ask wall_sheet c.args.page.now) tt c.args.t.now c.in_err-form.ensures.says)

@@ -1,5 +1,6 @@
 -- The copy is a table, in order, of the same board; what is left of it is copied back, if the task was done.
 use mathlib.Core.Path.{sym, ◌∙◌}
+use Rattle.std.proofs.lemmas.Result.{err_from_is_err_and}
 use Rattle.table_copies.proofs.Ordering.{table_loaded}
 use Rattle.sharing_changes.proofs.Copied.{may_copied, refused_copied, made_copied}
 use Rattle.sharing_changes.proofs.do_in_copy.Goals as goal
@@ -14,8 +15,11 @@ do_in_order-requires c =
 pub copy_back-requires : goal.copy_back-requires
 copy_back-requires c = sym (c.do_in_order.auto.t ∙ c.copy_in_order.auto.copy ∙ c.requires.copy_len)
 
-pub returns-in-Refused : goal.returns-in-Refused
-returns-in-Refused c = refused_copied c.args.t.now c.copy_in_order.ensures _ _ _ c.args.task c.in-Refused.r (rw c.in-Refused.is at c.do_in_order.ensures)
+pub returns-in_err-effect : goal.returns-in_err-effect
+returns-in_err-effect c =
+    let p = err_from_is_err_and c.from_residual.result c.from_residual.ensures.1 in
+    rw (p.1, p.2) (refused_copied c.args.t.now c.copy_in_order.ensures _ _ _ c.args.task c.in_err-effect.field-0.0 (c.in_err-effect.ensures))
 
-pub returns-in-Made : goal.returns-in-Made
-returns-in-Made c = rw c.copy_back.ensures (made_copied c.args.t.now c.copy_in_order.ensures _ _ _ c.args.task c.in-Made.e (rw c.in-Made.is at c.do_in_order.ensures))
+pub returns : goal.returns
+returns c =
+    rw c.copy_back.ensures (made_copied c.args.t.now c.copy_in_order.ensures _ _ _ c.args.task c.in_ok-effect.effect (c.in_ok-effect.ensures))

@@ -24,4 +24,4 @@ pub loop-c-preserved : goal.loop-c-preserved
 loop-c-preserved c = (c.count_on-c.ensures.count_of_2, λ m l. not_ended c.loop-c.invariant.0 c.loop-c-test.true m (omega (arith, c.count_on-c.ensures.benches_value)))
 
 pub returns : goal.returns
-returns c = count_ends_lem c.requires.sound_table c.requires.loaded c.loop-c.invariant.0 c.loop-c.invariant.1 c.loop-c-test.false
+returns c = rw c.from.ensures (count_ends_lem c.requires.sound_table c.requires.loaded c.loop-c.invariant.0 c.loop-c.invariant.1 c.loop-c-test.false)

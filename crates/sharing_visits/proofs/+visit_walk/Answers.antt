@@ -15,12 +15,12 @@ visit-walk-requires t c =
     let x = c.args.x in
     let w = c.requires.bench_chains.bench x c.requires.t in
     let fall = falls_marked m x (chain_on c.args.next.now (at c.args.head.now x)) c.requires.marks c.requires.t c.if-marks-x.false w.ends in
-    (rw c.decreases at fall, (c.requires.bench_chains, (w, marks_set m x c.requires.marks)))
+    rw c.from.ensures (rw c.decreases at fall, (c.requires.bench_chains, (w, marks_set m x c.requires.marks)))
 
 pub visit-returns : goal.visit-returns
 visit-returns t c =
     closed_chain c.args.head.now c.args.next.now c.args.to.now c.args.x c.args.marks.now c.walk.new.marks
-    (omega (arith, within_high 1 most_benches c.args.x c.requires.t, c.requires.marks.long)) c.if-marks-x.false c.walk.ensures
+    (omega (arith, within_high 1 most_benches c.args.x c.requires.t, c.requires.marks.long)) c.if-marks-x.false (rw c.from.ensures at c.walk.ensures)
 
 pub walk-returns-then-j-eq0 : goal.walk-returns-then-j-eq0
 walk-returns-then-j-eq0 t c =
@@ -38,7 +38,7 @@ walk-visit-requires t c =
     let w = c.requires.walkable in
     let d = c.if-j-eq0.false in
     let fall = falls_visit c.args.marks.now w d in
-    (rw c.decreases at fall, (c.requires.bench_chains, (walk_leads w d, c.requires.marks)))
+    rw c.from.ensures (rw c.decreases at fall, (c.requires.bench_chains, (walk_leads w d, c.requires.marks)))
 
 pub walk-offset_bounds-next-j : goal.walk-offset_bounds-next-j
 walk-offset_bounds-next-j t c = omega (arith, walk_most c.requires.walkable)
@@ -51,10 +51,10 @@ walk-walk-requires t c =
     let w = c.requires.walkable in
     let d = c.if-j-eq0.false in
     let fall = falls_walk c.args.marks.now w d c.visit.new.marks c.visit.ensures.grows in
-    (rw c.decreases at fall, (c.requires.bench_chains, (walk_rest w d, c.visit.ensures.long)))
+    rw c.from-2.ensures (rw c.decreases at fall, (c.requires.bench_chains, (walk_rest w d, c.visit.ensures.long)))
 
 pub walk-returns : goal.walk-returns
 walk-returns t c =
     let rest = chain_next c.args.next.now c.args.j c.if-j-eq0.false c.requires.walkable.ends in
     closed_job c.args.head.now c.args.next.now c.args.to.now c.args.j c.args.marks.now c.visit.new.marks c.walk.new.marks
-    rest c.visit.ensures c.walk.ensures
+    rest (rw c.from.ensures at c.visit.ensures) (rw c.from-2.ensures at c.walk.ensures)

@@ -3,20 +3,16 @@ use native.Mathlib.Omega.{arith}
 use mathlib.Core.Path.{◌≡◌, sym, ap, ◌∙◌}
 use mathlib.Core.Logic.{⊎_elim}
 use lib.Dec.{eqb}
-use borrow.Author.Rules.{rules}
-use borrow.Author.Tests.{eq-eqb, ne_eqb, ltb-true, ltb-false}
+use borrow.Author.Tests.{eq-eqb, ne_eqb, ltb-true}
 use Rattle.spec_lists.specs.Lists.{nth}
 use Rattle.spec_table.specs.Table.{holder_in}
 use Rattle.table_words.specs.Bytes.{layout_in}
 use Rattle.table_records.specs.Records.{entry_of}
 use Rattle.table_chain_form.specs.ChainWalks.{only_if, walked}
 use Rattle.table_size.proofs.Sizes.{entries_long}
-use Rattle.table_chain_form.proofs.Walking.{walk_end, walk_full, walk_step, walk_above}
+use Rattle.table_chain_form.proofs.Walking.{walk_full, walk_step, walk_above}
 use Rattle.table_chain_form.proofs.walk.Goals as goal
 use Rattle.table_chain_form.proofs.walk.Goals.{After-holder_at}
-
-pub loop-j-init : goal.loop-j-init
-loop-j-init c = ap (walked (layout_in c.args.t.now).entries c.args.x c.args.left) c.head-j.ensures.head
 
 pub returns-then-left-eq0 : goal.returns-then-left-eq0
 returns-then-left-eq0 c =
@@ -26,12 +22,6 @@ returns-then-left-eq0 c =
     (λ w. walk_full es c.args.x c.loop-j.left c.loop-j.j (omega arith) (omega arith) ∙ c.loop-j.invariant)
     (λ w. walk_above es c.args.x c.loop-j.left c.loop-j.j (omega arith) (omega (arith, ltb-true)) ∙ c.loop-j.invariant)
     c.then-left-eq0.either
-
-pub read_record-next-requires : goal.read_record-next-requires
-read_record-next-requires c = record { size_of = search rules; job_in = omega (arith, ltb-false) }
-
-pub holder_at-requires : goal.holder_at-requires
-holder_at-requires c = record { size_of = search rules; job_in = omega (arith, ltb-false) }
 
 -- what is left of the walk after job j's record and holder are read
 turn : (c : After-holder_at) → let a = c.args in let l = c.loop-j in let es = (layout_in a.t.now).entries in walked es a.x a.left (nth (layout_in a.t.now).heads a.x 0) ≡ only_if (eqb c.holder_at.result a.x) (walked es a.x (l.left - 1) c.read_record-next.result.next)
@@ -47,6 +37,3 @@ returns-then-holder_at-x c = sym (rw (ne_eqb c.holder_at.result c.args.x c.if-ho
 
 pub loop-j-preserved : goal.loop-j-preserved
 loop-j-preserved c = sym (rw (eq-eqb c.holder_at.result c.args.x c.if-holder_at-x.false) at (turn (goal.at.loop-j-preserved c).After-holder_at))
-
-pub returns : goal.returns
-returns c = walk_end (layout_in c.args.t.now).entries c.args.x c.loop-j.left c.loop-j.j (omega arith) ∙ c.loop-j.invariant

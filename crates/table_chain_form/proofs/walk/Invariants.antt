@@ -8,7 +8,7 @@ use Rattle.table_chain_form.proofs.walk.Given as goal
 
 abbrev pub invariant-loop-j : goal.invariant-loop-j
 invariant-loop-j l =
-    walked (layout_in l.t).entries l.x l.left l.j ≡ walked (layout_in l.t).entries l.x l.left-2 (nth (layout_in l.t).heads l.x 0)
+    walked (layout_in l.t).entries l.x l.left l.j ≡ walked (layout_in l.t).entries l.x l.fn.left (nth (layout_in l.t).heads l.x 0)
 
 abbrev pub decreases-loop-j : goal.decreases-loop-j
 decreases-loop-j l = l.left

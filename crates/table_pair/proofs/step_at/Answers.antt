@@ -1,6 +1,5 @@
 -- A record is told by its kind and its holder; one that x holds names x, so only y is looked for.
-use mathlib.Core.Path.{◌≡◌, sym, ◌∙◌}
-use mathlib.Core.Logic.{⊎_elim, inl, inr}
+use Rattle.std.proofs.Common.{◌≡◌, sym, ⊎_elim, inl, inr}
 use Rattle.table_records.specs.Records.{entry_of}
 use Rattle.table_record_form.specs.Kinds.{kind_of}
 use Rattle.table_record_form.specs.declared.Kind.TheVariants.{Fitting}
@@ -8,9 +7,12 @@ use Rattle.table_pair.proofs.AtRecord.{read_unfit, read_unheld, read_match, read
 use Rattle.table_pair.proofs.step_at.Goals as goal
 use Rattle.table_pair.proofs.step_at.Goals.{In-Fitting}
 
+pub returns-in_default : goal.returns-in_default
+returns-in_default c = read_unfit c.args.x c.args.y c.requires.size_of c.read_record-r.ensures c.kind_of.ensures c.in_default.not-Fitting
+
 -- the record fits
 fitting : (c : In-Fitting) → kind_of c.args.s.benches (entry_of c.read_record-r.result) ≡ Fitting
-fitting c = sym c.kind_of.ensures ∙ c.in-Fitting.is
+fitting c = sym c.in-Fitting.ensures
 
 pub returns-then-holder_at-x : goal.returns-then-holder_at-x
 returns-then-holder_at-x c = read_unheld c.args.x c.args.y c.requires.size_of c.read_record-r.ensures (fitting (goal.at.returns-then-holder_at-x c).In-Fitting) c.holder_at.ensures c.if-holder_at-x.true
@@ -20,10 +22,7 @@ returns-then-first-y c =
     read_match c.args.x c.args.y c.requires.size_of c.read_record-r.ensures (fitting (goal.at.returns-then-first-y c).In-Fitting) c.holder_at.ensures c.if-holder_at-x.false
     (⊎_elim (λ w. inl w) (λ w. inr w.1) c.then-first-y.either)
 
-pub returns-else-second-y : goal.returns-else-second-y
-returns-else-second-y c =
-    read_next c.args.x c.args.y c.requires.size_of c.read_record-r.ensures (fitting (goal.at.returns-else-second-y c).In-Fitting) c.holder_at.ensures c.if-holder_at-x.false
+pub returns : goal.returns
+returns c =
+    read_next c.args.x c.args.y c.requires.size_of c.read_record-r.ensures (fitting (goal.at.returns c).In-Fitting) c.holder_at.ensures c.if-holder_at-x.false
     c.if-first-y.false c.if-second-y.false
-
-pub returns-in_default : goal.returns-in_default
-returns-in_default c = read_unfit c.args.x c.args.y c.requires.size_of c.read_record-r.ensures c.kind_of.ensures c.in_default.not-Fitting

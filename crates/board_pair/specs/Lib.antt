@@ -1,2 +1,0 @@
--- What the pair question knows between its two walks.
-pub mod ChainsRead
