@@ -5,10 +5,10 @@ use native.Mathlib.Omega.{arith}
 use mathlib.Core.Path.{◌≡◌, refl, sym, ap, ◌∙◌}
 use mathlib.Core.Logic.{◌≢◌}
 use mathlib.Core.Bool.{Bool, true, false, cond, not, ◌&&◌, ◌||◌, and-false, or-true}
-use mathlib.Core.List.{List, [], ◌∷◌, ◌++◌, append_assoc}
+use mathlib.Core.List.{List, [], ◌∷◌}
 use mathlib.Core.Option.{Option, none, some}
 use lib.Dec.{eqb, leb}
-use lib.ListN.{length, take, drop, get_or, length-append, length-drop}
+use lib.ListN.{length, take, drop, get_or, length-drop}
 use lib.Seq.{take_all}
 use borrow.Author.Tests.{le-leb, lt-leb, ne_eqb, leb-false}
 use Rattle.spec_lists.specs.Lists.{all, empty}
@@ -17,7 +17,7 @@ use Rattle.spec_counter.specs.Counter.{onto, pieces, numbers, joined, command_fo
 use Rattle.spec_lists.proofs.Tests.{Compared, same, other, compared, true→T, within_low, within_high, right, T-leb}
 use Rattle.std.specs.Prelude as std
 use Rattle.std.specs.Prelude.{Some, None}
-use Rattle.counter_commands.specs.Read.{reading_of, reading_numbers, numbers_due, ReadingOf, digit_value, behind, followed, few, taken, given}
+use Rattle.counter_commands.specs.Read.{reading_of, reading_numbers, numbers_due, ReadingOf, digit_value, behind, few, taken, given}
 use Rattle.counter_commands.specs.declared.Command.{Command}
 use Rattle.counter_commands.specs.declared.Numbers.{Numbers}
 use Rattle.counter_commands.specs.declared.Numbers.TheVariants as read
@@ -188,57 +188,6 @@ module _ (l : List ℕ) (h : 2 ≤ length l) (e : get_or l 0 0 ≡ space) where
       let g = is_figure (get_or l 1 0) d f in
       let rest : take (length l - 2) (drop 2 l) ≡ drop 2 l = take_all (length l - 2) (drop 2 l) (omega (arith, length-drop 2 l)) in
       (omega (arith, g.1, figure_small (get_or l 1 0) g.0), rw (rest, g.1) (begins_by ∙ rw g.0))
-
--- numbers in a row
-
--- numbers, one more, and those after it
-few_more : (t : Option (List ℕ)) (n : ℕ) (r : Option (List ℕ)) → few (followed (few (followed t (some (n ∷ [])))) r) ≡ few (followed t (joined (some n) r))
-few_more none n r = refl
-few_more (some k) n none = go (leb (length (k ++ (n ∷ []))) 3)
-  where
-    go : (z : Bool) → few (followed (cond z (some (k ++ (n ∷ []))) none) none) ≡ none
-    go true = refl
-    go false = refl
-few_more (some k) n (some l) = go (leb (length (k ++ (n ∷ []))) 3) refl
-  where
-    go : (z : Bool) → leb (length (k ++ (n ∷ []))) 3 ≡ z → few (followed (cond z (some (k ++ (n ∷ []))) none) (some l)) ≡ few (some (k ++ (n ∷ l)))
-    go true e = rw append_assoc
-    go false e =
-        let long = leb-false (length (k ++ (n ∷ []))) 3 e in
-        rw (lt-leb (length (k ++ (n ∷ l))) 3 (omega (arith, length-append k (n ∷ []), length-append k (n ∷ l))))
-
--- no number, and those after it
-pub few_first : (r : Option (List ℕ)) → few (followed (some []) r) ≡ few r
-few_first none = refl
-few_first (some l) = refl
-
--- a field that is no number
-few_bad : (t : Option (List ℕ)) → few (followed t none) ≡ none
-few_bad none = refl
-few_bad (some k) = refl
-
-few_last : (ns : Numbers) → few (followed (taken (Some ns)) (some [])) ≡ taken (Some ns)
-few_last read.None = refl
-few_last (read.One a) = refl
-few_last (read.Two a b) = refl
-few_last (read.Three a b c) = refl
-
--- no number is behind the line's end
-pub few_all : (l : List ℕ) (ns : Numbers) → length l ≡ 0 → taken (Some ns) ≡ few (followed (taken (Some ns)) (behind l))
-few_all [] ns e = sym (few_last ns)
-few_all (c ∷ l) ns e = absurd (omega arith)
-
--- fields whose first is no number
-pub few_wrong : (t : Option (List ℕ)) (l : List ℕ) → behind l ≡ none → none ≡ few (followed t (behind l))
-few_wrong t l e = rw e (sym (few_bad t))
-
--- fields whose first is a number: it and those behind it, ..
-pub few_next : (t : Option (List ℕ)) (n : ℕ) (l rest : List ℕ) → behind l ≡ joined (some n) (behind rest) → few (followed (few (followed t (some (n ∷ [])))) (behind rest)) ≡ few (followed t (behind l))
-few_next t n l rest e = rw e (few_more t n (behind rest))
-
--- .. which may be too many already
-pub few_full : (t : Option (List ℕ)) (n : ℕ) (l rest : List ℕ) → behind l ≡ joined (some n) (behind rest) → none ≡ few (followed t (some (n ∷ []))) → none ≡ few (followed t (behind l))
-few_full t n l rest e f = ap (λ (o : Option (List ℕ)). few (followed o (behind rest))) f ∙ few_next t n l rest e
 
 -- commands
 

@@ -1,4 +1,4 @@
--- A byte of the input, and a chunk: the loop's start, turn and end.
+-- A byte of the input, a chunk up to a byte, and the end.
 use Prim.Native.Nat.{ℕ, zero, suc, ◌+◌, ◌<◌, ◌≤◌}
 use native.Mathlib.Omega.{arith}
 use native.Mathlib.Decide.{ℕ_discrete, dec_lt}
@@ -91,10 +91,6 @@ pub record Feeding (a : Place) (chunk : List ℕ) (r : Reader) (bytes : List ℕ
   pub wrote : Wrote before after text
   pub consumes : Consumes a (place_of r bytes) (take count chunk) text
 
-pub feeding_start : (r : Reader) (chunk bytes : List ℕ) (o : Output) → Stands r bytes → Feeding (place_of r bytes) chunk r bytes 0 o o
-feeding_start r chunk bytes o s =
-    record { stands = s; input = omega arith; none = λ e. refl; text = []; wrote = wrote_none o; consumes = goes_none (place_of r bytes) }
-
 module _ {a : Place} {chunk : List ℕ} {r : Reader} {bytes : List ℕ} {count : ℕ} {before after : Output} (f : Feeding a chunk r bytes count before after) where
   -- one byte more
   pub feeding_turn : (r' : Reader) (bytes' : List ℕ) (next : Output) → count < length chunk → TakesByte (place_of r bytes) (get_or chunk count 0 ∷ []) r' bytes' after next → Feeding a chunk r' bytes' (count + 1) before next
@@ -109,14 +105,6 @@ module _ {a : Place} {chunk : List ℕ} {r : Reader} {bytes : List ℕ} {count :
         wrote = wrote_then f.wrote n.wrote;
         consumes = subst (λ (k : List ℕ). Consumes a b k (f.text ++ n.text)) more (consumes_then f.consumes n.consumes);
       }
-
-  -- all of the chunk is taken, or there is no room for another reply
-  pub feeding_end : before.written + line_most ≤ length before.bytes.now → (length chunk ≤ count) ⊎ (length after.bytes.now < after.written + line_most) → Feeds a chunk r bytes count before after
-  feeding_end room w = record { stands = f.stands; some = some w; used = f.input; text = f.text; wrote = f.wrote; consumes = f.consumes }
-    where
-      some : (length chunk ≤ count) ⊎ (length after.bytes.now < after.written + line_most) → 1 ≤ length chunk → 1 ≤ count
-      some (inl h) l = omega arith
-      some (inr h) l = elim (ℕ_discrete count 0) [ yes e ↦ absurd (omega (arith, f.none e, f.wrote.long, room, h)) | no d ↦ omega arith ]
 
 -- no line has begun
 pub finishes_none : (r : Reader) (o : Output) → r.line.held ≡ 0 → Finishes r o o

@@ -6,7 +6,7 @@ use native.Mathlib.Numerals.{add-one}
 use mathlib.Core.Path.{◌≡◌, refl, sym, ap, subst, ◌∙◌}
 use mathlib.Core.List.{List, [], ◌∷◌, ◌++◌, flat_map, append-nil, append_assoc}
 use lib.ListN.{length, take, get_or, length-append}
-use lib.Seq.{take-suc, take_all}
+use lib.Seq.{take-suc}
 use Rattle.spec_text.specs.Numbers.{line_feed, space, digits}
 use Rattle.spec_counter.specs.Counter.{printed}
 use Rattle.spec_text.proofs.Numbers.{digits_one, digits_last, digits_short}
@@ -34,11 +34,7 @@ wrote_then {a} {b} {c} {s} {t} v w =
 pub wrote_as : {a b : Output} {s t : List ℕ} → s ≡ t → Wrote a b s → Wrote a b t
 wrote_as {a} {b} e w = subst (Wrote a b) e w
 
--- one digit takes one byte ..
-pub digit_room : (n : ℕ) → n < 10 → length (digits n n) ≡ 1
-digit_room n h = ap length (digits_one n n h)
-
--- .. and more of them a byte more than those before the last
+-- a number's digits are one more than those before the last
 pub digits_room : (n : ℕ) → 10 ≤ n → length (digits n n) ≡ length (digits (n / 10) (n / 10)) + 1
 digits_room n h = ap length (digits_last n h) ∙ length-append (digits (n / 10) (n / 10)) ((code "0" + n % 10) ∷ [])
 
@@ -87,10 +83,6 @@ pub wrote_next : {a b c : Output} (ns : List ℕ) (i : ℕ) → i < length ns �
 wrote_next ns i h v w =
     let e : take i ns ++ (get_or ns i 0 ∷ []) ≡ take (i + 1) ns = rw add-one (sym (take-suc ns i 0 h)) in
     wrote_same e (wrote_more (take i ns) (get_or ns i 0) v w)
-
--- all of them
-pub wrote_all : {a b : Output} (ns : List ℕ) → Wrote a b (spaced (take (length ns) ns)) → Wrote a b (spaced ns)
-wrote_all ns w = wrote_same (take_all (length ns) ns (omega arith)) w
 
 -- one word more of a list
 pub wrote_word : {a b c : Output} {l : List ℕ} {i r : ℕ} → 2 * i + 1 < length l → IsWord l i r → Wrote a b (spaced (take i (words l))) → Wrote b c (space ∷ digits r r) → Wrote a c (spaced (take (i + 1) (words l)))

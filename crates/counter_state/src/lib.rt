@@ -17,6 +17,7 @@ const LIST_BYTES: usize = 1000;
 pub type TableBytes = [u8; Size::MOST_BYTES];
 
 // The program's table is the first `length` bytes of its own.
+// Kept: the bytes are lent beside the counter, since `Counter::noted` takes and gives the counter by value.
 #[derive(Clone, Copy)]
 pub struct Counter {
     pub length: usize,
