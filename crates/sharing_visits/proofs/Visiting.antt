@@ -14,9 +14,10 @@ use Rattle.spec_lists.specs.Lists.{bit, within, total, In}
 use Rattle.spec_table.specs.Table.{most_benches, most_jobs}
 use Rattle.spec_lists.proofs.Tests.{true→T, T→true, false→not, within_low, within_high, Compared, same, other, compared}
 use Rattle.spec_lists.proofs.Counting.{total_le, total_but_one}
+use Rattle.table_size.specs.declared.Size.{Size}
 use Rattle.graph_lists.specs.Arrays.{at, Reached, here, step}
 use Rattle.sharing_visits.specs.ArrayChains.{chain_along, chain_on, Walkable, FromChain, Leads}
-use Rattle.sharing_visits.specs.Marks.{mark, Marks, ClosedOver}
+use Rattle.sharing_visits.specs.Marks.{mark, Marks, Heavy, ClosedOver}
 
 -- chains
 
@@ -222,6 +223,26 @@ pub record Passed (loads : List ℕ) (h x y : ℕ) : Type 0 where
   pub least : 1 ≤ y
   pub before : y < x
   pub heavy : h ≤ at loads y
+
+module _ {loads : List ℕ} {h x y : ℕ} where
+  -- a bench that comes before x comes before the next one ..
+  pub passed_on : Passed loads h x y → Passed loads h (x + 1) y
+  passed_on p = record { least = p.least; before = omega (arith, p.before); heavy = p.heavy }
+
+  -- .. one that comes before the next one is x or comes before x ..
+  pub passed_before : y ≢ x → Passed loads h (x + 1) y → Passed loads h x y
+  passed_before d p = record { least = p.least; before = omega (arith, p.before); heavy = p.heavy }
+
+  -- .. and is not x where x has less
+  pub passed_light : at loads x < h → Passed loads h (x + 1) y → Passed loads h x y
+  passed_light l p = passed_before (λ e. omega (arith, p.heavy, ap (at loads) e)) p
+
+-- at the end they are all of them
+pub passed_all : (loads : List ℕ) (h x : ℕ) (s : Size) → x ≡ s.benches + 1 → (y : ℕ) → Passed loads h x y ↔ Heavy s loads h y
+passed_all loads h x s e y = (
+  λ p. (record { least = p.least; most = omega (arith, p.before) }, p.heavy),
+  λ (b, l). record { least = b.least; before = omega (arith, b.most); heavy = l },
+)
 
 -- such a bench leads to y
 abbrev pub FromPassed : (ℕ → ℕ → Type 0) → List ℕ → ℕ → ℕ → ℕ → Type 0

@@ -1,30 +1,29 @@
 use native.Mathlib.Omega.{arith}
-use Rattle.spec_table.specs.Table.{most_benches}
-use Rattle.spec_lists.proofs.Tests.{within_high}
+use borrow.Author.Rules.{rules}
 use Rattle.graph_lists.specs.Arrays.{at}
 use Rattle.sharing_visits.specs.ArrayChains.{chain_on}
-use Rattle.sharing_visits.proofs.Visiting.{chain_next, walk_most, walk_leads, walk_rest, falls_marked, falls_visit, falls_walk, marks_set, closed_marked, closed_chain, closed_end, closed_job}
+use Rattle.sharing_visits.proofs.Visiting.{chain_next, walk_most, walk_leads, walk_rest, falls_marked, falls_visit, falls_walk, closed_marked, closed_chain, closed_end, closed_job}
 use Rattle.sharing_visits.proofs.+visit_walk.Goals as goal
 
 pub visit-returns-then-marks-x : goal.visit-returns-then-marks-x
-visit-returns-then-marks-x t c = closed_marked c.args.x c.args.marks.now c.requires.marks c.if-marks-x.true
+visit-returns-then-marks-x t c = closed_marked c.args.x c.args.marks.now (record { long = search rules }) c.if-marks-x.true
 
 pub visit-walk-requires : goal.visit-walk-requires
 visit-walk-requires t c =
     let m = c.args.marks.now in
     let x = c.args.x in
     let w = c.requires.bench_chains.bench x c.requires.t in
-    let fall = falls_marked m x (chain_on c.args.next.now (at c.args.head.now x)) c.requires.marks c.requires.t c.if-marks-x.false w.ends in
-    rw c.from.ensures (rw c.decreases at fall, (c.requires.bench_chains, (w, marks_set m x c.requires.marks)))
+    let fall = falls_marked m x (chain_on c.args.next.now (at c.args.head.now x)) (record { long = search rules }) c.requires.t c.if-marks-x.false w.ends in
+    rw c.from.ensures (rw c.decreases at fall, (c.requires.bench_chains, w))
 
 pub visit-returns : goal.visit-returns
 visit-returns t c =
     closed_chain c.args.head.now c.args.next.now c.args.to.now c.args.x c.args.marks.now c.walk.new.marks
-    (omega (arith, within_high 1 most_benches c.args.x c.requires.t, c.requires.marks.long)) c.if-marks-x.false (rw c.from.ensures at c.walk.ensures)
+    (search rules) c.if-marks-x.false (rw c.from.ensures at c.walk.ensures)
 
 pub walk-returns-then-j-eq0 : goal.walk-returns-then-j-eq0
 walk-returns-then-j-eq0 t c =
-    closed_end c.args.head.now c.args.next.now c.args.to.now c.args.j c.args.marks.now c.requires.marks c.if-j-eq0.true
+    closed_end c.args.head.now c.args.next.now c.args.to.now c.args.j c.args.marks.now (record { long = search rules }) c.if-j-eq0.true
 
 -- there is a next job and a bench for the job
 pub walk-offset_bounds-to-j : goal.walk-offset_bounds-to-j
@@ -38,7 +37,7 @@ walk-visit-requires t c =
     let w = c.requires.walkable in
     let d = c.if-j-eq0.false in
     let fall = falls_visit c.args.marks.now w d in
-    rw c.from.ensures (rw c.decreases at fall, (c.requires.bench_chains, (walk_leads w d, c.requires.marks)))
+    rw c.from.ensures (rw c.decreases at fall, (c.requires.bench_chains, walk_leads w d))
 
 pub walk-offset_bounds-next-j : goal.walk-offset_bounds-next-j
 walk-offset_bounds-next-j t c = omega (arith, walk_most c.requires.walkable)
@@ -51,7 +50,7 @@ walk-walk-requires t c =
     let w = c.requires.walkable in
     let d = c.if-j-eq0.false in
     let fall = falls_walk c.args.marks.now w d c.visit.new.marks c.visit.ensures.grows in
-    rw c.from-2.ensures (rw c.decreases at fall, (c.requires.bench_chains, (walk_rest w d, c.visit.ensures.long)))
+    rw c.from-2.ensures (rw c.decreases at fall, (c.requires.bench_chains, walk_rest w d))
 
 pub walk-returns : goal.walk-returns
 walk-returns t c =
