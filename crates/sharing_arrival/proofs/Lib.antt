@@ -1,4 +1,3 @@
--- The lighter bench; the board with the new job; the job taken in, and the path handed along.
-pub mod ByLoads
+-- The board with the new job; the job taken in, and the path handed along.
 pub mod Arriving
 pub mod TakingIn

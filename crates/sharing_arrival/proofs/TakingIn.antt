@@ -10,12 +10,12 @@ use mathlib.Core.Option.{Option, none, some}
 use lib.Dec.{T}
 use lib.ListN.{length, take, drop, length-map}
 use Rattle.spec_lists.specs.Lists.{within, In, update}
-use Rattle.spec_table.specs.Board.{Board, Valid, names_of, holder_of, stands, put, held_by, names_fit}
+use Rattle.spec_table.specs.Board.{Board, Valid, names_of, holder_of, put, held_by, names_fit}
 use Rattle.spec_table.specs.Table.{in_list, Storable, decode, encode}
 use Rattle.spec_sharing.specs.Paths.{Step, BenchPath, path_by, IsPath, hand_over, flip}
 use Rattle.spec_sharing.specs.Sharing.{Change, arrival_choice, after_arrival, arrive}
 use Rattle.spec_calls.specs.Calls.{MayArrive}
-use Rattle.spec_lists.proofs.Tests.{true→T, not→false}
+use Rattle.spec_lists.proofs.Tests.{true→T}
 use Rattle.spec_lists.proofs.Elements.{nth_update_other, update_again, length_update, in_get_d}
 use Rattle.spec_lists.proofs.NumberLists.{in_member, others_all}
 use Rattle.spec_table.proofs.Named.{stands_within}
@@ -161,10 +161,6 @@ module _ {t : List ℕ} {s : Size} {j first second x : ℕ} {path : List ℕ} {r
     taking_entered {e} a =
         let g = getting_in (decode t).holders first second f.getter in
         entered (decode t) z.storable j (first ∷ second ∷ []) x m.number (arriving_storable z m g).valid g f (subst (λ (d : Board). EntersAt d j x path r e) o.board a)
-
-    -- .. it does not stand yet ..
-    pub taking_free : stands (decode u) j ≡ false
-    taking_free = ap (λ (d : Board). stands d j) o.board ∙ not→false (stands (decode t) j) m.free
 
     module _ {d : Change} {holder place : ℕ} (n : Entered (decode t) j (first ∷ second ∷ []) path d r holder place) where
       -- .. a record can hold it ..

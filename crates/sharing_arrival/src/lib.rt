@@ -2,7 +2,7 @@
 // anything is written: the list, and the table.
 #![tactic(auto)]
 
-ghost use Rattle.std.specs.Prelude.{◌≡◌, [], ◌∷◌, ℕ, ◌+◌, ◌≤◌, T, length};
+ghost use Rattle.std.specs.Prelude.{◌≡◌, [], ◌∷◌, ℕ, ◌≤◌, T};
 ghost use Rattle.spec_lists.specs.Lists.{within};
 ghost use Rattle.spec_table.specs.Board.{Board};
 ghost use Rattle.spec_sharing.specs.Sharing.{lightest_named, arrive};
@@ -16,8 +16,9 @@ ghost use Rattle.sharing_arrival.specs.ArrivalResult.{ArrivalFound, EntersAt, Ar
 
 use sharing_effects::Effect;
 use sharing_paths::FoundPath;
+use sharing_paths_from::NewJob;
 use table_refusals::Refusal;
-use table_size::Size;
+use table_size::{PerBench, Size};
 
 // Where an arriving job is taken in: the bench that holds it, and the place from which on the path is left.
 #[derive(Clone, Copy)]
@@ -27,7 +28,7 @@ pub struct Intake {
 }
 
 // Picks the lighter of two benches, the first-named if they are equal.
-pub fn lighter(loads: &[u16; Size::MOST_BENCHES + 1], first: usize, second: usize) -> usize
+pub fn lighter(loads: &PerBench<u16>, first: usize, second: usize) -> usize
     requires t { T (within 1 most_benches first) }
     requires t_2 { T (within 1 most_benches second) }
     ensures { (b : Board) → Loaded b loads.now →
@@ -45,41 +46,35 @@ pub fn lighter(loads: &[u16; Size::MOST_BENCHES + 1], first: usize, second: usiz
 pub fn find_arrival(
     t: &[u8],
     s: Size,
-    loads: &mut [u16; Size::MOST_BENCHES + 1],
+    loads: &mut PerBench<u16>,
     j: usize,
     first: usize,
     second: usize,
     x: usize,
-    path: &mut [u16; Size::MOST_BENCHES + 1],
+    path: &mut PerBench<u16>,
 ) -> FoundPath
     requires in_order { InOrder t.now s }
     requires may_arrive { MayArrive (decode t.now) j (first ∷ second ∷ []) }
     requires loaded { Loaded (decode t.now) loads.old }
     requires x_value { x ≡ lightest_named (decode t.now).holders (first ∷ second ∷ []) }
-    requires path_len { length path.old ≡ most_benches + 1 }
     ensures { ArrivalFound (decode t.now) j (first ∷ second ∷ []) x path.new result }
 {
     loads[x] += 1;
-    let other = first + second - x;
-    sharing_paths_from::find_from(t, s, loads, x, j, other, path)
+    let new = NewJob {
+        job: j,
+        other: first + second - x,
+    };
+    sharing_paths_from::find_from(t, s, loads, x, Some(new), path)
 }
 
 // Tells where job j is taken in: if it is the path's first, at once where it goes, else at x.
-fn enter(
-    t: &[u8],
-    s: Size,
-    j: usize,
-    x: usize,
-    found: FoundPath,
-    path: &[u16; Size::MOST_BENCHES + 1],
-) -> Intake
+fn enter(t: &[u8], s: Size, j: usize, x: usize, found: FoundPath, path: &PerBench<u16>) -> Intake
     requires holds_board { HoldsBoard t.now s }
     requires jobs_le_most_benches { found.jobs ≤ most_benches }
-    requires path_len { length path.now ≡ most_benches + 1 }
     requires by_index { (i : ℕ) → JobAt s path.now i found.jobs }
     ensures { EntersAt (decode t.now) j x path.now found result }
 {
-    if found.jobs != 0 && path[0] as usize == j {
+    if found.jobs != 0 && usize::from(path[0]) == j {
         let holder = sharing_paths::bench_after(t, s, path, 1, found.jobs, found.bench);
         return Intake { holder, place: 1 };
     }
@@ -98,7 +93,7 @@ pub fn apply_arrival(
     second: usize,
     intake: Intake,
     found: FoundPath,
-    path: &[u16; Size::MOST_BENCHES + 1],
+    path: &PerBench<u16>,
 )
     requires in_order { InOrder t.old s }
     requires may_arrive { MayArrive (decode t.old) j (first ∷ second ∷ []) }
@@ -116,8 +111,8 @@ pub fn apply_arrival(
 pub fn arrive_in_order(
     t: &mut [u8],
     s: Size,
-    loads: &mut [u16; Size::MOST_BENCHES + 1],
-    path: &mut [u16; Size::MOST_BENCHES + 1],
+    loads: &mut PerBench<u16>,
+    path: &mut PerBench<u16>,
     j: usize,
     first: usize,
     second: usize,
@@ -126,7 +121,6 @@ pub fn arrive_in_order(
     requires in_order { InOrder t.old s }
     requires may_arrive { MayArrive (decode t.old) j (first ∷ second ∷ []) }
     requires loaded { Loaded (decode t.old) loads.old }
-    requires path_len { length path.old ≡ most_benches + 1 }
     ensures { ArrivalOf j first second (lent t.old list.old)
         (lent t.new list.new) result }
 {

@@ -17,7 +17,7 @@ ghost use Rattle.sharing_changes.specs.TaskResult.{MayDo, TaskOf};
 
 use sharing_effects::Effect;
 use table_refusals::Refusal;
-use table_size::Size;
+use table_size::{PerBench, Size};
 
 // What is to be done.
 #[derive(Clone, Copy)]
@@ -32,8 +32,8 @@ enum Task {
 fn do_in_order(
     t: &mut [u8],
     s: Size,
-    loads: &mut [u16; Size::MOST_BENCHES + 1],
-    path: &mut [u16; Size::MOST_BENCHES + 1],
+    loads: &mut PerBench<u16>,
+    path: &mut PerBench<u16>,
     task: Task,
     list: &mut [u8],
 ) -> Result<Effect, Refusal>
@@ -55,8 +55,8 @@ fn do_in_order(
 fn do_in_copy(
     t: &mut [u8],
     s: Size,
-    loads: &mut [u16; Size::MOST_BENCHES + 1],
-    path: &mut [u16; Size::MOST_BENCHES + 1],
+    loads: &mut PerBench<u16>,
+    path: &mut PerBench<u16>,
     task: Task,
     list: &mut [u8],
     copy: &mut [u8],
@@ -78,8 +78,8 @@ fn do_in_copy(
 fn do_stored(
     t: &mut [u8],
     s: Size,
-    loads: &mut [u16; Size::MOST_BENCHES + 1],
-    path: &mut [u16; Size::MOST_BENCHES + 1],
+    loads: &mut PerBench<u16>,
+    path: &mut PerBench<u16>,
     task: Task,
     list: &mut [u8],
 ) -> Result<Effect, Refusal>
@@ -99,8 +99,8 @@ pub fn arrive(
     t: &mut [u8],
     s: Size,
     rising: bool,
-    loads: &mut [u16; Size::MOST_BENCHES + 1],
-    path: &mut [u16; Size::MOST_BENCHES + 1],
+    loads: &mut PerBench<u16>,
+    path: &mut PerBench<u16>,
     j: usize,
     first: usize,
     second: usize,
@@ -125,8 +125,8 @@ pub fn close(
     t: &mut [u8],
     s: Size,
     rising: bool,
-    loads: &mut [u16; Size::MOST_BENCHES + 1],
-    path: &mut [u16; Size::MOST_BENCHES + 1],
+    loads: &mut PerBench<u16>,
+    path: &mut PerBench<u16>,
     j: usize,
     list: &mut [u8],
 ) -> Result<Effect, Refusal>

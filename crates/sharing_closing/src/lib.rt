@@ -15,15 +15,15 @@ use sharing_effects::Effect;
 use sharing_paths::FoundPath;
 use table_board::jobs;
 use table_refusals::Refusal;
-use table_size::Size;
+use table_size::{PerBench, Size};
 
 // Finds what a closing of job j hands along: the path's jobs into `path`. The loads lose the job.
 pub fn find_closing(
     t: &[u8],
     s: Size,
-    loads: &mut [u16; Size::MOST_BENCHES + 1],
+    loads: &mut PerBench<u16>,
     j: usize,
-    path: &mut [u16; Size::MOST_BENCHES + 1],
+    path: &mut PerBench<u16>,
 ) -> FoundPath
     requires in_order { InOrder t.now s }
     requires t { T (stands (decode t.now) j) }
@@ -44,7 +44,7 @@ pub fn apply_closing(
     s: Size,
     j: usize,
     found: FoundPath,
-    path: &[u16; Size::MOST_BENCHES + 1],
+    path: &PerBench<u16>,
 )
     requires in_order { InOrder t.old s }
     requires t { T (stands (decode t.old) j) }
@@ -61,8 +61,8 @@ pub fn apply_closing(
 pub fn close_in_order(
     t: &mut [u8],
     s: Size,
-    loads: &mut [u16; Size::MOST_BENCHES + 1],
-    path: &mut [u16; Size::MOST_BENCHES + 1],
+    loads: &mut PerBench<u16>,
+    path: &mut PerBench<u16>,
     j: usize,
     list: &mut [u8],
 ) -> Result<Effect, Refusal>

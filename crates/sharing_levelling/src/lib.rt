@@ -8,7 +8,7 @@ ghost use Rattle.table_size.specs.Sizes.{SoundTable};
 ghost use Rattle.table_board.specs.BoardView.{Loaded};
 ghost use Rattle.sharing_levelling.specs.LevellingResult.{LevellingOf};
 
-use table_size::Size;
+use table_size::{PerBench, Size};
 
 // What levelling reports: the paths flipped, and whether no improving path is left.
 #[derive(Clone, Copy)]
@@ -22,8 +22,8 @@ pub struct Levelling {
 fn is_level_copy(
     t: &[u8],
     s: Size,
-    loads: &[u16; Size::MOST_BENCHES + 1],
-    queue: &mut [u16; Size::MOST_BENCHES + 1],
+    loads: &PerBench<u16>,
+    queue: &mut PerBench<u16>,
     copy: &mut [u8],
 ) -> bool
     requires sound_table { SoundTable t.now s }
@@ -41,8 +41,8 @@ pub fn is_level(
     t: &[u8],
     s: Size,
     rising: bool,
-    loads: &[u16; Size::MOST_BENCHES + 1],
-    queue: &mut [u16; Size::MOST_BENCHES + 1],
+    loads: &PerBench<u16>,
+    queue: &mut PerBench<u16>,
 ) -> bool
     requires sound_table { SoundTable t.now s }
     requires variant { T rising ↔ (t.now ≡ encode (decode t.now)) }
@@ -66,8 +66,8 @@ pub fn relevel(
     t: &mut [u8],
     s: Size,
     rising: bool,
-    loads: &mut [u16; Size::MOST_BENCHES + 1],
-    path: &mut [u16; Size::MOST_BENCHES + 1],
+    loads: &mut PerBench<u16>,
+    path: &mut PerBench<u16>,
     allowance: u32,
 ) -> Levelling
     requires sound_table { SoundTable t.old s }

@@ -168,7 +168,3 @@ module _ {t : List ℕ} {s : Size} {c : Course} {found : ℕ} {queue came : List
       none : (r : List Step) (m : ℕ) → m ≡ 0 → length r ≡ m → map (λ q. q.job) r ++ slice m n path ≡ take n path
       none [] m z e = rw z refl
       none (q ∷ r) m z e = absurd (omega arith)
-
--- what is left gets less
-pub left_less : (left : ℕ) → 0 < left → left - 1 < left
-left_less left h = omega arith

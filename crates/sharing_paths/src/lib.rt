@@ -1,7 +1,7 @@
 // A path that a search found: followed back from its end, and handed over.
 #![tactic(auto)]
 
-ghost use Rattle.std.specs.Prelude.{ℕ, ◌+◌, ◌≤◌, ◌≡◌, List, length, take};
+ghost use Rattle.std.specs.Prelude.{ℕ, ◌≤◌, ◌≡◌, List, take};
 ghost use Rattle.spec_table.specs.Board.{held_by};
 ghost use Rattle.spec_table.specs.Table.{most_benches, decode};
 ghost use Rattle.spec_sharing.specs.Paths.{Step, jobs, hand_over};
@@ -11,7 +11,7 @@ ghost use Rattle.table_board.specs.BoardView.{HoldsBoard};
 ghost use Rattle.sharing_paths.specs.FoundPaths.{Behind, JobAt, AfterIn, RouteIn};
 
 use table_board::jobs;
-use table_size::Size;
+use table_size::{PerBench, Size};
 
 // What is found: the path's other end, and how many jobs it has; where there is no path, the bench asked for, and 0.
 #[derive(Clone, Copy)]
@@ -25,28 +25,24 @@ pub struct FoundPath {
 pub fn follow_back(
     t: &[u8],
     s: Size,
-    came: &[u16; Size::MOST_BENCHES + 1],
+    came: &PerBench<u16>,
     y: usize,
     n: usize,
-    path: &mut [u16; Size::MOST_BENCHES + 1],
+    path: &mut PerBench<u16>,
 )
     requires in_order { InOrder t.now s }
-    requires path_len { length path.old ≡ most_benches + 1 }
     requires by_index { (c : Course) × (found : ℕ) × (queue : List ℕ) ×
         Behind (decode t.now) c s.benches found queue came.now y n }
-    ensures path_len_2 { length path.new ≡ most_benches + 1 }
-    ensures path_after { (c : Course) (found : ℕ) (queue : List ℕ) →
+    ensures { (c : Course) (found : ℕ) (queue : List ℕ) →
         (k : Behind (decode t.now) c s.benches found queue came.now y n) →
         take n path.new ≡ jobs (k.searching.trail y) }
 {
     let mut x = y;
-    let mut left = n;
-    while 0 < left {
-        left -= 1;
+    for left in (0..n).rev() {
         let j = came[x];
         path[left] = j;
         if 0 < left {
-            x = sharing_steps::origin(t, s, j as usize, x);
+            x = sharing_steps::other(t, s, usize::from(j), x);
         }
     }
 }
@@ -55,45 +51,33 @@ pub fn follow_back(
 pub fn bench_after(
     t: &[u8],
     s: Size,
-    path: &[u16; Size::MOST_BENCHES + 1],
+    path: &PerBench<u16>,
     at: usize,
     n: usize,
     end: usize,
 ) -> usize
     requires holds_board { HoldsBoard t.now s }
     requires n_le_most_benches { n ≤ most_benches }
-    requires path_len { length path.now ≡ most_benches + 1 }
     requires job_at { JobAt s path.now at n }
     ensures { AfterIn (decode t.now) path.now at n end result }
 {
     if at < n {
-        jobs::holder(t, s, path[at] as usize)
+        jobs::holder(t, s, usize::from(path[at]))
     } else {
         end
     }
 }
 
 // Hands each of the jobs at places `first` to n of `path` to the bench that holds the next one, the last to `end`.
-pub fn hand_along(
-    t: &mut [u8],
-    s: Size,
-    path: &[u16; Size::MOST_BENCHES + 1],
-    first: usize,
-    n: usize,
-    end: usize,
-)
+pub fn hand_along(t: &mut [u8], s: Size, path: &PerBench<u16>, first: usize, n: usize, end: usize)
     requires in_order { InOrder t.old s }
     requires n_le_most_benches { n ≤ most_benches }
-    requires path_len { length path.now ≡ most_benches + 1 }
     requires by_index { (x : ℕ) × (r : List Step) × RouteIn (decode t.old) path.now first n end x r }
     ensures { (x : ℕ) (r : List Step) → RouteIn (decode t.old) path.now first n end x r →
         TableOf t.new s (held_by (decode t.old) (hand_over (decode t.old).holders r)) }
 {
-    let mut done = first;
-    while done < n {
-        let j = path[done] as usize;
-        done += 1;
-        let y = bench_after(t, s, path, done, n, end);
-        table_splices::hand_job(t, s, j, y);
+    for place in first..n {
+        let y = bench_after(t, s, path, place + 1, n, end);
+        table_splices::hand_job(t, s, usize::from(path[place]), y);
     }
 }

@@ -3,7 +3,7 @@ use Prim.Native.Nat.{ℕ, suc, ◌+◌, ◌≤◌}
 use native.Mathlib.Omega.{arith}
 use native.Mathlib.Decide.{ℕ_discrete}
 use mathlib.Core.Path.{◌≡◌, refl, sym, ap, subst, ◌∙◌}
-use mathlib.Core.Logic.{◌⊎◌, inl, inr, ◌≢◌}
+use mathlib.Core.Logic.{inl, inr, ◌≢◌}
 use mathlib.Core.List.{List}
 use lib.ListN.{length, replicate}
 use lib.Seq.{get_or-set_same}
@@ -72,43 +72,37 @@ module _ {b c : Board} {s : Size} {x job other : ℕ} (joined : WithJob b c s x 
     most = omega (arith, joined.few);
   }
 
-  -- the new job's step was taken, if there is one: the next job's number is above it
-  abbrev pub Entered : ℕ → List ℕ → List ℕ → Type 0
-  Entered found queue came =
-      (low : ℕ) × (((job ≡ 0) × (low ≡ 0)) ⊎ (low ≡ suc job)) × Begun c s.benches x low found queue came
-
   -- .. the new one's step is taken ..
-  pub begun_turn : {found : ℕ} {queue came : List ℕ} {found' : ℕ} {queue' came' : List ℕ} → job ≢ 0 → Begun c s.benches x job found queue came → Discovered other job found queue came found' queue' came' → Entered found' queue' came'
+  pub begun_turn : {found : ℕ} {queue came : List ℕ} {found' : ℕ} {queue' came' : List ℕ} → job ≢ 0 → Begun c s.benches x job found queue came → Discovered other job found queue came found' queue' came' → Begun c s.benches x (suc job) found' queue' came'
   begun_turn d k f =
-      (suc job, inr refl, begun_kept k (grown_one f) (search_turn k.searching {x = x} (omega arith) k.first ((joined.here (step_by job other)).1 (inr (d, refl))) (omega arith) (λ q i l. l) f))
-
-  -- .. where there is none, none is ..
-  pub begun_same : {found : ℕ} {queue came : List ℕ} → job ≡ 0 → Begun c s.benches x job found queue came → Entered found queue came
-  begun_same e k = (job, inl (e, e), k)
+      begun_kept k (grown_one f) (search_turn k.searching {x = x} (omega arith) k.first ((joined.here (step_by job other)).1 (inr (d, refl))) (omega arith) (λ q i l. l) f)
 
   -- .. and those by jobs above it are the table's again
-  pub begun_above : {j found : ℕ} {queue came : List ℕ} → BenchIn s x → FirstFrom b s x job j → (k : Entered found queue came) → AtBench (course_from c 0 1 0) b s x j k.0 started found queue came
-  begun_above {j} bench f (low, above, k) = record {
+  pub begun_above : {j found : ℕ} {queue came : List ℕ} → BenchIn s x → FirstFrom b s x job j → Begun c s.benches x (suc job) found queue came → AtBench (course_from c 0 1 0) b s x j (suc job) started found queue came
+  begun_above {j} bench f k = record {
     searching = k.searching;
     reached = omega arith;
     here = k.first;
-    next = record { found = λ d. let (l, i, h) = f.found d in (next l h above, i, h); least = λ i l n. f.least i (low_job l above) n };
-    agree = λ q l h. (λ i. elim ((joined.here q).0 i) [ inl m ↦ m | inr m ↦ absurd (apart q l m.0 m.1 above) ], λ i. (joined.here q).1 (inl i));
-    rises = elim above [ inl e ↦ omega (arith, e.1) | inr e ↦ omega (arith, joined.few) ];
+    next = record { found = λ d. let (l, i, h) = f.found d in (next l h, i, h); least = λ i l n. f.least i (omega arith) n };
+    agree = λ q l h. (λ i. elim ((joined.here q).0 i) [ inl m ↦ m | inr m ↦ absurd (omega (arith, ap (λ (p : Step). p.job) m.1)) ], λ i. (joined.here q).1 (inl i));
+    rises = omega (arith, joined.few);
     most = omega arith;
   }
     where
-      next : job ≤ j → holder_of b j ≡ x → ((job ≡ 0) × (low ≡ 0)) ⊎ (low ≡ suc job) → low ≤ j
-      next l h (inl e) = omega (arith, e.1)
-      next l h (inr e) = elim (ℕ_discrete job j) [ yes d ↦ absurd (omega (arith, joined.free, ap (holder_of b) d, bench.least)) | no d ↦ omega arith ]
+      next : job ≤ j → holder_of b j ≡ x → suc job ≤ j
+      next l h = elim (ℕ_discrete job j) [ yes d ↦ absurd (omega (arith, joined.free, ap (holder_of b) d, bench.least)) | no d ↦ omega arith ]
 
-      low_job : {i : ℕ} → low ≤ i → ((job ≡ 0) × (low ≡ 0)) ⊎ (low ≡ suc job) → job ≤ i
-      low_job l (inl e) = omega (arith, e.0)
-      low_job l (inr e) = omega arith
-
-      apart : (q : Step) → low ≤ q.job → job ≢ 0 → q ≡ step_by job other → ((job ≡ 0) × (low ≡ 0)) ⊎ (low ≡ suc job) → ⊥
-      apart q l d e (inl h) = d h.0
-      apart q l d e (inr h) = omega (arith, ap (λ (p : Step). p.job) e)
+  -- where no job arrives, all are the table's
+  pub begun_all : {j found : ℕ} {queue came : List ℕ} → job ≡ 0 → FirstFrom b s x 1 j → Begun c s.benches x 0 found queue came → AtBench (course_from c 0 1 0) b s x j 0 started found queue came
+  begun_all e f k = record {
+    searching = k.searching;
+    reached = omega arith;
+    here = k.first;
+    next = record { found = λ d. let (l, i, h) = f.found d in (omega arith, i, h); least = λ i l n. f.least i n.least n };
+    agree = λ q l h. (λ i. elim ((joined.here q).0 i) [ inl m ↦ m | inr m ↦ absurd (m.0 e) ], λ i. (joined.here q).1 (inl i));
+    rises = omega arith;
+    most = omega arith;
+  }
 
 -- every step from x was taken: the first level stands in the queue
 pub begun_end : {c : Board} {benches x found : ℕ} {queue came : List ℕ} → Begun c benches x started found queue came → FromBench c benches x 1 found 1 found queue came

@@ -17,7 +17,7 @@ use Rattle.sharing_search.specs.Searching.{Searching, AtLevel, Level, Grown}
 use Rattle.sharing_search.proofs.Steps.{search_most, search_level}
 use Rattle.sharing_paths.specs.declared.FoundPath.{FoundPath}
 use Rattle.sharing_paths_from.specs.ArrivalSearch.{course_from, FromBench, FirstLevel, Weighed, EndFound}
-use Rattle.sharing_paths_from.proofs.JoinedBoard.{benches_most, jobs_most, in_size}
+use Rattle.sharing_paths_from.proofs.JoinedBoard.{jobs_most, in_size}
 use Rattle.sharing_paths_from.proofs.BestEnd.{Earlier, Best, from_grown, found_distance, start_distance, open_distance, goal_least, place_bench, best_low, best_under, best_kept, best_goal, best_end}
 
 -- the level at places `begin` to `end` is whole, or the search stopped when it had found `goal`
@@ -47,11 +47,6 @@ pub record Looked (c : Board) (benches : ℕ) (loads : List ℕ) (x goal : ℕ) 
   pub more : begin < end
 
 module _ {b c : Board} {s : Size} {loads : List ℕ} {x job other goal end₀ : ℕ} {queue₀ came₀ : List ℕ} (k : FirstLevel b c s loads x job other goal end₀ queue₀ came₀) where
-  -- the bench and the goal are two of the arrays, and the bench has jobs
-  pub level_small : (x ≤ most_benches) × (goal ≤ most_benches) × (1 ≤ at loads x)
-  level_small =
-      (omega (arith, k.bench.most, benches_most k.joined), omega (arith, k.lightest.is.most, benches_most k.joined), omega (arith, k.heavier))
-
   -- what is known at a level, whether it is whole or not
   record Known (begin end level : ℕ) (queue came : List ℕ) : Type 0 where
     done : ℕ

@@ -1,5 +1,5 @@
 -- The search for the path that the arrival's order names.
-use Rattle.std.specs.Prelude.{ℕ, ◌+◌, ◌≤◌, ◌<◌, ◌≡◌, ◌⊎◌, ◌≢◌, ◌↔◌, List, length}
+use Rattle.std.specs.Prelude.{ℕ, ◌+◌, ◌≤◌, ◌<◌, ◌≡◌, ◌⊎◌, ◌≢◌, ◌↔◌, List, length, Option, None, Some}
 use Rattle.spec_lists.specs.Lists.{In}
 use Rattle.spec_table.specs.Board.{Board, holder_of}
 use Rattle.spec_table.specs.Table.{most_benches, most_jobs, Storable}
@@ -13,6 +13,7 @@ use Rattle.sharing_loads.specs.LoadRanks.{Lightest}
 use Rattle.sharing_search.specs.Searching.{Course, Searching, started}
 use Rattle.sharing_paths.specs.FoundPaths.{Behind}
 use Rattle.sharing_paths.specs.declared.FoundPath.{FoundPath}
+use Rattle.sharing_paths_from.specs.declared.new_job.NewJob.{NewJob}
 
 -- the board c is b, where bench x has one job more, by which it leads to bench `other`; the same steps where job is 0
 pub record WithJob (b c : Board) (s : Size) (x job other : ℕ) : Type 0 where
@@ -24,6 +25,20 @@ pub record WithJob (b c : Board) (s : Size) (x job other : ℕ) : Type 0 where
   pub free : holder_of b job ≡ 0
   pub few : job ≤ most_jobs
   pub leads : other ≤ most_benches
+
+-- the arriving job's number, 0 where none arrives
+abbrev pub job_of : Option NewJob → ℕ
+job_of None = 0
+job_of (Some n) = n.job
+
+-- the bench that the arriving job leads to, 0 where none arrives
+abbrev pub leads_to : Option NewJob → ℕ
+leads_to None = 0
+leads_to (Some n) = n.other
+
+-- the board c is b, where bench x has the arriving job more; the same steps where none arrives
+abbrev pub WithNew : Board → Board → Size → ℕ → Option NewJob → Type 0
+WithNew b c s x arriving = WithJob b c s x (job_of arriving) (leads_to arriving)
 
 -- what a search from x over the board c goes along: every start has the same rank
 abbrev pub course_from : Board → ℕ → ℕ → ℕ → Course

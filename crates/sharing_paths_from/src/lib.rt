@@ -1,7 +1,7 @@
 // The arrival's path, which levelling flips too: found before anything is written.
 #![tactic(auto)]
 
-ghost use Rattle.std.specs.Prelude.{ℕ, ◌+◌, ◌≡◌, length, replicate};
+ghost use Rattle.std.specs.Prelude.{ℕ, ◌+◌, ◌≡◌, replicate};
 ghost use Rattle.spec_table.specs.Board.{Board};
 ghost use Rattle.spec_table.specs.Table.{most_benches, decode};
 ghost use Rattle.spec_sharing.specs.Sharing.{arrival_choice};
@@ -11,63 +11,56 @@ ghost use Rattle.table_order.specs.InOrder.{InOrder};
 ghost use Rattle.graph_lists.specs.Arrays.{at, LoadsIn};
 ghost use Rattle.sharing_loads.specs.LoadRanks.{LightestAt};
 ghost use Rattle.sharing_paths.specs.FoundPaths.{last_of, PathFound};
-ghost use Rattle.sharing_paths_from.specs.ArrivalSearch.{WithJob, FromBench, FirstLevel, Weighed, EndFound};
+ghost use Rattle.sharing_paths_from.specs.ArrivalSearch.{WithNew, FromBench, FirstLevel, Weighed, EndFound};
 
-use graph_lists::scratch;
+pub use new_job::NewJob;
 use sharing_paths::FoundPath;
-use table_size::Size;
+use table_size::{PerBench, Size};
+
+mod new_job;
 
 // Finds, of the benches at places `begin` to `end` of the queue, the one with the lowest load, then the lowest number.
-fn lightest_among(
-    queue: &[u16; Size::MOST_BENCHES + 1],
-    begin: usize,
-    end: usize,
-    loads: &[u16; Size::MOST_BENCHES + 1],
-) -> usize
+fn lightest_among(queue: &PerBench<u16>, begin: usize, end: usize, loads: &PerBench<u16>) -> usize
     requires { Weighed queue.now begin end loads.now }
     ensures { LightestAt loads.now (at queue.now) begin end result }
 {
-    let mut low = queue[begin] as usize;
-    let mut i = begin + 1;
-    while i < end {
-        let y = queue[i] as usize;
+    let mut low = usize::from(queue[begin]);
+    for &y in &queue[begin + 1..end] {
+        let y = usize::from(y);
         // Compares load and number at once: no number reaches 512.
-        if loads[y] as usize * 512 + y < loads[low] as usize * 512 + low {
+        if usize::from(loads[y]) * 512 + y < usize::from(loads[low]) * 512 + low {
             low = y;
         }
-        i += 1;
     }
     low
 }
 
-// Starts a search at x and takes the steps from it, the new job's in its place; tells how many benches are found.
-// Job 0 is none.
+// Starts a search at x and takes the steps from it, an arriving job's in its place; tells how many benches are found.
 fn begin_with(
     t: &[u8],
     s: Size,
     x: usize,
-    job: usize,
-    other: usize,
-    queue: &mut [u16; Size::MOST_BENCHES + 1],
-    came: &mut [u16; Size::MOST_BENCHES + 1],
+    arriving: Option<NewJob>,
+    queue: &mut PerBench<u16>,
+    came: &mut PerBench<u16>,
 ) -> usize
     requires in_order { InOrder t.now s }
     requires bench_in { BenchIn s x }
-    requires queue_len { length queue.old ≡ most_benches + 1 }
     requires came_value { came.old ≡ replicate (most_benches + 1) 0 }
-    requires with_job { (c : Board) × WithJob (decode t.now) c s x job other }
-    ensures { (c : Board) → WithJob (decode t.now) c s x job other →
+    requires with_job { (c : Board) × WithNew (decode t.now) c s x arriving }
+    ensures { (c : Board) → WithNew (decode t.now) c s x arriving →
         FromBench c s.benches x 1 result 1 result queue.new came.new }
 {
     let start = sharing_search::discover(x, Size::MOST_JOBS as u16 + 1, 0, queue, came);
     let first = table_order::first_job(t, s, x);
-    let below = sharing_search::expand(t, s, x, first, job, start, queue, came);
-    let mut found = below.found;
-    if job != 0 {
-        found = sharing_search::discover(other, job as u16, found, queue, came);
-    }
-    let rest = sharing_search::expand(t, s, x, below.job, Size::MOST_JOBS + 1, found, queue, came);
-    rest.found
+    let Some(new) = arriving else {
+        let all = sharing_search::expand(t, s, x, first, Size::MOST_JOBS + 1, start, queue, came);
+        return all.found;
+    };
+    let below = sharing_search::expand(t, s, x, first, new.job, start, queue, came);
+    let found = sharing_search::discover(new.other, new.job as u16, below.found, queue, came);
+    let above = sharing_search::expand(t, s, x, below.job, Size::MOST_JOBS + 1, found, queue, came);
+    above.found
 }
 
 // Goes on level by level, and finds the last bench of the path that the arrival's order names: of the levels' lightest
@@ -76,12 +69,12 @@ fn begin_with(
 fn end_from(
     t: &[u8],
     s: Size,
-    loads: &[u16; Size::MOST_BENCHES + 1],
+    loads: &PerBench<u16>,
     x: usize,
     goal: usize,
     end: usize,
-    queue: &mut [u16; Size::MOST_BENCHES + 1],
-    came: &mut [u16; Size::MOST_BENCHES + 1],
+    queue: &mut PerBench<u16>,
+    came: &mut PerBench<u16>,
 ) -> FoundPath
     requires in_order { InOrder t.now s }
     requires loads_in { LoadsIn s loads.now }
@@ -121,22 +114,20 @@ fn end_from(
 
 // Finds, of the improving paths from x on the board with one job more, the one that the arrival's order names: its
 // jobs into `path`, its last bench and how many they are; x and 0 where there is none. The loads are those of that
-// board. Bench x has the new job, which leads to `other`; job 0 is none, and the board is the table's.
+// board. Bench x has the arriving job; where there is none, the board is the table's.
 pub fn find_from(
     t: &[u8],
     s: Size,
-    loads: &[u16; Size::MOST_BENCHES + 1],
+    loads: &PerBench<u16>,
     x: usize,
-    job: usize,
-    other: usize,
-    path: &mut [u16; Size::MOST_BENCHES + 1],
+    arriving: Option<NewJob>,
+    path: &mut PerBench<u16>,
 ) -> FoundPath
     requires in_order { InOrder t.now s }
     requires bench_in { BenchIn s x }
     requires loads_in { LoadsIn s loads.now }
-    requires path_len { length path.old ≡ most_benches + 1 }
-    requires with_job { (c : Board) × WithJob (decode t.now) c s x job other × Loaded c loads.now }
-    ensures { (c : Board) → WithJob (decode t.now) c s x job other → Loaded c loads.now →
+    requires with_job { (c : Board) × WithNew (decode t.now) c s x arriving × Loaded c loads.now }
+    ensures { (c : Board) → WithNew (decode t.now) c s x arriving → Loaded c loads.now →
         PathFound (arrival_choice c x) (last_of x (arrival_choice c x)) path.new result }
 {
     let goal = sharing_loads::lightest(s, loads);
@@ -144,8 +135,8 @@ pub fn find_from(
         return FoundPath { bench: x, jobs: 0 };
     }
     // Until the path is written, its array is the queue.
-    let mut came = scratch::benches();
-    let found = begin_with(t, s, x, job, other, path, &mut came);
+    let mut came = [0; Size::MOST_BENCHES + 1];
+    let found = begin_with(t, s, x, arriving, path, &mut came);
     let end = end_from(t, s, loads, x, goal, found, path, &mut came);
     sharing_paths::follow_back(t, s, &came, end.bench, end.jobs, path);
     end

@@ -1,6 +1,7 @@
 -- A round goes on, level by level: until the bench that lost a job is found, or nothing is open.
 use Prim.Native.Nat.{ℕ, suc, ◌+◌, ◌-◌, ◌≤◌, ◌<◌}
 use native.Mathlib.Omega.{arith}
+use Rattle.std.specs.Prelude.{None, Some}
 use native.Mathlib.Decide.{dec_lt}
 use native.Mathlib.Numerals.{add-one}
 use mathlib.Core.Path.{◌≡◌, refl, sym, ap, ◌∙◌}
@@ -26,10 +27,6 @@ module _ {b c : Board} {s : Size} {loads : List ℕ} {x h begin end level : ℕ}
   -- the benches found have room in the queue
   pub level_few : end ≤ most_benches
   level_few = omega (arith, search_few k.searching, k.searching.few)
-
-  -- x is a place of the array
-  pub level_goal : x ≤ most_benches
-  level_goal = omega (arith, k.bench.most, k.searching.few)
 
   -- there are more benches than levels
   pub level_short : begin < end → level < most_benches
@@ -126,9 +123,15 @@ module _ {b c : Board} {s : Size} {loads : List ℕ} {x h begin end level : ℕ}
 
 module _ {b c : Board} {s : Size} {loads : List ℕ} {x h found : ℕ} {queue came : List ℕ} where
   -- a round that found x ..
-  pub round_found : (n : ℕ) → GoalFound b c s x (n + 1) found queue came → RoundOf b c s loads x h queue came (record { found = found; jobs = n + 1 })
-  round_found n k = record { none = λ e. absurd (omega arith); some = λ d. k }
+  pub round_found : (n : ℕ) → GoalFound b c s x (n + 1) found queue came → RoundOf b c s loads x h queue came (record { found = found; jobs = Some (n + 1) })
+  round_found n k =
+      record {
+        none = λ e. absurd (cc);
+        some = λ m e.
+            let same : n + 1 ≡ m = cc in
+            (λ z. omega (arith, same), rw (← same) k);
+      }
 
   -- .. and one that did not
-  pub round_missed : Rounds b c s loads x (h - 1) found queue came → RoundOf b c s loads x h queue came (record { found = found; jobs = 0 })
-  round_missed k = record { none = λ e. k; some = λ d. absurd (d refl) }
+  pub round_missed : Rounds b c s loads x (h - 1) found queue came → RoundOf b c s loads x h queue came (record { found = found; jobs = None })
+  round_missed k = record { none = λ e. k; some = λ m e. absurd (cc) }

@@ -203,7 +203,3 @@ module _ {b c : Board} {s : Size} {loads : List ℕ} {x h begin v end : ℕ} {qu
         | yes e ↦ k.heavy z t (inr (e, omega (arith, within_high 1 c.benches z t, k.without.benches)))
         | no d ↦ k.heavy z t (inl (omega arith))
       ]
-
--- the benches that are left get fewer
-pub one_less : {n v : ℕ} → v ≤ n → n + 1 - (v + 1) < n + 1 - v
-one_less h = omega arith

@@ -1,5 +1,5 @@
 -- The search for the path that the closing's order names.
-use Rattle.std.specs.Prelude.{ℕ, suc, ◌+◌, ◌-◌, ◌≤◌, ◌<◌, ◌≡◌, ◌⊎◌, ◌≢◌, ◌↔◌, List, T, length}
+use Rattle.std.specs.Prelude.{ℕ, suc, ◌+◌, ◌-◌, ◌≤◌, ◌<◌, ◌≡◌, ◌⊎◌, ◌≢◌, ◌↔◌, List, T, length, None, Some}
 use Rattle.std.proofs.Math.Option.{some}
 use Rattle.spec_lists.specs.Lists.{within, In}
 use Rattle.spec_table.specs.Board.{Board, load, heaviest}
@@ -65,5 +65,5 @@ pub record GoalFound (b c : Board) (s : Size) (x n found : ℕ) (queue came : Li
 
 -- what a round from the benches of load h did: it found x, or is over
 pub record RoundOf (b c : Board) (s : Size) (loads : List ℕ) (x h : ℕ) (queue came : List ℕ) (r : Round) : Type 0 where
-  pub none : r.jobs ≡ 0 → Rounds b c s loads x (h - 1) r.found queue came
-  pub some : r.jobs ≢ 0 → GoalFound b c s x r.jobs r.found queue came
+  pub none : r.jobs ≡ None → Rounds b c s loads x (h - 1) r.found queue came
+  pub some : (n : ℕ) → r.jobs ≡ Some n → (n ≢ 0) × GoalFound b c s x n r.found queue came

@@ -3,41 +3,39 @@
 // load that are not found yet, and so on. What a round found does not lead there, and is not searched again.
 #![tactic(auto)]
 
-ghost use Rattle.std.specs.Prelude.{ℕ, ◌+◌, ◌≤◌, ◌≡◌, ◌≢◌, List, length};
+ghost use Rattle.std.specs.Prelude.{ℕ, ◌+◌, ◌≤◌, ◌≢◌, List};
 ghost use Rattle.spec_lists.specs.Lists.{greatest};
 ghost use Rattle.spec_table.specs.Board.{Board};
-ghost use Rattle.spec_table.specs.Table.{most_benches, decode};
+ghost use Rattle.spec_table.specs.Table.{decode};
 ghost use Rattle.spec_sharing.specs.Sharing.{closing_choice};
-ghost use Rattle.table_size.specs.Sizes.{Limits, BenchIn};
+ghost use Rattle.table_size.specs.Sizes.{BenchIn};
 ghost use Rattle.table_board.specs.BoardView.{Loaded};
 ghost use Rattle.table_order.specs.InOrder.{InOrder};
 ghost use Rattle.graph_lists.specs.Arrays.{at, LoadsIn};
 ghost use Rattle.sharing_paths.specs.FoundPaths.{start_of, PathFound};
 ghost use Rattle.sharing_paths_to.specs.ClosingSearch.{WithoutJob, Rounds, InRound, GoalFound, RoundOf};
 
-use graph_lists::scratch;
 use sharing_paths::FoundPath;
 use table_board::jobs;
-use table_size::Size;
+use table_size::{PerBench, Size};
 
-// What a round found: how many benches are found in all, and how many jobs lead to the bench that lost one, 0 where it
-// was not found.
+// What a round found: how many benches are found in all, and how many jobs lead to the bench that lost one, where it was
+// found.
 #[derive(Clone, Copy)]
 struct Round {
     found: usize,
-    jobs: usize,
+    jobs: Option<usize>,
 }
 
 // Starts the search at every bench of this load that is not found, in rising number; tells how many are found then.
 fn seed(
     s: Size,
-    loads: &[u16; Size::MOST_BENCHES + 1],
+    loads: &PerBench<u16>,
     load: usize,
     found: usize,
-    queue: &mut [u16; Size::MOST_BENCHES + 1],
-    came: &mut [u16; Size::MOST_BENCHES + 1],
+    queue: &mut PerBench<u16>,
+    came: &mut PerBench<u16>,
 ) -> usize
-    requires limits { Limits s }
     requires loads_in { LoadsIn s loads.now }
     requires by_index { (b c : Board) × (x : ℕ) × (at loads.now x + 2 ≤ load) ×
         Rounds b c s loads.now x load found queue.old came.old }
@@ -45,14 +43,11 @@ fn seed(
         Rounds b c s loads.now x load found queue.old came.old →
         InRound b c s loads.now x load found result 0 queue.new came.new }
 {
-    let benches = s.benches();
     let mut end = found;
-    let mut x = 1;
-    while x <= benches {
-        if loads[x] as usize == load {
+    for x in 1..s.benches() + 1 {
+        if usize::from(loads[x]) == load {
             end = sharing_search::discover(x, Size::MOST_JOBS as u16 + 1, end, queue, came);
         }
-        x += 1;
     }
     end
 }
@@ -61,12 +56,12 @@ fn seed(
 fn search_round(
     t: &[u8],
     s: Size,
-    loads: &[u16; Size::MOST_BENCHES + 1],
+    loads: &PerBench<u16>,
     load: usize,
     x: usize,
     found: usize,
-    queue: &mut [u16; Size::MOST_BENCHES + 1],
-    came: &mut [u16; Size::MOST_BENCHES + 1],
+    queue: &mut PerBench<u16>,
+    came: &mut PerBench<u16>,
 ) -> Round
     requires in_order { InOrder t.now s }
     requires loads_in { LoadsIn s loads.now }
@@ -86,7 +81,7 @@ fn search_round(
         if came[x] != 0 {
             return Round {
                 found: more,
-                jobs: level,
+                jobs: Some(level),
             };
         }
         begin = end;
@@ -94,7 +89,7 @@ fn search_round(
     }
     Round {
         found: end,
-        jobs: 0,
+        jobs: None,
     }
 }
 
@@ -102,13 +97,12 @@ fn search_round(
 fn path_to(
     t: &[u8],
     s: Size,
-    came: &[u16; Size::MOST_BENCHES + 1],
+    came: &PerBench<u16>,
     x: usize,
     n: usize,
-    path: &mut [u16; Size::MOST_BENCHES + 1],
+    path: &mut PerBench<u16>,
 ) -> FoundPath
     requires in_order { InOrder t.now s }
-    requires path_len { length path.old ≡ most_benches + 1 }
     requires n_nonzero { n ≢ 0 }
     requires by_index { (c : Board) × (found : ℕ) × (queue : List ℕ) × WithoutJob (decode t.now) c s x ×
         GoalFound (decode t.now) c s x n found queue came.now }
@@ -117,7 +111,7 @@ fn path_to(
         PathFound (closing_choice c x) (start_of x (closing_choice c x)) path.new result }
 {
     sharing_paths::follow_back(t, s, came, x, n, path);
-    let bench = jobs::holder(t, s, path[0] as usize);
+    let bench = jobs::holder(t, s, usize::from(path[0]));
     FoundPath { bench, jobs: n }
 }
 
@@ -128,32 +122,31 @@ fn path_to(
 pub fn find_to(
     t: &[u8],
     s: Size,
-    loads: &[u16; Size::MOST_BENCHES + 1],
+    loads: &PerBench<u16>,
     x: usize,
     top: usize,
-    path: &mut [u16; Size::MOST_BENCHES + 1],
+    path: &mut PerBench<u16>,
 ) -> FoundPath
     requires in_order { InOrder t.now s }
     requires bench_in { BenchIn s x }
     requires loads_in { LoadsIn s loads.now }
     requires loads_bound { greatest s.benches (at loads.now) ≤ top }
-    requires path_len { length path.old ≡ most_benches + 1 }
     requires without_job { (c : Board) × WithoutJob (decode t.now) c s x × Loaded c loads.now }
     ensures { (c : Board) → WithoutJob (decode t.now) c s x → Loaded c loads.now →
         PathFound (closing_choice c x) (start_of x (closing_choice c x)) path.new result }
 {
-    let least = loads[x] as usize + 2;
+    let least = usize::from(loads[x]) + 2;
     if top < least {
         return FoundPath { bench: x, jobs: 0 };
     }
     // Until the path is written, its array is the queue.
-    let mut came = scratch::benches();
+    let mut came = [0; Size::MOST_BENCHES + 1];
     let mut load = top;
     let mut found = 0;
     while least <= load {
         let round = search_round(t, s, loads, load, x, found, path, &mut came);
-        if round.jobs != 0 {
-            return path_to(t, s, &came, x, round.jobs, path);
+        if let Some(jobs) = round.jobs {
+            return path_to(t, s, &came, x, jobs, path);
         }
         found = round.found;
         load = sharing_loads::next_lower(s, loads, load);

@@ -12,7 +12,7 @@ ghost use Rattle.graph_lists.specs.Arrays.{at, LoadsIn};
 ghost use Rattle.sharing_start.specs.PathStart.{StartOf, Searched, SearchedTo};
 
 use graph_lists::{keys, scratch};
-use table_size::Size;
+use table_size::{PerBench, Size};
 
 // The first bench that starts an improving path, 0 for none; how many benches are found.
 #[derive(Clone, Copy)]
@@ -26,11 +26,11 @@ struct Search {
 fn search_from(
     t: &[u8],
     s: Size,
-    loads: &[u16; Size::MOST_BENCHES + 1],
+    loads: &PerBench<u16>,
     x: usize,
     found: usize,
-    queue: &mut [u16; Size::MOST_BENCHES + 1],
-    came: &mut [u16; Size::MOST_BENCHES + 1],
+    queue: &mut PerBench<u16>,
+    came: &mut PerBench<u16>,
 ) -> Search
     requires in_order { InOrder t.now s }
     requires loaded { Loaded (decode t.now) loads.now }
@@ -64,11 +64,11 @@ fn search_from(
 fn start_among(
     t: &[u8],
     s: Size,
-    loads: &[u16; Size::MOST_BENCHES + 1],
+    loads: &PerBench<u16>,
     load: usize,
     found: usize,
-    queue: &mut [u16; Size::MOST_BENCHES + 1],
-    came: &mut [u16; Size::MOST_BENCHES + 1],
+    queue: &mut PerBench<u16>,
+    came: &mut PerBench<u16>,
 ) -> Search
     requires in_order { InOrder t.now s }
     requires loads_in { LoadsIn s loads.now }
@@ -100,8 +100,8 @@ fn start_among(
 pub fn first_start(
     t: &[u8],
     s: Size,
-    loads: &[u16; Size::MOST_BENCHES + 1],
-    queue: &mut [u16; Size::MOST_BENCHES + 1],
+    loads: &PerBench<u16>,
+    queue: &mut PerBench<u16>,
 ) -> usize
     requires in_order { InOrder t.now s }
     requires loads_in { LoadsIn s loads.now }

@@ -10,7 +10,7 @@ ghost use Rattle.graph_lists.specs.Arrays.{Tells, LoadsIn};
 ghost use Rattle.sharing_tight_set.specs.MarkedSets.{marked, HeavyMarked, Lighter, Measured, TightSet};
 
 use graph_lists::scratch;
-use table_size::Size;
+use table_size::{PerBench, Size};
 
 // How many benches are in a set, and how many jobs they hold.
 #[derive(Clone, Copy)]
@@ -29,8 +29,8 @@ pub fn unmarked() -> [bool; Size::MOST_BENCHES + 1]
 // Counts the marked benches, and adds up their loads.
 fn measure(
     s: Size,
-    loads: &[u16; Size::MOST_BENCHES + 1],
-    marks: &[bool; Size::MOST_BENCHES + 1],
+    loads: &PerBench<u16>,
+    marks: &PerBench<bool>,
 ) -> Extent
     requires limits { Limits s }
     requires loads_in { LoadsIn s loads.now }
@@ -56,9 +56,9 @@ fn measure(
 // Marks the benches with load h or more; tells whether one has less.
 fn mark_heavy(
     s: Size,
-    loads: &[u16; Size::MOST_BENCHES + 1],
+    loads: &PerBench<u16>,
     h: usize,
-    marks: &mut [bool; Size::MOST_BENCHES + 1],
+    marks: &mut PerBench<bool>,
 ) -> bool
     requires limits { Limits s }
     requires loads_in { LoadsIn s loads.now }
@@ -84,9 +84,9 @@ fn mark_heavy(
 fn mark_closure(
     t: &[u8],
     s: Size,
-    loads: &[u16; Size::MOST_BENCHES + 1],
+    loads: &PerBench<u16>,
     h: usize,
-    marks: &mut [bool; Size::MOST_BENCHES + 1],
+    marks: &mut PerBench<bool>,
 )
     requires sound_table { SoundTable t.now s }
     requires loaded { Loaded (decode t.now) loads.now }
@@ -106,9 +106,9 @@ fn mark_closure(
 pub fn tight_set(
     t: &[u8],
     s: Size,
-    loads: &[u16; Size::MOST_BENCHES + 1],
+    loads: &PerBench<u16>,
     h: usize,
-    marks: &mut [bool; Size::MOST_BENCHES + 1],
+    marks: &mut PerBench<bool>,
 ) -> Extent
     requires sound_table { SoundTable t.now s }
     requires loaded { Loaded (decode t.now) loads.now }
@@ -122,7 +122,7 @@ pub fn tight_set(
 }
 
 // Writes the marked benches, rising, as words at the list's beginning.
-pub fn write(s: Size, marks: &[bool; Size::MOST_BENCHES + 1], list: &mut [u8])
+pub fn write(s: Size, marks: &PerBench<bool>, list: &mut [u8])
     requires limits { Limits s }
     requires marks_in_bounds { 2 * length (marked s marks.now) ≤ length list.old }
     ensures { list.new ≡ in_list (marked s marks.now) list.old }

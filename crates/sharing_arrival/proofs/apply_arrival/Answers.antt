@@ -3,7 +3,7 @@ use mathlib.Core.List.{[], ◌∷◌}
 use Rattle.spec_sharing.specs.Sharing.{arrive}
 use Rattle.spec_table.specs.Table.{decode}
 use Rattle.table_copies.proofs.Ordering.{rising_table_lem}
-use Rattle.sharing_arrival.proofs.TakingIn.{Entered, taking_entered, taking_free, taking_fills, taking_route, taking_done}
+use Rattle.sharing_arrival.proofs.TakingIn.{Entered, taking_entered, taking_fills, taking_route, taking_done}
 use Rattle.sharing_arrival.proofs.apply_arrival.Goals as goal
 use Rattle.sharing_arrival.proofs.apply_arrival.Goals.{Start}
 
@@ -14,25 +14,21 @@ entered c =
     let k = c.requires.in_order in
     taking_entered k.sound c.requires.may_arrive f (rising_table_lem k.sound k.bytes) e
 
-pub add_job-requires : goal.add_job-requires
-add_job-requires c =
+pub add_job-requires-clause-fillable : goal.add_job-requires-clause-fillable
+add_job-requires-clause-fillable c =
     let (x, f, e) = c.requires.by_index in
     let k = c.requires.in_order in
-    let m = c.requires.may_arrive in
-    let o = rising_table_lem k.sound k.bytes in
-    record { in_order = k; fillable = taking_fills k.sound m f o (entered (goal.at.add_job-requires c).Start); j_value = taking_free k.sound m f o }
+    taking_fills k.sound c.requires.may_arrive f (rising_table_lem k.sound k.bytes) (entered (goal.at.add_job-requires-clause-fillable c).Start)
 
-pub hand_along-requires : goal.hand_along-requires
-hand_along-requires c =
+pub hand_along-requires-clause-by_index : goal.hand_along-requires-clause-by_index
+hand_along-requires-clause-by_index c =
     let (x, f, e) = c.requires.by_index in
     let k = c.requires.in_order in
-    let m = c.requires.may_arrive in
-    let n = entered (goal.at.hand_along-requires c).Start in
-    record { in_order = c.add_job.ensures.in_order; n_le_most_benches = f.found.few; path_len = f.found.long; by_index = (n.start, n.left, taking_route k.sound m f (rising_table_lem k.sound k.bytes) n c.add_job.ensures) }
+    let n = entered (goal.at.hand_along-requires-clause-by_index c).Start in
+    (n.start, n.left, taking_route k.sound c.requires.may_arrive f (rising_table_lem k.sound k.bytes) n c.add_job.ensures)
 
 pub returns : goal.returns
 returns c =
     let (x, f, e) = c.requires.by_index in
     let k = c.requires.in_order in
-    let m = c.requires.may_arrive in
-    taking_done k.sound m f (rising_table_lem k.sound k.bytes) (entered (goal.at.returns c).Start) c.add_job.ensures c.hand_along.ensures
+    taking_done k.sound c.requires.may_arrive f (rising_table_lem k.sound k.bytes) (entered (goal.at.returns c).Start) c.add_job.ensures c.hand_along.ensures

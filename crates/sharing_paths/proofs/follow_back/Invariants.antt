@@ -1,4 +1,4 @@
--- The loop's invariant: the jobs from `left` on are listed, those before it lead to bench x (`Followed`). The measure is how many they are.
+-- The loop's invariant: the jobs from `left` on are listed, those before it lead to bench x (`Followed`).
 use Prim.Native.Nat.{ℕ, ◌+◌}
 use mathlib.Core.Path.{◌≡◌}
 use mathlib.Core.List.{List}
@@ -10,9 +10,7 @@ use Rattle.sharing_paths.proofs.Following.{Followed}
 use Rattle.sharing_paths.proofs.follow_back.Given as goal
 
 abbrev pub invariant-loop-left : goal.invariant-loop-left
-invariant-loop-left l =
-    (length l.path ≡ most_benches + 1) ×
-    ((c : Course) (found : ℕ) (queue : List ℕ) (k : Behind (decode l.t) c l.s.benches found queue l.came l.y l.n) → Followed k.searching l.y l.n l.path l.x l.left)
-
-abbrev pub decreases-loop-left : goal.decreases-loop-left
-decreases-loop-left l = l.left
+invariant-loop-left l = record {
+  long : length l.path ≡ most_benches + 1;
+  followed : (c : Course) (found : ℕ) (queue : List ℕ) (k : Behind (decode l.t) c l.s.benches found queue l.came l.y l.n) → Followed k.searching l.y l.n l.path l.x l.left;
+}

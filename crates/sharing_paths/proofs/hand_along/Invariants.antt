@@ -1,6 +1,5 @@
 -- The jobs go one after the other. The loop's invariant: what is left of the route, handed over from here, gives what the whole one does.
--- The measure is the number of jobs that are left.
-use Prim.Native.Nat.{ℕ, ◌-◌}
+use Prim.Native.Nat.{ℕ}
 use mathlib.Core.List.{List}
 use Rattle.spec_table.specs.Table.{decode}
 use Rattle.spec_sharing.specs.Paths.{Step}
@@ -8,9 +7,6 @@ use Rattle.sharing_paths.specs.FoundPaths.{RouteIn}
 use Rattle.sharing_paths.proofs.HandingAlong.{Handing}
 use Rattle.sharing_paths.proofs.hand_along.Given as goal
 
-abbrev pub invariant-loop-done : goal.invariant-loop-done
-invariant-loop-done l =
-    (x : ℕ) (r : List Step) → RouteIn (decode l.initial.t) l.path l.first l.n l.end x r → Handing (decode l.initial.t) r l.t l.s l.path l.done l.n l.end
-
-abbrev pub decreases-loop-done : goal.decreases-loop-done
-decreases-loop-done l = l.n - l.done
+abbrev pub invariant-loop-place : goal.invariant-loop-place
+invariant-loop-place l =
+    (x : ℕ) (r : List Step) → RouteIn (decode l.initial.t) l.path l.first l.n l.end x r → Handing (decode l.initial.t) r l.t l.s l.path l.place l.n l.end

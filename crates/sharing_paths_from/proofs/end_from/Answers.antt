@@ -2,17 +2,12 @@ use Prim.Native.Nat.{ℕ, ◌≤◌, ◌<◌}
 use native.Mathlib.Omega.{arith}
 use Rattle.spec_table.specs.Board.{Board}
 use Rattle.spec_table.specs.Table.{most_benches, decode}
-use Rattle.graph_lists.specs.Arrays.{at}
 use Rattle.sharing_paths_from.specs.ArrivalSearch.{course_from, FirstLevel}
-use Rattle.sharing_paths_from.proofs.Levels.{Looked, level_small, levels_start, levels_weighed, levels_small, levels_lower, levels_same, levels_end, looked_few, looked_end, looked_level, looked_turn}
+use Rattle.sharing_paths_from.proofs.Levels.{Looked, levels_start, levels_weighed, levels_small, levels_lower, levels_same, levels_end, looked_few, looked_end, looked_level, looked_turn}
 use Rattle.sharing_paths_from.proofs.end_from.Goals as goal
-use Rattle.sharing_paths_from.proofs.end_from.Goals.{After-lightest_among-y, Joined-n-bound, Start, then-n-bound, else-n-bound}
+use Rattle.sharing_paths_from.proofs.end_from.Goals.{After-lightest_among-y, Joined-n-bound, then-n-bound, else-n-bound}
 
--- on the board that the contract speaks of, the numbers of bench and goal are small
-small : (c : Start) → (c.args.x ≤ most_benches) × (c.args.goal ≤ most_benches) × (1 ≤ at c.args.loads.now c.args.x)
-small c = let (b, job, other, k) = c.requires.by_index in level_small k
-
--- the level's lightest bench is small too
+-- the level's lightest bench is small
 lightest-small : (c : After-lightest_among-y) → c.lightest_among-y.result ≤ most_benches
 lightest-small c =
     let (b, job, other, k) = c.requires.by_index in
@@ -26,21 +21,6 @@ looked c b job other k =
       | then-n-bound w ↦ rw (w.best-is, w.bound-is) (levels_lower k h c.loop-begin-test.true c.lightest_among-y.ensures w.if-n-bound.true)
       | else-n-bound w ↦ rw (w.best-is, w.bound-is) (levels_same k h c.loop-begin-test.true c.lightest_among-y.ensures w.if-n-bound.false)
     ]
-
-pub offset_bounds-loads-goal : goal.offset_bounds-loads-goal
-offset_bounds-loads-goal c = omega (arith, small (goal.at.offset_bounds-loads-goal c).Start)
-
-pub bounds-loads-goal : goal.bounds-loads-goal
-bounds-loads-goal c = omega (arith, small (goal.at.bounds-loads-goal c).Start)
-
-pub offset_bounds-loads-x : goal.offset_bounds-loads-x
-offset_bounds-loads-x c = omega (arith, small (goal.at.offset_bounds-loads-x c).Start)
-
-pub bounds-loads-x : goal.bounds-loads-x
-bounds-loads-x c = omega (arith, small (goal.at.bounds-loads-x c).Start)
-
-pub overflow_sub-bound : goal.overflow_sub-bound
-overflow_sub-bound c = (small (goal.at.overflow_sub-bound c).Start).2
 
 pub loop-begin-init : goal.loop-begin-init
 loop-begin-init c = λ b job other k. levels_start k
@@ -59,10 +39,10 @@ bounds-loads-y c = omega (arith, lightest-small (goal.at.bounds-loads-y c).After
 pub returns-then-bound-low : goal.returns-then-bound-low
 returns-then-bound-low c = λ b job other k. looked_end k (looked (goal.at.returns-then-bound-low c).Joined-n-bound b job other k) c.if-bound-low.true
 
-pub expand_level-more-requires : goal.expand_level-more-requires
-expand_level-more-requires c =
+pub expand_level-more-requires-clause-at_level : goal.expand_level-more-requires-clause-at_level
+expand_level-more-requires-clause-at_level c =
     let (b, job, other, k) = c.requires.by_index in
-    record { in_order = c.requires.in_order; goal_le_most_benches = (small (goal.at.expand_level-more-requires c).Start).1; at_level = (course_from b c.loop-begin.begin c.loop-begin.end c.loop-begin.level, looked_level k (looked (goal.at.expand_level-more-requires c).Joined-n-bound b job other k) c.if-bound-low.false) }
+    (course_from b c.loop-begin.begin c.loop-begin.end c.loop-begin.level, looked_level k (looked (goal.at.expand_level-more-requires-clause-at_level c).Joined-n-bound b job other k) c.if-bound-low.false)
 
 -- the level's number is small
 few : (c : Joined-n-bound) → (c.loop-begin.level < c.loop-begin.end) × (c.loop-begin.end ≤ most_benches)

@@ -1,9 +1,8 @@
-use Prim.Native.Nat.{◌≤◌}
 use native.Mathlib.Omega.{arith}
 use Rattle.spec_table.specs.Board.{Board}
-use Rattle.spec_table.specs.Table.{most_benches, decode}
+use Rattle.spec_table.specs.Table.{decode}
 use Rattle.sharing_paths_to.specs.ClosingSearch.{course_to, Rounds, InRound}
-use Rattle.sharing_paths_to.proofs.RoundLevels.{level_goal, level_short, level_less, level_begins, level_found, level_over, round_over, round_found, round_missed}
+use Rattle.sharing_paths_to.proofs.RoundLevels.{level_short, level_less, level_begins, level_found, level_over, round_over, round_found, round_missed}
 use Rattle.sharing_paths_to.proofs.search_round.Goals as goal
 use Rattle.sharing_paths_to.proofs.search_round.Goals.{At-loop-begin}
 
@@ -12,36 +11,16 @@ seeded : (c : At-loop-begin) → (board : Board) → Rounds (decode c.args.t.now
 seeded c board r =
     c.loop-begin.invariant board (c.seed-end.ensures (decode c.args.t.now) board c.args.x c.requires.x_bound r)
 
-pub seed-end-requires : goal.seed-end-requires
-seed-end-requires c =
+pub expand_level-more-requires-clause-at_level : goal.expand_level-more-requires-clause-at_level
+expand_level-more-requires-clause-at_level c =
     let (board, r) = c.requires.rounds in
-    record { limits = c.requires.in_order.sound.size.limits; loads_in = c.requires.loads_in; by_index = (decode c.args.t.now, board, c.args.x, c.requires.x_bound, r) }
-
-pub loop-begin-init : goal.loop-begin-init
-loop-begin-init c = λ board r. r
-
-pub expand_level-more-requires : goal.expand_level-more-requires
-expand_level-more-requires c =
-    let (board, r) = c.requires.rounds in
-    let k = seeded (goal.at.expand_level-more-requires c).At-loop-begin board r in
-    record { in_order = c.requires.in_order; goal_le_most_benches = level_goal k; at_level = (course_to board c.args.load c.loop-begin.begin c.loop-begin.end c.loop-begin.level, level_begins k) }
+    let k = seeded (goal.at.expand_level-more-requires-clause-at_level c).At-loop-begin board r in
+    (course_to board c.args.load c.loop-begin.begin c.loop-begin.end c.loop-begin.level, level_begins k)
 
 pub overflow_add-level : goal.overflow_add-level
 overflow_add-level c =
     let (board, r) = c.requires.rounds in
     omega (arith, level_short (seeded (goal.at.overflow_add-level c).At-loop-begin board r) c.loop-begin-test.true)
-
--- x is a place of the array
-place : (c : At-loop-begin) → c.args.x ≤ most_benches
-place c =
-    let (board, r) = c.requires.rounds in
-    level_goal (seeded c board r)
-
-pub offset_bounds-came-x : goal.offset_bounds-came-x
-offset_bounds-came-x c = omega (arith, place (goal.at.offset_bounds-came-x c).At-loop-begin)
-
-pub bounds-came-x : goal.bounds-came-x
-bounds-came-x c = omega (arith, place (goal.at.bounds-came-x c).At-loop-begin)
 
 pub returns-then-came-x-ne0 : goal.returns-then-came-x-ne0
 returns-then-came-x-ne0 c =
