@@ -11,6 +11,7 @@ pub use value_list::Values;
 mod value_list;
 
 // What an accepted call answers.
+// Kept: a variant for each fact of document 01, yes, no and none too, what may not change: `accepted_of` names each.
 #[derive(Clone, Copy, PartialEq, Eq, Debug)]
 pub enum Answer {
     Blanked,

@@ -1,8 +1,7 @@
 // The calls that write a table: blanking, arrival, closing, levelling.
 #![tactic(auto)]
 
-ghost use Rattle.std.specs.Prelude.{◌+◌, ◌≡◌, [], ◌∷◌, length};
-ghost use Rattle.spec_table.specs.Table.{most_benches};
+ghost use Rattle.std.specs.Prelude.{[], ◌∷◌};
 ghost use Rattle.spec_calls.specs.Calls.{blanking, outcome, arrival, closing, levelling};
 ghost use Rattle.table_form.specs.FormCheck.{FoundSound};
 ghost use Rattle.board_answers.specs.Answered.{Leaves};
@@ -11,7 +10,7 @@ use board_answers::Answer;
 use table_board::jobs;
 use table_form::Sound;
 use table_refusals::Refusal;
-use table_size::Size;
+use table_size::{PerBench, Size};
 
 // Blanks a table for so many benches and jobs. Old bytes are not looked at.
 pub fn blank(t: &mut [u8], benches: usize, jobs: usize) -> Result<Answer, Refusal>
@@ -25,8 +24,8 @@ pub fn blank(t: &mut [u8], benches: usize, jobs: usize) -> Result<Answer, Refusa
 fn arrival_on(
     t: &mut [u8],
     form: Sound,
-    loads: &mut [u16; Size::MOST_BENCHES + 1],
-    path: &mut [u16; Size::MOST_BENCHES + 1],
+    loads: &mut PerBench<u16>,
+    path: &mut PerBench<u16>,
     job: usize,
     first: usize,
     second: usize,
@@ -47,13 +46,18 @@ fn arrival_on(
     if jobs::stands(t, size, job) {
         return Err(Refusal::AlreadyStanding);
     }
-    let effect =
-        sharing_changes::arrive(t, size, rising, loads, path, job, first, second, list)?;
+    let effect = sharing_changes::arrive(t, size, rising, loads, path, job, first, second, list)?;
     Ok(Answer::Arrived(effect.holder, effect.bench, effect.moved))
 }
 
 // Takes in a job that names two benches, and lists the jobs that move.
-pub fn arrival(t: &mut [u8], job: usize, first: usize, second: usize, list: &mut [u8]) -> Result<Answer, Refusal>
+pub fn arrival(
+    t: &mut [u8],
+    job: usize,
+    first: usize,
+    second: usize,
+    list: &mut [u8],
+) -> Result<Answer, Refusal>
     ensures { Leaves
         (outcome (arrival (record { job = job; given = first ∷ second ∷ []; list = list.old })) t.old)
         result t.new list.new }
@@ -69,8 +73,8 @@ pub fn arrival(t: &mut [u8], job: usize, first: usize, second: usize, list: &mut
 fn closing_on(
     t: &mut [u8],
     form: Sound,
-    loads: &mut [u16; Size::MOST_BENCHES + 1],
-    path: &mut [u16; Size::MOST_BENCHES + 1],
+    loads: &mut PerBench<u16>,
+    path: &mut PerBench<u16>,
     job: usize,
     list: &mut [u8],
 ) -> Result<Answer, Refusal>

@@ -6,14 +6,14 @@ use mathlib.Core.Path.{◌≡◌, sym, ap, ◌∙◌}
 use mathlib.Core.Logic.{inl, inr, ◌≢◌}
 use mathlib.Core.Bool.{Bool, true, false, cond}
 use mathlib.Core.List.{List, [], ◌∷◌}
-use lib.ListN.{length}
+use lib.ListN.{length, get_or}
 use Rattle.spec_lists.specs.Lists.{within, In}
 use Rattle.spec_table.specs.Board.{Board, Valid, load, heaviest}
 use Rattle.spec_table.specs.Table.{in_list, most_benches, decode}
 use Rattle.spec_sharing.specs.Paths.{steps}
 use Rattle.spec_sharing.specs.Sharing.{level, tight_set}
 use Rattle.spec_calls.specs.Calls.{ask, load_of, heaviest_load, tight_set_of, form_check, level_check, question_conditions, asked, accepted, outcome, tight_set_told}
-use Rattle.spec_lists.proofs.Tests.{within_both}
+use Rattle.spec_lists.proofs.Tests.{true→T, within_both}
 use Rattle.spec_lists.proofs.Elements.{in_get_d}
 use Rattle.spec_lists.proofs.Counting.{greatest_most}
 use Rattle.spec_table.proofs.Loads.{load_heaviest}
@@ -22,7 +22,7 @@ use Rattle.spec_sharing.proofs.TightSet.{tight_reached}
 use Rattle.spec_calls.proofs.ChainOrder.{sound_outcome}
 use Rattle.spec_calls.proofs.Questions.{load_refused, tight_answered, tight_list_refused, tight_height_refused}
 use Rattle.table_size.specs.declared.Size.{Size}
-use Rattle.table_size.specs.Sizes.{SoundTable}
+use Rattle.table_size.specs.Sizes.{SoundTable, BenchIn}
 use Rattle.sharing_tight_set.specs.declared.Extent.{Extent}
 use Rattle.sharing_visits.specs.Marks.{mark}
 use Rattle.sharing_tight_set.specs.MarkedSets.{marked, TightSet}
@@ -32,7 +32,10 @@ use Rattle.board_answers.specs.Answered.{Leaves}
 use Rattle.table_refusals.specs.declared.Refusal.TheVariants as code
 use Rattle.board_answers.specs.declared.Answer.TheVariants as told
 use Rattle.board_answers.proofs.Formal.{answered_leaves, refused_leaves}
-use Rattle.table_size.proofs.Sizes.{bench_of_board}
+use Rattle.table_size.proofs.Sizes.{bench_in, bench_of_board}
+use Rattle.table_board.specs.BoardView.{Loaded}
+use Rattle.table_board.proofs.RecordsAsBoard.{sound_holds_board}
+use Rattle.sharing_steps.proofs.AsSteps.{load_at}
 
 -- heights and their sets
 
@@ -79,9 +82,12 @@ module _ {t : List ℕ} {s : Size} (z : SoundTable t s) where
 
   module _ (x : ℕ) where
     -- the load of a bench of 1 to B ..
-    pub load_told : {h : Bool} (n : ℕ) → h ≡ within 1 s.benches x → h ≡ true → n ≡ load (decode t).holders x → Leaves (outcome (ask (load_of x) []) t) (Ok (told.Load n)) t []
+    pub load_told : {h : Bool} {loads : List ℕ} (n : ℕ) → Loaded (decode t) loads → h ≡ within 1 s.benches x → h ≡ true → n ≡ get_or loads x 0 → Leaves (outcome (ask (load_of x) []) t) (Ok (told.Load n)) t []
     unfolding question_conditions asked accepted
-    load_told n b w e = answered_leaves (sound_outcome (ask (load_of x) []) tt t z.sound ∙ rw (sym (bench_of_board z x b) ∙ w, e))
+    load_told n l b w e =
+        let own : BenchIn s x = bench_in s x (true→T (within 1 s.benches x) (sym b ∙ w)) in
+        let load = e ∙ load_at (sound_holds_board t s z) l own in
+        answered_leaves (sound_outcome (ask (load_of x) []) tt t z.sound ∙ rw (sym (bench_of_board z x b) ∙ w, load))
 
     -- .. and 4 for any other number
     pub bench_refused : {h : Bool} → h ≡ within 1 s.benches x → h ≡ false → Leaves (outcome (ask (load_of x) []) t) (Err code.BenchNumber) t []

@@ -10,7 +10,7 @@ ghost use Rattle.board_answers.specs.Answered.{Leaves};
 
 use board_answers::Answer;
 use table_refusals::Refusal;
-use table_size::Size;
+use table_size::{PerBench, Size};
 
 // Checks the form: sound, or the refusal.
 pub fn form_check(t: &[u8]) -> Result<Answer, Refusal>
@@ -61,7 +61,7 @@ pub fn heaviest(t: &[u8]) -> Result<Answer, Refusal>
 fn tight_set_on(
     t: &[u8],
     s: Size,
-    loads: &[u16; Size::MOST_BENCHES + 1],
+    loads: &PerBench<u16>,
     height: usize,
     list: &mut [u8],
 ) -> Result<Answer, Refusal>

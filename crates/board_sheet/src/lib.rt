@@ -9,10 +9,10 @@ ghost use Rattle.board_answers.specs.Answered.{Leaves};
 
 use board_answers::Answer;
 use table_refusals::Refusal;
-use table_size::Size;
+use table_size::{PerBench, Size};
 
 // Writes the sheet of a sound table, or refuses with 11 before a byte is written.
-fn sheet_on(t: &[u8], s: Size, loads: &[u16; Size::MOST_BENCHES + 1], page: &mut [u8]) -> Result<Answer, Refusal>
+fn sheet_on(t: &[u8], s: Size, loads: &PerBench<u16>, page: &mut [u8]) -> Result<Answer, Refusal>
     requires sound_table { SoundTable t.now s }
     requires loaded { Loaded (decode t.now) loads.now }
     ensures { Leaves (outcome (ask wall_sheet page.old) t.now) result

@@ -94,6 +94,7 @@ impl Tally {
     }
 
     // Notes an answer: raises all three counts, or none where one would pass the most.
+    // Kept: `mut self`, the new tally beside its answer, what may not change: so the customer asked for `Tally::note`.
     pub fn note(mut self, answer: Result<Answer, Refusal>) -> Noted
         ensures { NotedAs (noted (tally_of self) (answer_of answer)) result }
     {

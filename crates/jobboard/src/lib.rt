@@ -1,5 +1,6 @@
 // The calls for C programs, over numbers and the table's bytes; `jobboard_c` exports them. Each returns the refusal's
 // number, or 0. Results go through lent numbers, which a refused call leaves alone.
+// Kept: a u32 made a usize by `as`; the new form is no plainer: `usize::try_from(job)` wants a refusal that never comes.
 #![tactic(auto)]
 
 ghost use Rattle.std.specs.Prelude.{[], ◌∷◌};

@@ -1,5 +1,6 @@
 // What a C program links with: each call of `jobboard` under its own name, by its own clause. A slice is passed as a
 // pointer and its length in bytes.
+// Kept: a function for each of `jobboard`'s, the C interface: one exported name stands for one call.
 #![tactic(auto)]
 
 ghost use Rattle.std.specs.Prelude.{[], ◌∷◌};

@@ -17,7 +17,7 @@ ghost use Rattle.sheet_lines.specs.WrittenLines.{
   SheetWritten,
 };
 
-use table_size::Size;
+use table_size::{PerBench, PerJob, Size};
 
 // Counts the characters of a line, the line feed included.
 const LINE: usize = 69;
@@ -26,7 +26,8 @@ const LINE: usize = 69;
 const CELL: usize = 5;
 
 // Writes a job in its columns, or blanks for 0; gives the job after it.
-fn write_cell(page: &mut [u8], at: usize, j: usize, next: &[u16; Size::MOST_JOBS + 1]) -> usize
+// Kept: 0 for no job, the table's format: `next` holds the words that end a chain so.
+fn write_cell(page: &mut [u8], at: usize, j: usize, next: &PerJob<u16>) -> usize
     requires listed { Listed next.now j }
     requires at_in_bounds { at + 5 ≤ length page.old }
     ensures page_after { page.new ≡ with_text page.old at (cell_text j) }
@@ -42,7 +43,7 @@ fn write_cell(page: &mut [u8], at: usize, j: usize, next: &[u16; Size::MOST_JOBS
 
 // Writes a line from its 9th column on: twelve jobs of a list, blanks where it ends before, and the line feed; gives
 // the job after them.
-fn write_jobs(page: &mut [u8], at: usize, first: usize, next: &[u16; Size::MOST_JOBS + 1]) -> usize
+fn write_jobs(page: &mut [u8], at: usize, first: usize, next: &PerJob<u16>) -> usize
     requires listed { Listed next.now first }
     requires at_in_bounds { at + 61 ≤ length page.old }
     ensures { LineWritten next.now page.old page.new [] at first result }
@@ -63,7 +64,7 @@ fn write_first(
     x: usize,
     load: usize,
     first: usize,
-    next: &[u16; Size::MOST_JOBS + 1],
+    next: &PerJob<u16>,
 ) -> usize
     requires x_bound { x < 1000 }
     requires load_bound { load < 10000 }
@@ -78,7 +79,7 @@ fn write_first(
 }
 
 // Writes a line that goes on with a bench's jobs: 8 blanks, and up to twelve jobs from j on; gives the job after them.
-fn write_more(page: &mut [u8], at: usize, j: usize, next: &[u16; Size::MOST_JOBS + 1]) -> usize
+fn write_more(page: &mut [u8], at: usize, j: usize, next: &PerJob<u16>) -> usize
     requires listed { Listed next.now j }
     requires at_in_bounds { at + 69 ≤ length page.old }
     ensures { LineWritten next.now page.old page.new more_head at j result }
@@ -94,7 +95,7 @@ fn write_bench(
     x: usize,
     load: usize,
     first: usize,
-    next: &[u16; Size::MOST_JOBS + 1],
+    next: &PerJob<u16>,
 ) -> usize
     requires x_bound { x < 1000 }
     requires load_bound { load < 10000 }
@@ -114,9 +115,9 @@ fn write_bench(
 // Writes all lines.
 pub fn write(
     s: Size,
-    loads: &[u16; Size::MOST_BENCHES + 1],
-    head: &[u16; Size::MOST_BENCHES + 1],
-    next: &[u16; Size::MOST_JOBS + 1],
+    loads: &PerBench<u16>,
+    head: &PerBench<u16>,
+    next: &PerJob<u16>,
     page: &mut [u8],
 )
     requires { RoomForAll s loads.now head.now next.now page.old }
@@ -145,7 +146,7 @@ fn line_count(load: usize) -> usize
 }
 
 // Computes how long the sheet is.
-pub fn sheet_length(s: Size, loads: &[u16; Size::MOST_BENCHES + 1]) -> usize
+pub fn sheet_length(s: Size, loads: &PerBench<u16>) -> usize
     requires { LoadsOf s loads.now }
     ensures { LengthOf s loads.now result }
 {

@@ -1,11 +1,6 @@
 -- The load of a bench of a sound table, or that it has no such bench.
-use mathlib.Core.Path.{sym, ◌∙◌}
 use mathlib.Core.List.{[]}
 use Rattle.spec_calls.specs.Calls.{ask, load_of}
-use Rattle.spec_lists.proofs.Tests.{true→T}
-use Rattle.table_board.proofs.RecordsAsBoard.{sound_holds_board}
-use Rattle.table_size.proofs.Sizes.{bench_in}
-use Rattle.sharing_steps.proofs.AsSteps.{load_at}
 use Rattle.board_answers.proofs.Formal.{form_refused, passed_on}
 use Rattle.board_questions.proofs.Asking.{load_told, bench_refused}
 use Rattle.board_questions.proofs.load.Goals as goal
@@ -17,7 +12,4 @@ pub returns-then-not-has_bench : goal.returns-then-not-has_bench
 returns-then-not-has_bench c = bench_refused c.in_ok-form.ensures.says.sound c.args.bench c.has_bench.ensures c.if-not-has_bench.true
 
 pub returns : goal.returns
-returns c =
-    let found = c.in_ok-form.ensures.says in
-    let own = bench_in c.in_ok-form.form.size c.args.bench (true→T _ (sym c.has_bench.ensures ∙ c.if-not-has_bench.false)) in
-    load_told found.sound c.args.bench c.from.result c.has_bench.ensures c.if-not-has_bench.false (c.from.ensures ∙ load_at (sound_holds_board _ _ found.sound) found.loaded own)
+returns c = load_told c.in_ok-form.ensures.says.sound c.args.bench c.from.result c.in_ok-form.ensures.says.loaded c.has_bench.ensures c.if-not-has_bench.false c.from.ensures
