@@ -1,4 +1,5 @@
 // Word 3 + x: the first job on the chain of bench x, 0 for none.
+// Kept: 0 for none is the table's format, and HeadOf gives the word as it stands.
 ghost use Rattle.std.specs.Prelude.{◌≡◌, ◌+◌, ◌<◌, replicate};
 ghost use Rattle.spec_table.specs.Table.{most_benches};
 ghost use Rattle.table_words.specs.Bytes.{layout_in};

@@ -59,6 +59,7 @@ pub fn name_at(t: &[u8], s: Size, j: usize, k: usize) -> usize
 
 // Reads the bench that job j's holder word tells, 0 for none. It reads that bench alone: no branch on which of the
 // names it is, which a processor would guess wrong every other time.
+// Kept: 0 for none is the table's format, and what holder_in gives of a record.
 pub fn holder_at(t: &[u8], s: Size, j: usize) -> usize
     requires size_of { SizeOf t.now s }
     requires job_in { JobIn s j }

@@ -1,5 +1,7 @@
 -- Sizes within the limits, byte lengths that fit them, and the size of a table.
-use Rattle.std.proofs.Common.{◌≡◌, ℕ, ◌+◌, ◌*◌, ◌%◌, ◌^◌, ◌<◌, Bool, true, false, ◌&&◌, T, ltb, List, length, get_or, replicate, Result, Ok, Err, sym, refl, ◌∙◌, subst, arith, ltb→lt, lt→ltb}
+use Rattle.std.proofs.Common.{◌≡◌, ℕ, ◌+◌, ◌*◌, ◌%◌, ◌^◌, ◌<◌, ◌≤◌, Bool, true, false, ◌&&◌, T, ltb, List, length, get_or, replicate, Result, Ok, Err, sym, refl, ap, ◌∙◌, subst, arith, ltb→lt, lt→ltb}
+use mathlib.Core.HLevel.{is_prop→PathP}
+use native.Mathlib.Bridge.{le_prop}
 use lib.ListN.{length-map, length-replicate}
 use Rattle.spec_lists.specs.Lists.{within}
 use Rattle.spec_table.specs.Table.{words, length_for, most_benches, most_jobs, sizes_fit, fits, layout, board_of, decode}
@@ -27,6 +29,25 @@ limits_of s =
 pub sizing_of : {fit : Bool} {benches jobs : ℕ} {r : Result Size Refusal} → FitIf fit benches jobs r → SizingOf fit benches jobs r
 sizing_of {fit} {benches} {jobs} {r = Ok s} f = record { value = f; numbers = rw (T→true fit f.passed, f.same_benches, f.same_jobs) }
 sizing_of {fit} {benches} {jobs} {r = Err r} f = record { value = f; numbers = rw (f.failed, f.refusal) }
+
+-- sizes of the same numbers are the same
+pub same_size : (s u : Size) → s.benches ≡ u.benches → s.jobs ≡ u.jobs → s ≡ u
+same_size s u b j =
+    λ i. record {
+      benches = b i;
+      jobs = j i;
+      benches_least = is_prop→PathP (λ k. 1 ≤ b k) (λ k. le_prop) s.benches_least u.benches_least i;
+      benches_most = is_prop→PathP (λ k. b k ≤ most_benches) (λ k. le_prop) s.benches_most u.benches_most i;
+      jobs_least = is_prop→PathP (λ k. 1 ≤ j k) (λ k. le_prop) s.jobs_least u.jobs_least i;
+      jobs_most = is_prop→PathP (λ k. j k ≤ most_jobs) (λ k. le_prop) s.jobs_most u.jobs_most i;
+    }
+
+-- what the test and the numbers make is one value alone: a size or refusal 1
+pub sizing_one : {fit : Bool} {benches jobs : ℕ} {r q : Result Size Refusal} → SizingOf fit benches jobs r → SizingOf fit benches jobs q → r ≡ q
+sizing_one {r = Ok s} {q = Ok u} k l = ap Ok (same_size s u (k.value.same_benches ∙ sym l.value.same_benches) (k.value.same_jobs ∙ sym l.value.same_jobs))
+sizing_one {fit} {r = Ok s} {q = Err e} k l = absurd (subst T l.value.failed k.value.passed)
+sizing_one {fit} {r = Err e} {q = Ok u} k l = absurd (subst T k.value.failed l.value.passed)
+sizing_one {r = Err e} {q = Err d} k l = ap Err (k.value.refusal ∙ sym l.value.refusal)
 
 -- numbers of benches and jobs
 

@@ -6,7 +6,7 @@ pub returns-in_default-clause-value : goal.returns-in_default-clause-value
 returns-in_default-clause-value c = walks_broken c.requires.size_of c.loop-x.invariant (omega arith) c.walk.ensures c.in_default.is
 
 pub overflow_sub-loads : goal.overflow_sub-loads
-overflow_sub-loads c = walks_less c.requires.size_of c.loop-x.invariant (omega arith) c.walk.ensures c.in-Some.is
+overflow_sub-loads c = omega (arith, walks_less c.requires.size_of c.loop-x.invariant (omega arith) c.walk.ensures c.in-Some.is)
 
 pub loop-x-preserved : goal.loop-x-preserved
 loop-x-preserved c = walks_turn c.requires.size_of c.loop-x.invariant (omega arith) c.walk.ensures c.in-Some.is
