@@ -10,12 +10,7 @@ use table_board::jobs;
 use table_size::{PerBench, PerJob, Size};
 
 // Writes, at each standing job, the job after it on its chain and the other bench that it names.
-fn copy_jobs(
-    t: &[u8],
-    s: Size,
-    next: &mut PerJob<u16>,
-    to: &mut PerJob<u16>,
-)
+fn copy_jobs(t: &[u8], s: Size, next: &mut PerJob<u16>, to: &mut PerJob<u16>)
     requires { SoundTable t.now s }
     ensures { StoredJobs t.now next.new to.new }
 {

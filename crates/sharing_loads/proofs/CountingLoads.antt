@@ -50,14 +50,7 @@ module _ {s : Size} {loads : List ℕ} {c : Count} (k : CountOf s loads c) where
 -- where the count ends
 
 module _ {s : Size} {loads : List ℕ} {c : Count} (k : CountOf s loads c) where
-  -- as long as more jobs are left than the best load so far, a bench is left ..
-  pub counts_on : c.best < c.left → c.benches + 1 ≤ s.benches
-  counts_on l = elim (dec_le (c.benches + 1) s.benches) [
-    | yes h ↦ h
-    | no h ↦ let e : c.benches ≡ s.benches = omega (arith, h, k.few) in absurd (omega (arith, rw e at k.left))
-  ]
-
-  -- .. and the count has not ended, neither here nor before
+  -- as long as more jobs are left than the best load so far, the count has not ended, neither here nor before
   pub not_ended : c.best < c.left → (m : ℕ) → m ≤ c.benches → total m (at loads) + greatest m (at loads) < total s.benches (at loads)
   not_ended l m u = omega (arith, k.left, k.best, total_rises m c.benches (at loads) u, greatest_rises m c.benches (at loads) u)
 

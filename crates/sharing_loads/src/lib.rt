@@ -54,12 +54,7 @@ fn count_on(s: Size, loads: &PerBench<u16>, c: Count, more: usize) -> Count
 }
 
 // Counts stretches of this length, as long as the count does not end in the next one.
-fn count_stretches(
-    s: Size,
-    loads: &PerBench<u16>,
-    start: Count,
-    stretch: usize,
-) -> Count
+fn count_stretches(s: Size, loads: &PerBench<u16>, start: Count, stretch: usize) -> Count
     requires count_of { CountOf s loads.now start }
     requires not_before { NotBefore s loads.now start }
     requires le_stretch { 1 ≤ stretch }

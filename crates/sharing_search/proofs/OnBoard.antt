@@ -88,10 +88,6 @@ pub record Expanding (b : Board) (s : Size) (x job high found : ℕ) (queue came
   pub grown : Grown found queue came found' queue' came'
   pub at_bench : (c : Course) (low : ℕ) → AtBench c b s x job low high found queue came → (l : ℕ) × AtBench c b s x j l high found' queue' came'
 
--- at the first job nothing more is found ..
-pub expand_start : {b : Board} {s : Size} {x job high found : ℕ} {queue came : List ℕ} → Expanding b s x job high found queue came job found queue came
-expand_start = record { grown = grown_none; at_bench = λ c low a. (low, a) }
-
 module _ {t : List ℕ} {s : Size} {x : ℕ} (order : InOrder t s) (bench : BenchIn s x) {job high found : ℕ} {queue came : List ℕ} (begun : (c : Course) × (low : ℕ) × AtBench c (decode t) s x job low high found queue came) {j found' : ℕ} {queue' came' : List ℕ} (e : Expanding (decode t) s x job high found queue came j found' queue' came') where
   -- one search that is there
   one_bench : (low : ℕ) × AtBench begun.0 (decode t) s x j low high found' queue' came'

@@ -63,18 +63,6 @@ module _ (m n : ℕ) (came : List ℕ) (bench : (y : ℕ) → 1 ≤ at came y �
 -- one bench found
 
 module _ {y j found : ℕ} {queue came : List ℕ} where
-  -- a bench that was found stays as it is ..
-  pub discover_had : at came y ≢ 0 → Discovered y j found queue came found queue came
-  discover_had d =
-      let e = ne_eqb (at came y) 0 d in
-      record { count = omega (arith, ap bit e); job = rw e refl; place = rw e refl }
-
-  -- .. and one that was not gets its job and the next place
-  pub discover_new : at came y ≡ 0 → Discovered y j found queue came (found + 1) (set queue found y) (set came y j)
-  discover_new z =
-      let e = eq-eqb (at came y) 0 z in
-      record { count = omega (arith, ap bit e); job = rw e refl; place = rw e refl }
-
   module _ {found' : ℕ} {queue' came' : List ℕ} (f : Discovered y j found queue came found' queue' came') where
     -- where the bench was found before, nothing changes ..
     pub discovered_had : at came y ≢ 0 → (found' ≡ found) × (queue' ≡ queue) × (came' ≡ came)

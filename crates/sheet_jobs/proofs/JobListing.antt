@@ -18,7 +18,7 @@ use Rattle.table_size.specs.Sizes.{SoundTable}
 use Rattle.table_size.specs.declared.Size.{Size}
 use Rattle.table_board.specs.BoardView.{HolderOf}
 use Rattle.table_board.proofs.RecordsAsBoard.{holders_long}
-use Rattle.sheet_jobs.specs.JobLists.{ListFrom, list_end, list_job, JobLists}
+use Rattle.sheet_jobs.specs.JobLists.{ListFrom, list_end, list_job}
 
 -- lists in an array
 
@@ -67,7 +67,7 @@ module _ {t : List ℕ} {s : Size} (z : SoundTable t s) {head next : List ℕ} w
       small : (x : ℕ) → T (within 1 b.benches x) → x < most_benches + 1
       small x w = omega (arith, within_high 1 b.benches x w, z.size.board_benches, z.size.limits.benches_most)
 
-  -- .. each next one goes before those that its holder has ..
+  -- .. and each next one goes before those that its holder has
   pub listed_turn : {j h : ℕ} → 0 < j → ListedAfter (decode t) s j head next → HolderOf t s j h → ListedAfter (decode t) s (j - 1) (set head h j) (set next j (get_or head h 0))
   listed_turn {j = zero} l a o = absurd (omega arith)
   listed_turn {j = suc j} {h} l a o =
@@ -96,7 +96,3 @@ module _ {t : List ℕ} {s : Size} (z : SoundTable t s) {head next : List ℕ} w
       go x w (other d) =
           rw (get_or-set_other head h x (suc j) 0 (λ e. d (sym e)))
           (list_apart (suc j) (get_or head h 0) (a.held x w) (later_without b (suc j) x))
-
--- .. and in the end all are
-pub listed_end : {b : Board} {s : Size} {head next : List ℕ} → ListedAfter b s 0 head next → JobLists b head next
-listed_end a = record { held = a.held; heads_long = a.heads_long; nexts_long = a.nexts_long }

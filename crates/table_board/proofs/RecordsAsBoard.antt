@@ -11,15 +11,15 @@ use borrow.Author.Tests.{ne_eqb}
 use Rattle.spec_lists.specs.Lists.{In, empty, nth}
 use Rattle.spec_table.specs.Board.{Board, names_of, holder_of, stands, standing, put, load, may_hold, names_fit}
 use Rattle.spec_table.specs.Table.{Entry, vacant, filled, holder_in, board_of, decode, paired, Storable}
-use Rattle.spec_lists.proofs.Tests.{cond_le, T-eqb, within_high}
-use Rattle.spec_lists.proofs.Elements.{each_nth, in_get_d, in_nth}
+use Rattle.spec_lists.proofs.Tests.{cond_le, T-eqb}
+use Rattle.spec_lists.proofs.Elements.{each_nth, in_nth}
 use Rattle.spec_lists.proofs.NumberLists.{member_in}
-use Rattle.spec_table.proofs.Named.{fit_bench, changed_storable, named_may, stands_within, named_stands, named_bench}
+use Rattle.spec_table.proofs.Named.{changed_storable, named_may, stands_within, named_bench}
 use Rattle.spec_sharing.proofs.Flip.{put_valid}
 use Rattle.spec_table.proofs.CountedBenches.{load_outside}
 use Rattle.spec_table.proofs.Sound.{names_in, two_paired, holder_within, holder_record, names_record, Standing, stored_record, standing_word}
 use Rattle.table_words.specs.Bytes.{layout_in}
-use Rattle.table_size.specs.Sizes.{Limits, JobIn, SoundTable, SizeOf}
+use Rattle.table_size.specs.Sizes.{JobIn, SoundTable, SizeOf}
 use Rattle.table_size.specs.Written.{record_in}
 use Rattle.table_records.specs.Records.{entry_of, RecordOf}
 use Rattle.table_size.proofs.Sizes.{board_job, board_bench, entries_long}
@@ -31,13 +31,9 @@ use Rattle.table_size.specs.declared.Size.{Size}
 pub sound_holds_board : (t : List ℕ) (s : Size) → SoundTable t s → HoldsBoard t s
 sound_holds_board t s z = record { size = z.size; storable = z.storable }
 
--- a standing job's number is one of 1 to J ..
+-- a standing job's number is one of 1 to J
 pub stands_job : (t : List ℕ) (s : Size) (j : ℕ) → SizeOf t s → T (stands (decode t) j) → JobIn s j
 stands_job t s j z p = board_job j z (stands_within (decode t) j p)
-
--- .. so is one of a job that names a bench
-pub names_job : (t : List ℕ) (s : Size) (j x : ℕ) → SizeOf t s → In x (names_of (decode t) j) → JobIn s j
-names_job t s j x z i = stands_job t s j z (named_stands (decode t) j x i)
 
 -- the k-th name is one
 pub name_in : (t : List ℕ) (j k : ℕ) → Position (names_of (decode t) j) k → In (nth (names_of (decode t) j) k 0) (names_of (decode t) j)
@@ -126,21 +122,6 @@ put_storable b w j names h p f m =
 pub fillable_storable : {t : List ℕ} {s : Size} {j h : ℕ} {names : List ℕ} → HoldsBoard t s → Fillable s j names h → Storable (put (decode t) j names h)
 fillable_storable {t} {s} {j} {h} {names} k f =
     put_storable (decode t) k.storable j names h (two_paired names f.pair) (rw k.size.board_benches f.fit) (named_may names h (member_in h names f.held))
-
--- as the code chooses the holder word of a job that h holds: p is 1 if the first bench a is h, else 2
-abbrev pub PlaceFor : ℕ → ℕ → ℕ → Type 0
-PlaceFor a h p = ((a ≡ h) × (p ≡ 1)) ⊎ ((a ≡ h → ⊥) × (p ≡ 2))
-
--- it is a word
-pub chosen_small : (a h p : ℕ) → PlaceFor a h p → p < 65536
-chosen_small a h p (inl c) = omega (arith, c.1)
-chosen_small a h p (inr c) = omega (arith, c.1)
-
--- the benches of a job that can be filled in are words too
-pub name_small : (s : Size) (j : ℕ) (names : List ℕ) (h i : ℕ) → Limits s → Fillable s j names h → i < 2 → get_or names i 0 < 65536
-name_small s j names h i z f l =
-    let w = fit_bench s.benches names (get_or names i 0) f.fit (in_get_d names i 0 (omega (arith, f.pair))) in
-    omega (arith, within_high 1 s.benches (get_or names i 0) w, z.benches_most)
 
 -- a record that was read
 

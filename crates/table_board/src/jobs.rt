@@ -36,6 +36,7 @@ pub fn name(t: &[u8], s: Size, j: usize, k: usize) -> usize
 }
 
 // Reads the bench that holds job j, 0 for none.
+// Kept: 0 for none is the table's format, here and on chains (`head`, `next`, `first_job`, `next_job`, a gap's ends).
 pub fn holder(t: &[u8], s: Size, j: usize) -> usize
     requires holds_board { HoldsBoard t.now s }
     requires job_in { JobIn s j }

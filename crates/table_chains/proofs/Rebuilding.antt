@@ -20,9 +20,9 @@ use Rattle.spec_table.proofs.Places.{layout_bytes}
 use Rattle.spec_table.proofs.Sound.{names_in, TwoBenches, holder_within, holder_place, Standing, holder_record}
 use Rattle.spec_table.proofs.Encode.{encode_sound, decode_encode}
 use Rattle.table_words.specs.Bytes.{layout_in}
-use Rattle.table_size.specs.Sizes.{SizeOf, JobIn, BenchIn}
+use Rattle.table_size.specs.Sizes.{SizeOf, JobIn}
 use Rattle.table_size.specs.Written.{HeadOf, with_head, with_entry, with_standing, HasLayout, with_next, cleared}
-use Rattle.table_board.specs.BoardView.{HoldsBoard, HolderOf}
+use Rattle.table_board.specs.BoardView.{HoldsBoard}
 use Rattle.table_chains.specs.Chains.{ChainsRebuilt, push_at, push_for, pushed, pushed_from, Pushed, Linked}
 use Rattle.table_size.specs.declared.Size.{Size}
 use Rattle.table_size.proofs.Sizes.{entries_long}
@@ -187,10 +187,6 @@ push_held {t} {v} {u} {s} {j} {x} {n} k i h d w next head =
     let held : eqb (holder_of (decode t) j) 0 ≡ false = ne_eqb (holder_of (decode t) j) 0 (λ e. d (h ∙ e)) in
     record { holds_board = same.0; board = same.1; layout = layout; stands = sym (stands_held t s j k ∙ ap not held) }
 
--- the holder of a job is a bench
-pub held_bench : (t : List ℕ) (s : Size) (j x : ℕ) → HolderOf t s j x → x ≢ 0 → BenchIn s x
-held_bench t s j x h d = record { least = omega arith; most = h.most }
-
 -- jobs pushed one after the other
 
 -- the number of standing jobs after job j
@@ -211,23 +207,12 @@ pub record Pushing (t u : List ℕ) (s : Size) (n j : ℕ) : Type 0 where
   pub rest : pushed_from j (layout_in u) ≡ pushed_from s.jobs (layout_in t)
   pub count : n ≡ standing_after (decode t) j
 
--- at first none was pushed ..
-pub pushing_start : (t : List ℕ) (s : Size) → HoldsBoard t s → Pushing t t s 0 s.jobs
-pushing_start t s k =
-    record {
-      number = omega arith;
-      holds_board = k;
-      board = refl;
-      rest = refl;
-      count = rw (sym k.size.board_jobs, drop-length (decode t).named);
-    }
-
 -- what stands counts 1
 from_bit : (b : Bool) → from_bool b ≡ bit b
 from_bit true = refl
 from_bit false = refl
 
--- .. each turn pushes the next one down ..
+-- each turn pushes the next one down ..
 pub pushing_turn : {t u v : List ℕ} {s : Size} {n m j : ℕ} {stood : Bool} → 1 ≤ j → Pushing t u s n j → Pushed u v s j stood → m ≡ from_bool stood → Pushing t v s (n + m) (j - 1)
 pushing_turn {j = zero} l p q f = absurd (omega arith)
 pushing_turn {t} {m} {j = suc j} {stood} l p q f =
@@ -244,11 +229,7 @@ pushing_turn {t} {m} {j = suc j} {stood} l p q f =
       count = omega (arith, p.count, standing_step (decode t) j few);
     })
 
--- .. and at last all were pushed
-pub pushing_end : {t u : List ℕ} {s : Size} {n : ℕ} → Pushing t u s n 0 → Linked t u s n
-pushing_end p = record { holds_board = p.holds_board; board = p.board; layout = p.rest; count = p.count }
-
--- those that were pushed and stand are no more than the jobs ..
+-- .. and those that were pushed and stand are no more than the jobs ..
 pub pushing_few : {t u : List ℕ} {s : Size} {n j : ℕ} → Pushing t u s n j → n ≤ s.jobs
 pushing_few {t} {u} {s} {n} {j} p =
     let named : List (List ℕ) = (decode t).named in

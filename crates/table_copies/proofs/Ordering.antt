@@ -3,9 +3,9 @@
 use Prim.Native.Nat.{ℕ, ◌-◌, ◌≤◌}
 use native.Mathlib.Omega.{arith}
 use mathlib.Core.Path.{◌≡◌, refl, subst, ◌∙◌}
-use mathlib.Core.List.{List, ◌++◌, append-nil}
-use lib.ListN.{length, take, drop, replicate, length-replicate, drop_of_length-le}
-use lib.Seq.{take-length, length-take-le}
+use mathlib.Core.List.{List}
+use lib.ListN.{length, take, replicate, length-replicate}
+use lib.Seq.{length-take-le}
 use Rattle.spec_table.specs.Board.{Board}
 use Rattle.spec_table.specs.Table.{most_benches, most_jobs, length_for, decode, encode}
 use Rattle.table_size.specs.Sizes.{SizeOf, SoundTable}

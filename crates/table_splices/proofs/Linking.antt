@@ -12,19 +12,8 @@ use Rattle.spec_table.specs.Board.{Board, Valid, names_of, holder_of, stands}
 use Rattle.spec_table.specs.Table.{Entry, Layout, vacant, entry_for}
 use Rattle.spec_lists.proofs.Elements.{nth_update_same, nth_update_other, length_update}
 use Rattle.spec_table.proofs.Splicing.{InChain, chains_apart, link_in, Recorded, recorded_next}
-use Rattle.table_words.specs.Bytes.{layout_in}
-use Rattle.table_size.specs.Written.{record_in, HasLayout, with_head, with_entry, with_standing, with_next}
-use Rattle.table_size.specs.declared.Size.{Size}
+use Rattle.table_size.specs.Written.{with_entry, with_standing, with_next}
 use Rattle.table_splices.specs.Splices.{linked_heads, linked_entries, linked}
-
--- another head is another job at the front of the chain ..
-pub linked_front : {u : List ℕ} {s : Size} (t : List ℕ) (x i n : ℕ) → i ≡ 0 → HasLayout u s (with_head (layout_in t) x n) → HasLayout u s (linked (layout_in t) x i n)
-linked_front {u} {s} t x i n e l = subst (λ (k : ℕ). HasLayout u s (linked (layout_in t) x k n)) (sym e) l
-
--- .. and another next word of job i another job after it
-pub linked_after : {u : List ℕ} {s : Size} (t : List ℕ) (x i n : ℕ) → i ≢ 0 → HasLayout u s (with_entry (layout_in t) i (with_next (record_in t i) n)) → HasLayout u s (linked (layout_in t) x i n)
-linked_after t x zero n d l = absurd (d refl)
-linked_after t x (suc k) n d l = l
 
 -- links
 

@@ -9,22 +9,22 @@ use mathlib.Core.List.{List, [], ◌∷◌}
 use lib.Dec.{T, not_T}
 use lib.ListN.{length, get_or}
 use Rattle.spec_lists.specs.Lists.{bit, member, empty, update}
-use Rattle.spec_table.specs.Board.{Board, names_of, holder_of, stands, standing, put, held_by, names_fit}
-use Rattle.spec_table.specs.Table.{Entry, vacant, Layout, position_of, entry_for, decode, Storable}
+use Rattle.spec_table.specs.Board.{names_of, holder_of, stands, standing, put, held_by, names_fit}
+use Rattle.spec_table.specs.Table.{Entry, vacant, Layout, entry_for, decode, Storable}
 use Rattle.spec_lists.proofs.Tests.{T→true, false→not}
 use Rattle.spec_lists.proofs.Elements.{empty_in, is_empty, length_filter, two_elements, each_nth, length_update, update_same}
 use Rattle.spec_lists.proofs.NumberLists.{member_in}
 use Rattle.spec_table.proofs.Named.{fit_bench, holder_none, holder_bench, named_stands, named_bench}
-use Rattle.spec_table.proofs.Splicing.{Lowest, Before, Linked, link_in, Recorded, entry_names, entry_next, holder_two, standing_put}
+use Rattle.spec_table.proofs.Splicing.{Lowest, Before, Linked, link_in, Recorded, entry_names, entry_next, standing_put}
 use Rattle.table_words.specs.Bytes.{layout_in}
-use Rattle.table_size.specs.Sizes.{Limits, JobIn, BenchIn}
+use Rattle.table_size.specs.Sizes.{JobIn, BenchIn}
 use Rattle.table_size.specs.Written.{record_in, HasLayout, with_entry, with_standing}
 use Rattle.table_size.specs.declared.Size.{Size}
 use Rattle.table_size.proofs.Sizes.{heads_long, entries_long, bench_in, board_bench}
 use Rattle.table_records.specs.Records.{RecordOf}
 use Rattle.table_records.specs.declared.Record.{Record}
 use Rattle.table_board.specs.BoardView.{Fillable}
-use Rattle.table_board.proofs.RecordsAsBoard.{sound_holds_board, stands_job, PlaceFor, put_storable, fillable_storable}
+use Rattle.table_board.proofs.RecordsAsBoard.{sound_holds_board, stands_job, put_storable, fillable_storable}
 use Rattle.table_order.specs.InOrder.{InOrder, TableOf}
 use Rattle.table_order.proofs.Ordered.{in_order_laid_out, first_from_lowest}
 use Rattle.table_splices.specs.Splices.{GapOf, linked, inserted, Inserted}
@@ -32,46 +32,15 @@ use Rattle.table_splices.specs.declared.Gap.{Gap}
 use Rattle.table_splices.proofs.Linking.{link_apart, entry_there, count_apart, linked_wide, linked_long}
 use Rattle.table_splices.proofs.Chained.{gap_before, kept_chain, other_chain, put_chain, taken_chain, spliced, written, relinked}
 
--- what is needed of a gap
-
--- the job before it is one of the table's ..
-pub before_few : {b : Board} {s : Size} {x j : ℕ} {p : Gap} → GapOf b s x j p → p.before ≤ s.jobs
-before_few {s} {p} f = go (ℕ_discrete p.before 0)
-  where
-    go : Dec (p.before ≡ 0) → p.before ≤ s.jobs
-    go (yes e) = omega arith
-    go (no d) = (f.before.found d).1.most
-
--- .. and the job behind it is a word
-pub behind_small : {b : Board} {s : Size} {x j : ℕ} {p : Gap} → Limits s → GapOf b s x j p → p.behind < 65536
-behind_small {p} z f = go (ℕ_discrete p.behind 0)
-  where
-    go : Dec (p.behind ≡ 0) → p.behind < 65536
-    go (yes e) = omega arith
-    go (no d) = omega (arith, (f.behind.found d).1.most, z.jobs_most)
-
 -- a job that is put in
 
 -- the bench that is to hold it is one of 1 to B
 pub fillable_bench : {s : Size} {j h : ℕ} {names : List ℕ} → Fillable s j names h → BenchIn s h
 fillable_bench {s} {h} {names} f = bench_in s h (fit_bench s.benches names h f.fit (member_in h names f.held))
 
--- its record is written and then the link to it
-pub put_in : {t u v : List ℕ} {s : Size} {j first second h w : ℕ} (gap : Gap) → Fillable s j (first ∷ second ∷ []) h → PlaceFor first h w → HasLayout u s (with_entry (layout_in t) j (record { names = first ∷ second ∷ []; holder = w; next = gap.behind })) → HasLayout v s (linked (layout_in u) h gap.before j) → Inserted t v s j (first ∷ second ∷ []) h gap
-put_in {t} {u} {v} {s} {j} {first} {second} {h} {w} gap f word one two =
-    let names : List ℕ = first ∷ second ∷ [] in
-    let at : w ≡ position_of h names = holder_two names h w refl (member_in h names f.held) word in
-    let written : layout_in u ≡ with_entry (layout_in t) j (entry_for names h gap.behind) =
-    one.layout ∙ ap (λ (p : ℕ). with_entry (layout_in t) j (record { names = names; holder = p; next = gap.behind })) at in
-    record { layout = record { size = two.size; layout = two.layout ∙ ap (λ (l : Layout). linked l h gap.before j) written } }
-
 -- two names, one by one
 two_names : {names : List ℕ} → length names ≡ 2 → get_or names 0 0 ∷ get_or names 1 0 ∷ [] ≡ names
 two_names {names} e = let p = two_elements names e in rw p.2 refl
-
--- can be filled in as they can together
-pub fillable_two : {s : Size} {j h : ℕ} {names : List ℕ} → Fillable s j names h → Fillable s j (get_or names 0 0 ∷ get_or names 1 0 ∷ []) h
-fillable_two {s} {j} {h} {names} f = subst (λ (l : List ℕ). Fillable s j l h) (sym (two_names f.pair)) f
 
 -- the number of standing jobs
 
@@ -222,12 +191,6 @@ record_fillable {t} {s} {j} {y} {r} o m f =
 pub name_bench : {t : List ℕ} {s : Size} (j y : ℕ) → InOrder t s → T (member y (names_of (decode t) j)) → BenchIn s y
 name_bench {t} {s} j y o m =
     board_bench y o.sound.size (named_bench (decode t) o.sound.storable.valid j y (member_in y (names_of (decode t) j) m))
-
--- handed to the bench that holds it, it stays
-pub hand_same : {t : List ℕ} {s : Size} (j : ℕ) {y : ℕ} → InOrder t s → holder_of (decode t) j ≡ y → TableOf t s (held_by (decode t) (update (decode t).holders j y))
-hand_same {t} {s} j {y} o e =
-    let back : (decode t).holders ≡ update (decode t).holders j y = sym (update_same (decode t).holders j 0) ∙ ap (update (decode t).holders j) e in
-    record { in_order = o; board = ap (held_by (decode t)) back }
 
 -- handed to another it is put in there, and the link before it in the chain that it was in leads on
 pub hand_spliced : {t u v : List ℕ} {s : Size} {j x y : ℕ} {from to : Gap} {was : Record} → InOrder t s → T (member y (names_of (decode t) j)) → x ≡ holder_of (decode t) j → x ≢ y → RecordOf t j was → GapOf (decode t) s x j from → GapOf (decode t) s y j to → Inserted t u s j (was.first ∷ was.second ∷ []) y to → HasLayout v s (linked (layout_in u) x from.before was.next) → ((i : ℕ) → get_or v i 0 < 256) → TableOf v s (held_by (decode t) (update (decode t).holders j y))

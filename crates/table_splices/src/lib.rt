@@ -62,6 +62,7 @@ fn insert(t: &mut [u8], s: Size, j: usize, first: usize, second: usize, holder: 
     requires gap_of { GapOf (decode t.old) s holder j gap }
     ensures { Inserted t.old t.new s j (first ∷ second ∷ []) holder gap }
 {
+    // Kept: 1 for the first-named and 2 for the second-named holder are the table's format.
     let word = if first == holder { 1 } else { 2 };
     table_records::write_record(
         t,

@@ -6,12 +6,9 @@ use Rattle.spec_table.specs.Board.{holder_of}
 use Rattle.spec_table.specs.Table.{decode}
 use Rattle.table_size.specs.Sizes.{JobIn}
 use Rattle.sharing_steps.specs.Others.{OtherOf}
-use Rattle.sharing_search.proofs.OnBoard.{order_holds, expand_start, expand_few, expand_job, expand_stands, expand_less, expand_turn, expand_end}
+use Rattle.sharing_search.proofs.OnBoard.{order_holds, expand_few, expand_job, expand_stands, expand_less, expand_turn, expand_end}
 use Rattle.sharing_search.proofs.expand.Goals as goal
 use Rattle.sharing_search.proofs.expand.Goals.{In-loop-j}
-
-pub loop-j-init : goal.loop-j-init
-loop-j-init c = expand_start
 
 -- the job is one of the board, and x holds it
 held : (c : In-loop-j) → JobIn c.args.s c.loop-j.j × (holder_of (decode c.args.t.now) c.loop-j.j ≡ c.args.x)
@@ -26,9 +23,6 @@ pub other-y-requires : goal.other-y-requires
 other-y-requires c =
     let h = held (goal.at.other-y-requires c).In-loop-j in
     record { holds_board = order_holds c.requires.in_order; x_end = inl (sym h.1); x_nonzero = λ z. omega (arith, c.requires.bench_in.least) }
-
-pub overflow_cast-j : goal.overflow_cast-j
-overflow_cast-j c = omega (arith, (held (goal.at.overflow_cast-j c).In-loop-j).0.most, c.requires.in_order.sound.size.limits.jobs_most)
 
 pub discover-found-requires : goal.discover-found-requires
 discover-found-requires c = record { y_le_most_benches = omega (arith, (led (goal.at.discover-found-requires c).In-loop-j c.other-y.ensures.other).most, c.requires.in_order.sound.size.limits.benches_most); found_le_most_benches = expand_few c.requires.in_order c.requires.bench_in c.requires.by_index c.loop-j.invariant }

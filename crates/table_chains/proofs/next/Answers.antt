@@ -1,10 +1,6 @@
 -- A standing job's record tells the next job on its chain.
-use Rattle.table_board.proofs.RecordsAsBoard.{stands_job}
 use Rattle.table_chains.proofs.ChainView.{next_read}
 use Rattle.table_chains.proofs.next.Goals as goal
-
-pub read_record-r-requires : goal.read_record-r-requires
-read_record-r-requires c = record { size_of = c.requires.sound_table.size; job_in = stands_job c.args.t.now c.args.s c.args.j c.requires.sound_table.size c.requires.t }
 
 pub returns : goal.returns
 returns c = next_read c.args.t.now c.args.s c.args.j c.read_record-r.result c.requires.sound_table c.requires.t c.read_record-r.ensures

@@ -1,9 +1,6 @@
 -- A job names at most two benches, which are the first two of its record.
-use Rattle.table_board.proofs.RecordsAsBoard.{name_of, names_job, name_in, name_first, name_second}
+use Rattle.table_board.proofs.RecordsAsBoard.{name_of, name_first, name_second}
 use Rattle.table_board.proofs.jobs.name.Goals as goal
-
-pub read_record-r-requires : goal.read_record-r-requires
-read_record-r-requires c = record { size_of = c.requires.holds_board.size; job_in = names_job c.args.t.now c.args.s c.args.j _ c.requires.holds_board.size (name_in c.args.t.now c.args.j c.args.k c.requires.position) }
 
 pub returns-then-k-eq1 : goal.returns-then-k-eq1
 returns-then-k-eq1 c = name_of c.args.t.now c.args.s c.args.j c.args.k c.read_record-r.result.first c.requires.holds_board c.requires.position (name_first c.args.t.now c.args.j c.args.k c.read_record-r.result c.read_record-r.ensures c.requires.position.least c.requires.position.most c.if-k-eq1.true)
