@@ -3,9 +3,9 @@
 // as the largest table, is no part of the frame of a call on a table in order.
 #![tactic(auto)]
 
-ghost use Rattle.std.specs.Prelude.{◌≡◌, ◌↔◌, [], ◌∷◌, ◌+◌, T, length};
+ghost use Rattle.std.specs.Prelude.{◌≡◌, ◌↔◌, [], ◌∷◌, T, length};
 ghost use Rattle.spec_table.specs.Board.{stands};
-ghost use Rattle.spec_table.specs.Table.{most_benches, decode, encode};
+ghost use Rattle.spec_table.specs.Table.{decode, encode};
 ghost use Rattle.spec_calls.specs.Calls.{MayArrive};
 ghost use Rattle.table_size.specs.Sizes.{SoundTable};
 ghost use Rattle.table_board.specs.BoardView.{Loaded};
@@ -40,7 +40,6 @@ fn do_in_order(
     requires in_order { InOrder t.old s }
     requires may_do { MayDo (decode t.old) task }
     requires loaded { Loaded (decode t.old) loads.old }
-    requires path_len { length path.old ≡ most_benches + 1 }
     ensures { TaskOf task (lent t.old list.old) (lent t.new list.new) result }
 {
     match task {
@@ -64,7 +63,6 @@ fn do_in_copy(
     requires sound_table { SoundTable t.old s }
     requires may_do { MayDo (decode t.old) task }
     requires loaded { Loaded (decode t.old) loads.old }
-    requires path_len { length path.old ≡ most_benches + 1 }
     requires copy_len { length copy.old ≡ length t.old }
     ensures { TaskOf task (lent t.old list.old) (lent t.new list.new) result }
 {
@@ -86,7 +84,6 @@ fn do_stored(
     requires sound_table { SoundTable t.old s }
     requires may_do { MayDo (decode t.old) task }
     requires loaded { Loaded (decode t.old) loads.old }
-    requires path_len { length path.old ≡ most_benches + 1 }
     ensures { TaskOf task (lent t.old list.old) (lent t.new list.new) result }
 {
     let mut copy = [0; Size::MOST_BYTES];
@@ -110,7 +107,6 @@ pub fn arrive(
     requires variant { T rising ↔ (t.old ≡ encode (decode t.old)) }
     requires may_arrive { MayArrive (decode t.old) j (first ∷ second ∷ []) }
     requires loaded { Loaded (decode t.old) loads.old }
-    requires path_len { length path.old ≡ most_benches + 1 }
     ensures { ArrivalOf j first second (lent t.old list.old)
         (lent t.new list.new) result }
 {
@@ -134,7 +130,6 @@ pub fn close(
     requires variant { T rising ↔ (t.old ≡ encode (decode t.old)) }
     requires t { T (stands (decode t.old) j) }
     requires loaded { Loaded (decode t.old) loads.old }
-    requires path_len { length path.old ≡ most_benches + 1 }
     ensures { ClosingOf j (lent t.old list.old)
         (lent t.new list.new) result }
 {

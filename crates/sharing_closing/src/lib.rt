@@ -2,9 +2,9 @@
 // written: the list, and the table.
 #![tactic(auto)]
 
-ghost use Rattle.std.specs.Prelude.{◌≡◌, ◌+◌, T, length};
+ghost use Rattle.std.specs.Prelude.{◌≡◌, T};
 ghost use Rattle.spec_table.specs.Board.{stands};
-ghost use Rattle.spec_table.specs.Table.{most_benches, decode, encode};
+ghost use Rattle.spec_table.specs.Table.{decode, encode};
 ghost use Rattle.spec_sharing.specs.Sharing.{close};
 ghost use Rattle.table_board.specs.BoardView.{Loaded};
 ghost use Rattle.table_order.specs.InOrder.{InOrder};
@@ -28,24 +28,17 @@ pub fn find_closing(
     requires in_order { InOrder t.now s }
     requires t { T (stands (decode t.now) j) }
     requires loaded { Loaded (decode t.now) loads.old }
-    requires path_len { length path.old ≡ most_benches + 1 }
     ensures { ClosingFound (decode t.now) j path.new result }
 {
     let x = jobs::holder(t, s, j);
     // Reads the heaviest load before it may fall: a word just written would hold up the reading of all.
-    let top = s.greatest(loads) as usize;
+    let top = usize::from(s.greatest(loads));
     loads[x] -= 1;
     sharing_paths_to::find_to(t, s, loads, x, top, path)
 }
 
 // Closes job j and hands the path's jobs along, the last to the bench that held it.
-pub fn apply_closing(
-    t: &mut [u8],
-    s: Size,
-    j: usize,
-    found: FoundPath,
-    path: &PerBench<u16>,
-)
+pub fn apply_closing(t: &mut [u8], s: Size, j: usize, found: FoundPath, path: &PerBench<u16>)
     requires in_order { InOrder t.old s }
     requires t { T (stands (decode t.old) j) }
     requires closing_found { ClosingFound (decode t.old) j path.now found }
@@ -69,7 +62,6 @@ pub fn close_in_order(
     requires in_order { InOrder t.old s }
     requires t { T (stands (decode t.old) j) }
     requires loaded { Loaded (decode t.old) loads.old }
-    requires path_len { length path.old ≡ most_benches + 1 }
     ensures { ClosingOf j (lent t.old list.old)
         (lent t.new list.new) result }
 {
