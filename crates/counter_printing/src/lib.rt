@@ -53,6 +53,7 @@ impl<'a> Output<'a> {
     }
 
     // Writes the digits of a number, the last one behind the others: as many calls deep as there are digits.
+    // Kept: by hand, since `number` can't fail and `write!` may, for all that it promises.
     fn decimal(&mut self, n: usize)
         requires { HasRoom self.old (length (digits n n)) }
         ensures { Wrote self.old self.new (digits n n) }
