@@ -2,6 +2,7 @@
 -- has at least the load less one, so nothing of it starts an improving path, and nothing of it is searched again.
 use Prim.Native.Nat.{ℕ, suc, ◌+◌, ◌-◌, ◌*◌, ◌≤◌, ◌<◌}
 use native.Mathlib.Omega.{arith}
+use Rattle.std.specs.Prelude.{Option, None, Some, is_some, true, false}
 use native.Mathlib.Decide.{ℕ_discrete, dec_lt, dec_le}
 use native.Mathlib.Numerals.{add-one}
 use mathlib.Core.Path.{◌≡◌, refl, sym, ap, subst, ◌∙◌}
@@ -193,16 +194,26 @@ module _ {b : Board} {s : Size} {loads : List ℕ} {x : ℕ} (loaded : Loaded b 
                 ]
               ]
 
+-- whether a bench is told
+
+pub is_told : (o : Option ℕ) → is_some o ≡ true → o ≢ None
+is_told None t e = cc
+is_told (Some v) t e = cc
+
+pub is_untold : (o : Option ℕ) → is_some o ≡ false → o ≡ None
+is_untold None e = refl
+is_untold (Some v) e = cc
+
 -- what a search tells
 
 module _ {b : Board} {s : Size} {n x : ℕ} {queue came : List ℕ} where
   -- the first bench that starts an improving path is known ..
-  pub searched_some : {r found : ℕ} → FirstStart b s r → length queue ≡ most_benches + 1 → SearchedTo b s n x (record { start = r; found = found }) queue came
-  searched_some f m = record { none = λ e. absurd (omega (arith, f.bench.least)); some = λ _. f; long = m }
+  pub searched_some : {r found : ℕ} → FirstStart b s r → length queue ≡ most_benches + 1 → SearchedTo b s n x (record { start = Some r; found = found }) queue came
+  searched_some {r} f m = record { none = λ e. absurd (cc); some = λ v e. let same : r ≡ v = cc in rw (← same) f; long = m }
 
   -- .. or no bench up to there does
-  pub searched_none : {found : ℕ} → Searched b s n x found queue came → SearchedTo b s n x (record { start = 0; found = found }) queue came
-  searched_none h = record { none = λ _. h; some = λ d. absurd (d refl); long = h.searching.queue_long }
+  pub searched_none : {found : ℕ} → Searched b s n x found queue came → SearchedTo b s n x (record { start = None; found = found }) queue came
+  searched_none h = record { none = λ _. h; some = λ v e. absurd (cc); long = h.searching.queue_long }
 
 module _ {b : Board} {s : Size} {n x found : ℕ} {queue came : List ℕ} (h : Searched b s n x found queue came) where
   -- a bench of another load is passed over
@@ -232,21 +243,21 @@ module _ {b : Board} {s : Size} {n x found : ℕ} {queue came : List ℕ} (h : S
 
 module _ {b : Board} {s : Size} {n x : ℕ} {r : Search} {queue came : List ℕ} (h : SearchedTo b s n (suc x) r queue came) where
   -- the search from x met no load that is low enough: the next bench is next ..
-  pub searched_turn : {m : ℕ} → n ≡ m → r.start ≡ 0 → Searched b s m (x + 1) r.found queue came
+  pub searched_turn : {m : ℕ} → n ≡ m → r.start ≡ None → Searched b s m (x + 1) r.found queue came
   searched_turn e z = rw (add-one x, sym e) (h.none z)
 
   -- .. or x starts an improving path, and is the first that does
-  pub searched_stop : {m y : ℕ} → r.start ≢ 0 → SearchedTo b s m y r queue came
+  pub searched_stop : {m y : ℕ} → r.start ≢ None → SearchedTo b s m y r queue came
   searched_stop d = record { none = λ e. absurd (d e); some = h.some; long = h.long }
 
 -- every load in turn
 
 -- what is known to be the first is levelling's first bench
-pub start_some : {b : Board} {s : Size} {n x : ℕ} {r : Search} {queue came : List ℕ} → SearchedTo b s n x r queue came → r.start ≢ 0 → StartOf b s r.start
+pub start_some : {b : Board} {s : Size} {n x : ℕ} {r : Search} {queue came : List ℕ} → SearchedTo b s n x r queue came → r.start ≢ None → StartOf b s r.start
 start_some h d = record { none = λ e. absurd (d e); some = h.some }
 
 -- one load less, the next that a bench has
-pub falling_turn : {b : Board} {s : Size} {n r : ℕ} {loads : List ℕ} {x : Search} {queue came : List ℕ} → Loaded b loads → SearchedTo b s n (suc s.benches) x queue came → x.start ≡ 0 → 1 ≤ n → NextLower s loads n r → Searched b s r 1 x.found queue came
+pub falling_turn : {b : Board} {s : Size} {n r : ℕ} {loads : List ℕ} {x : Search} {queue came : List ℕ} → Loaded b loads → SearchedTo b s n (suc s.benches) x queue came → x.start ≡ None → 1 ≤ n → NextLower s loads n r → Searched b s r 1 x.found queue came
 falling_turn {b} {s} {n} {r} {loads} {x} {queue} {came} loaded h z least next =
     record {
       now = o.now;
@@ -293,8 +304,8 @@ module _ {t : List ℕ} {s : Size} {loads : List ℕ} (k : HoldsBoard t s) (load
       }
 
   -- no bench is left whose load is the least and two, or more: none starts an improving path
-  pub falling_end : {goal n found : ℕ} {queue came : List ℕ} → Lightest s loads goal → Searched (decode t) s n 1 found queue came → n < at loads goal + 2 → StartOf (decode t) s 0
-  falling_end {goal} {n} low h u = record { none = λ _. (level_starts (decode t) k.storable.valid).1 none; some = λ d. absurd (d refl) }
+  pub falling_end : {goal n found : ℕ} {queue came : List ℕ} → Lightest s loads goal → Searched (decode t) s n 1 found queue came → n < at loads goal + 2 → StartOf (decode t) s None
+  falling_end {goal} {n} low h u = record { none = λ _. (level_starts (decode t) k.storable.valid).1 none; some = λ v e. absurd (cc) }
     where
       none : (x : ℕ) → T (within 1 (decode t).benches x) → StartsOne (decode t) x → ⊥
       none x w (y, r, d) =

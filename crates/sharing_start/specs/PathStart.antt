@@ -1,5 +1,5 @@
 -- The bench that starts the path which levelling flips.
-use Rattle.std.specs.Prelude.{ℕ, suc, ◌+◌, ◌-◌, ◌*◌, ◌≤◌, ◌<◌, ◌≡◌, ◌⊎◌, ◌≢◌, List, T, length}
+use Rattle.std.specs.Prelude.{ℕ, suc, ◌+◌, ◌-◌, ◌*◌, ◌≤◌, ◌<◌, ◌≡◌, ◌⊎◌, List, T, length, Option, None, Some}
 use Rattle.spec_table.specs.Board.{Board, load}
 use Rattle.spec_table.specs.Table.{most_benches, most_jobs}
 use Rattle.spec_sharing.specs.Paths.{steps}
@@ -19,10 +19,10 @@ pub record FirstStart (b : Board) (s : Size) (r : ℕ) : Type 0 where
       (w : ℕ) → BenchIn s w → StartsOne b w →
       (load b.holders w < load b.holders r) ⊎ ((load b.holders r ≡ load b.holders w) × (r ≤ w))
 
--- r is that bench, 0 where the board is level
-pub record StartOf (b : Board) (s : Size) (r : ℕ) : Type 0 where
-  pub none : r ≡ 0 → T (level b)
-  pub some : r ≢ 0 → FirstStart b s r
+-- r is that bench, none where the board is level
+pub record StartOf (b : Board) (s : Size) (r : Option ℕ) : Type 0 where
+  pub none : r ≡ None → T (level b)
+  pub some : (v : ℕ) → r ≡ Some v → FirstStart b s v
 
 -- falling loads, and rising numbers of benches of one load
 abbrev pub rank_at : ℕ → ℕ → ℕ
@@ -58,6 +58,6 @@ pub record Searched (b : Board) (s : Size) (n x found : ℕ) (queue came : List 
 
 -- so it is, or the first bench that starts an improving path is known; the queue is as long as before
 pub record SearchedTo (b : Board) (s : Size) (n x : ℕ) (r : Search) (queue came : List ℕ) : Type 0 where
-  pub none : r.start ≡ 0 → Searched b s n x r.found queue came
-  pub some : r.start ≢ 0 → FirstStart b s r.start
+  pub none : r.start ≡ None → Searched b s n x r.found queue came
+  pub some : (v : ℕ) → r.start ≡ Some v → FirstStart b s v
   pub long : length queue ≡ most_benches + 1

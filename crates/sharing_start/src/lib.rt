@@ -3,21 +3,21 @@
 // a lighter one.
 #![tactic(auto)]
 
-ghost use Rattle.std.specs.Prelude.{suc, ◌+◌, ◌≤◌, ◌≡◌, length};
-ghost use Rattle.spec_table.specs.Table.{most_benches, decode};
+ghost use Rattle.std.specs.Prelude.{suc, ◌≤◌};
+ghost use Rattle.spec_table.specs.Table.{decode};
 ghost use Rattle.table_size.specs.Sizes.{BenchIn};
 ghost use Rattle.table_board.specs.BoardView.{Loaded};
 ghost use Rattle.table_order.specs.InOrder.{InOrder};
 ghost use Rattle.graph_lists.specs.Arrays.{at, LoadsIn};
 ghost use Rattle.sharing_start.specs.PathStart.{StartOf, Searched, SearchedTo};
 
-use graph_lists::{keys, scratch};
+use graph_lists::keys;
 use table_size::{PerBench, Size};
 
-// The first bench that starts an improving path, 0 for none; how many benches are found.
+// The first bench that starts an improving path, where one does; how many benches are found.
 #[derive(Clone, Copy)]
 struct Search {
-    start: usize,
+    start: Option<usize>,
     found: usize,
 }
 
@@ -47,7 +47,7 @@ fn search_from(
         let more = sharing_search::expand_level(t, s, begin, end, 0, queue, came);
         if keys::wanted_among(queue, end, more, loads, limit) {
             return Search {
-                start: x,
+                start: Some(x),
                 found: more,
             };
         }
@@ -55,7 +55,7 @@ fn search_from(
         end = more;
     }
     Search {
-        start: 0,
+        start: None,
         found: end,
     }
 }
@@ -78,23 +78,20 @@ fn start_among(
     ensures { SearchedTo (decode t.now) s load (suc s.benches) result queue.new
         came.new }
 {
-    let benches = s.benches();
     let mut found = found;
-    let mut x = 1;
-    while x <= benches {
-        if loads[x] as usize == load {
+    for x in 1..s.benches() + 1 {
+        if usize::from(loads[x]) == load {
             let searched = search_from(t, s, loads, x, found, queue, came);
-            if searched.start != 0 {
+            if searched.start.is_some() {
                 return searched;
             }
             found = searched.found;
         }
-        x += 1;
     }
-    Search { start: 0, found }
+    Search { start: None, found }
 }
 
-// Finds the bench of greatest load, then lowest number, among those that start an improving path; 0 where none does.
+// Finds the bench of greatest load, then lowest number, among those that start an improving path, if one does.
 // No bench with the least load or one more does. The queue is lent, so that it is not cleared for each search: what it
 // holds does not matter.
 pub fn first_start(
@@ -102,29 +99,27 @@ pub fn first_start(
     s: Size,
     loads: &PerBench<u16>,
     queue: &mut PerBench<u16>,
-) -> usize
+) -> Option<usize>
     requires in_order { InOrder t.now s }
     requires loads_in { LoadsIn s loads.now }
     requires loaded { Loaded (decode t.now) loads.now }
-    requires queue_len { length queue.old ≡ most_benches + 1 }
-    ensures start_of { StartOf (decode t.now) s result }
-    ensures queue_len_2 { length queue.new ≡ most_benches + 1 }
+    ensures { StartOf (decode t.now) s result }
 {
     let goal = sharing_loads::lightest(s, loads);
-    let low = loads[goal] as usize;
-    let mut load = s.greatest(loads) as usize;
+    let low = usize::from(loads[goal]);
+    let mut load = usize::from(s.greatest(loads));
     if load < low + 2 {
-        return 0;
+        return None;
     }
-    let mut came = scratch::benches();
+    let mut came = [0; Size::MOST_BENCHES + 1];
     let mut found = 0;
     while low + 2 <= load {
         let first = start_among(t, s, loads, load, found, queue, &mut came);
-        if first.start != 0 {
+        if first.start.is_some() {
             return first.start;
         }
         found = first.found;
         load = sharing_loads::next_lower(s, loads, load);
     }
-    0
+    None
 }
