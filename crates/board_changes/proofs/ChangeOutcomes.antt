@@ -36,20 +36,17 @@ use Rattle.board_answers.specs.declared.Answer.TheVariants.{Blanked, Arrived, Cl
 use Rattle.table_refusals.specs.declared.Refusal.TheVariants.{Sizes, JobNumber, BenchNumber, AlreadyStanding, NotStanding}
 use Rattle.board_answers.proofs.Formal.{refused_leaves}
 
--- what a blanking answers, by whether the sizes fit
-abbrev blank_answer : Bool → Result Answer Refusal
-blank_answer true = Ok Blanked
-blank_answer false = Err Sizes
-
--- blanking, by the test of the sizes
-pub blanking_left : (benches jobs : ℕ) (t : List ℕ) {u : List ℕ} {h : Bool} (v : Bool) → h ≡ sizes_fit (length t) benches jobs → u ≡ cond h (blank_table benches jobs) t → h ≡ v → Leaves (blanking benches jobs t) (blank_answer v) u []
+-- sizes that fit are blanked ..
+pub blanked : (benches jobs : ℕ) (t : List ℕ) {u : List ℕ} → true ≡ sizes_fit (length t) benches jobs → u ≡ blank_table benches jobs → Leaves (blanking benches jobs t) (Ok Blanked) u []
 unfolding blanking
-blanking_left benches jobs t {u} {h} true e b w =
-    let f : sizes_fit (length t) benches jobs ≡ true = sym e ∙ w in
-    record { answer = rw f; bytes = rw f (rw w at b); lent = rw f }
-blanking_left benches jobs t {u} {h} false e b w =
-    let f : sizes_fit (length t) benches jobs ≡ false = sym e ∙ w in
-    record { answer = rw f; bytes = rw f (rw w at b); lent = rw f }
+blanked benches jobs t e b = let f : sizes_fit (length t) benches jobs ≡ true = sym e in record { answer = rw f; bytes = rw f b; lent = rw f }
+
+-- .. any other are refused, and no byte is changed
+pub blank_refused : (benches jobs : ℕ) (t : List ℕ) {u : List ℕ} {r : Refusal} → r ≡ Sizes → false ≡ sizes_fit (length t) benches jobs → u ≡ t → Leaves (blanking benches jobs t) (Err r) u []
+unfolding blanking
+blank_refused benches jobs t q e b =
+    let f : sizes_fit (length t) benches jobs ≡ false = sym e in
+    rw q (record { answer = rw f; bytes = rw f b; lent = rw f })
 
 -- what a levelling answers, by whether it ended level
 abbrev level_answer : Bool → ℕ → Result Answer Refusal

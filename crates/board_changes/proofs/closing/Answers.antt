@@ -4,4 +4,4 @@ use Rattle.board_answers.proofs.Formal.{form_refused, passed_on}
 use Rattle.board_changes.proofs.closing.Goals as goal
 
 pub returns-in_err-form : goal.returns-in_err-form
-returns-in_err-form c = passed_on c.from_residual.ensures.1 (form_refused _ (closing (record { job = c.args.job; list = c.args.list.now })) tt c.args.t.now c.in_err-form.ensures.form_of.says)
+returns-in_err-form c = passed_on c.from_residual.ensures.1 (form_refused _ (closing (record { job = c.args.job; list = c.args.list.now })) tt c.args.t.now c.in_err-form.ensures.says)

@@ -8,10 +8,10 @@ use Rattle.board_questions.proofs.Asking.{level_told}
 use Rattle.board_questions.proofs.level_check.Goals as goal
 
 pub returns-in_err-form : goal.returns-in_err-form
-returns-in_err-form c = passed_on c.from_residual.ensures.1 (form_refused _ (ask level_check []) tt c.args.t.now c.in_err-form.ensures.form_of.says)
+returns-in_err-form c = passed_on c.from_residual.ensures.1 (form_refused _ (ask level_check []) tt c.args.t.now c.in_err-form.ensures.says)
 
 pub returns-then-is_level : goal.returns-then-is_level
-returns-then-is_level c = level_told c.in_ok-form.ensures.form_of.says.sound true (sym c.if-is_level.true ∙ c.is_level.ensures)
+returns-then-is_level c = level_told c.in_ok-form.ensures.says.sound true (sym c.if-is_level.true ∙ c.is_level.ensures)
 
 pub returns-else-is_level : goal.returns-else-is_level
-returns-else-is_level c = level_told c.in_ok-form.ensures.form_of.says.sound false (sym c.if-is_level.false ∙ c.is_level.ensures)
+returns-else-is_level c = level_told c.in_ok-form.ensures.says.sound false (sym c.if-is_level.false ∙ c.is_level.ensures)
