@@ -1,81 +1,93 @@
-// The lines that the counter program prints for answers, written into a lent buffer behind its first `at` bytes.
+// The lines that the counter program prints for answers.
 #![tactic(auto)]
 
-ghost use Rattle.std.specs.Prelude.{[], ◌∷◌, ◌++◌, suc, ◌+◌, ◌*◌, ◌≤◌, length, drop};
+ghost use Rattle.std.specs.Prelude.{[], ◌++◌, suc, ◌+◌, ◌*◌, ◌≤◌, length, take};
 ghost use Rattle.spec_lists.specs.Lists.{nth};
-ghost use Rattle.spec_table.specs.Table.{most_benches};
-ghost use Rattle.spec_calls.specs.Answers.{in_numbers};
+ghost use Rattle.spec_table.specs.Table.{most_benches, words};
+ghost use Rattle.spec_calls.specs.Answers.{in_numbers, refusal_number};
+ghost use Rattle.table_refusals.specs.Refusals.{refusal_of};
 ghost use Rattle.board_answers.specs.Answered.{answer_of, values_of};
-ghost use Rattle.counter_printing.specs.Wrote.{Wrote, field_most, spaced};
+ghost use Rattle.spec_counter.specs.Counter.{printed};
+ghost use Rattle.counter_printing.specs.Wrote.{HasRoom, Wrote};
 ghost use Rattle.counter_answer_lines.specs.AnswerLines.{line_most, refusal_text, answer_text, listing_text};
 
 use board_answers::{Answer, Values};
+use counter_printing::Output;
+use table_refusals::Refusal;
 
 // The room that any line fits into: `line_most`, for those who lend the buffer.
 pub const LINE_MOST: usize = 10628;
 
-// Prints "R and the refusal".
-pub fn refusal(out: &mut [u8], at: usize, number: usize) -> usize
-    requires { at + line_most ≤ length out.old }
-    ensures wrote { Wrote out.old out.new at result (refusal_text number) }
-    ensures short { result ≤ at + line_most }
-{
-    let letter = counter_printing::byte(out, at, b'R');
-    let told = counter_printing::number(out, letter, number);
-    counter_printing::byte(out, told, b'\n')
+// What an answer's line tells: a letter, numbers of the command that it repeats, and the answer.
+#[derive(Clone, Copy)]
+pub struct Told {
+    pub letter: u8,
+    pub repeated: Values,
+    pub answer: Result<Answer, Refusal>,
 }
 
-// Prints a letter, numbers of the command and the answer's values.
-fn beginning(out: &mut [u8], at: usize, letter: u8, repeated: Values, a: Answer) -> usize
-    requires { at + line_most ≤ length out.old }
-    ensures wrote { Wrote out.old out.new at result
-        (letter ∷ spaced (values_of repeated ++ drop 1 (in_numbers (answer_of a)))) }
-    ensures short { result ≤ at + 1 + field_most * 6 }
+// Prints a line: a letter, numbers of the command, values and the first `count` words of a list, and the line feed.
+fn line(
+    out: &mut Output<'_>,
+    letter: u8,
+    repeated: Values,
+    values: Values,
+    list: &[u8],
+    count: usize,
+)
+    requires room { HasRoom out.old line_most }
+    requires count_in_bounds { 2 * count ≤ length list.now }
+    requires count_most { count ≤ most_benches }
+    ensures wrote { Wrote out.old out.new
+        (printed letter (values_of repeated ++ values_of values ++ take count (words list.now))) }
+    ensures short { out.new.written ≤ out.old.written + line_most }
 {
-    let v = a.values();
-    let named = counter_printing::byte(out, at, letter);
-    let told = counter_printing::values(out, named, repeated);
-    counter_printing::values(out, told, v)
+    out.byte(letter);
+    out.values(repeated);
+    out.values(values);
+    out.listed(list, count);
+    out.byte(b'\n');
+}
+
+// Prints "R and the refusal".
+pub fn refusal(out: &mut Output<'_>, why: Refusal)
+    requires { HasRoom out.old line_most }
+    ensures wrote { Wrote out.old out.new (refusal_text (refusal_number (refusal_of why))) }
+    ensures short { out.new.written ≤ out.old.written + line_most }
+{
+    let number = why.number() as usize;
+    line(out, b'R', Values::of(&[number]), Values::of(&[]), &[], 0);
 }
 
 // Prints an answer's line without a list.
-pub fn answer(out: &mut [u8], at: usize, letter: u8, repeated: Values, a: Answer) -> usize
-    requires { at + line_most ≤ length out.old }
-    ensures wrote { Wrote out.old out.new at result
-        (answer_text letter (values_of repeated) (answer_of a) []) }
-    ensures short { result ≤ at + line_most }
+pub fn answer(out: &mut Output<'_>, told: Told)
+    requires { HasRoom out.old line_most }
+    ensures wrote { Wrote out.old out.new
+        (answer_text told.letter (values_of told.repeated) (answer_of told.answer) []) }
+    ensures short { out.new.written ≤ out.old.written + line_most }
 {
-    let number = a.number();
-    if number != 0 {
-        return refusal(out, at, number as usize);
+    match told.answer {
+        Ok(accepted) => line(out, told.letter, told.repeated, accepted.values(), &[], 0),
+        Err(why) => refusal(out, why),
     }
-    let end = beginning(out, at, letter, repeated, a);
-    counter_printing::byte(out, end, b'\n')
 }
 
 // Prints an answer's line with the words of a list, as many as its value k says; a refusal lists none.
-pub fn listing(
-    out: &mut [u8],
-    at: usize,
-    letter: u8,
-    repeated: Values,
-    a: Answer,
-    k: usize,
-    list: &[u8],
-) -> usize
-    requires line_most_in_bounds { at + line_most ≤ length out.old }
+pub fn listing(out: &mut Output<'_>, told: Told, k: usize, list: &[u8])
+    requires room { HasRoom out.old line_most }
     requires le_k { 1 ≤ k }
-    requires k_in_bounds { 2 * nth (in_numbers (answer_of a)) (suc k) 0 ≤ length list.now }
+    requires k_in_bounds { 2 * nth (in_numbers (answer_of told.answer)) (suc k) 0 ≤ length list.now }
     requires list_len_bound { length list.now ≤ 2 * most_benches }
-    ensures wrote { Wrote out.old out.new at result
-        (listing_text letter (values_of repeated) k (answer_of a) list.now) }
-    ensures short { result ≤ at + line_most }
+    ensures wrote { Wrote out.old out.new
+        (listing_text told.letter (values_of told.repeated) k (answer_of told.answer) list.now) }
+    ensures short { out.new.written ≤ out.old.written + line_most }
 {
-    if a.number() != 0 {
-        return answer(out, at, letter, repeated, a);
+    match told.answer {
+        Ok(accepted) => {
+            let values = accepted.values();
+            let count = values.get(k).unwrap_or(0);
+            line(out, told.letter, told.repeated, values, list, count);
+        }
+        Err(why) => refusal(out, why),
     }
-    let told = beginning(out, at, letter, repeated, a);
-    let count = a.values().get(k, 0);
-    let listed = counter_printing::listed(out, told, list, count);
-    counter_printing::byte(out, listed, b'\n')
 }

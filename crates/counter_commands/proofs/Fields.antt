@@ -1,26 +1,24 @@
 -- A line read field by field, and a field byte by byte, is the command of its pieces.
-use Prim.Native.Nat.{ℕ, suc, ◌+◌, ◌-◌, ◌*◌, ◌≤◌, ◌<◌}
+use Prim.Native.Nat.{ℕ, ◌+◌, ◌-◌, ◌*◌, ◌≤◌, ◌<◌}
 use Prim.Native.Char.{code}
-use native.Mathlib.Numerals.{add-one}
 use native.Mathlib.Omega.{arith}
-use mathlib.Core.Path.{◌≡◌, refl, sym, ap, subst, ◌∙◌}
+use mathlib.Core.Path.{◌≡◌, refl, sym, ap, ◌∙◌}
 use mathlib.Core.Logic.{◌≢◌}
 use mathlib.Core.Bool.{Bool, true, false, cond, not, ◌&&◌, ◌||◌, and-false, or-true}
-use mathlib.Core.List.{List, [], ◌∷◌, ◌++◌, append_assoc}
+use mathlib.Core.List.{List, [], ◌∷◌}
 use mathlib.Core.Option.{Option, none, some}
 use lib.Dec.{eqb, leb}
-use lib.ListN.{length, drop, get_or, length-append, drop_of_length-le}
-use lib.Seq.{drop-cons}
-use borrow.Author.Tests.{le-leb, lt-leb, eq-eqb, ne_eqb, leb-true, leb-false}
+use lib.ListN.{length, take, drop, get_or, length-drop}
+use lib.Seq.{take_all}
+use borrow.Author.Tests.{le-leb, lt-leb, ne_eqb, leb-false}
 use Rattle.spec_lists.specs.Lists.{all, empty}
 use Rattle.spec_text.specs.Numbers.{space, digit, value, number}
 use Rattle.spec_counter.specs.Counter.{onto, pieces, numbers, joined, command_for, fields_command, command}
 use Rattle.spec_lists.proofs.Tests.{Compared, same, other, compared, true→T, within_low, within_high, right, T-leb}
-use Rattle.counter_commands.specs.Read.{reading_of, reading_numbers, numbers_due, ReadingOf, digit_value, behind, onwards, Further, ReadField, followed, few, taken, given}
-use Rattle.counter_commands.specs.declared.Reading.{Reading}
-use Rattle.counter_commands.specs.declared.Reading.TheVariants.{Readable, Unreadable}
-use Rattle.counter_commands.specs.declared.Field.{Field}
-use Rattle.counter_commands.specs.declared.Field.TheVariants as field
+use Rattle.std.specs.Prelude as std
+use Rattle.std.specs.Prelude.{Some, None}
+use Rattle.counter_commands.specs.Read.{reading_of, reading_numbers, numbers_due, ReadingOf, digit_value, behind, few, taken, given}
+use Rattle.counter_commands.specs.declared.Command.{Command}
 use Rattle.counter_commands.specs.declared.Numbers.{Numbers}
 use Rattle.counter_commands.specs.declared.Numbers.TheVariants as read
 
@@ -38,21 +36,34 @@ cut_line (c ∷ l) = go (eqb c space) (cut_line l)
 
 -- digits
 
--- a byte that is a digit has its value, another has 10
-data DigitTold (c : ℕ) : Bool → ℕ → Type 0 where
-  figure : code "0" ≤ c → c ≤ code "9" → DigitTold c true (c - code "0")
-  another : DigitTold c false 10
+-- the value of a byte that is a digit
+abbrev pub figure : ℕ → ℕ
+figure c = c - code "0"
 
-told : (c : ℕ) → DigitTold c (digit c) (digit_value c)
-told c = go (digit c) refl
+figure_small : (c : ℕ) → digit c ≡ true → figure c ≤ 9
+figure_small c e =
+    let high = within_high (code "0") (code "9") c (true→T (digit c) e) in
+    omega arith
+
+-- a byte whose value was read is a digit, ..
+pub is_figure : (c d : ℕ) → Some d ≡ digit_value c → (digit c ≡ true) × (d ≡ figure c)
+is_figure c d e = go (digit c) e
   where
-    go : (z : Bool) → digit c ≡ z → DigitTold c z (cond z (c - code "0") 10)
-    go true e = figure (within_low (code "0") (code "9") c (true→T (digit c) e)) (within_high (code "0") (code "9") c (true→T (digit c) e))
-    go false e = another
+    go : (z : Bool) → Some d ≡ cond z (Some (figure c)) None → (z ≡ true) × (d ≡ figure c)
+    go true e = (refl, cc)
+    go false e = cc
+
+-- .. and another is none
+pub no_figure : (c : ℕ) → None ≡ digit_value c → digit c ≡ false
+no_figure c e = go (digit c) e
+  where
+    go : (z : Bool) → None ≡ cond z (Some (figure c)) None → z ≡ false
+    go true e = cc
+    go false e = refl
 
 value_grows : (n : ℕ) (l : List ℕ) → n ≤ value n l
 value_grows n [] = omega arith
-value_grows n (c ∷ l) = omega (arith, value_grows (10 * n + (c - code "0")) l)
+value_grows n (c ∷ l) = omega (arith, value_grows (10 * n + figure c) l)
 
 -- a number whose value is n before the bytes f
 abbrev continued : ℕ → List ℕ → Option ℕ
@@ -60,38 +71,40 @@ continued n f = cond (all digit f && (empty f || not (eqb n 0)) && leb (value n 
 
 -- a digit that a number may have behind its value n
 abbrev pub fitting : ℕ → ℕ → Bool
-fitting n d = leb d 9 && not (eqb n 0) && leb (10 * n + d) 65535
+fitting n d = not (eqb n 0) && leb (10 * n + d) 65535
 
 -- a field whose value is n up to here, and the fields after it
 abbrev pub goes_on : ℕ → List ℕ → Option (List ℕ)
 goes_on n [] = some (n ∷ [])
 goes_on n (c ∷ l) =
-    let r = goes_on (10 * n + digit_value c) l in
-    cond (eqb c space) (joined (some n) (numbers (pieces space l))) (cond (fitting n (digit_value c)) r none)
+    let r = goes_on (10 * n + figure c) l in
+    cond (eqb c space) (joined (some n) (numbers (pieces space l))) (cond (digit c && fitting n (figure c)) r none)
 
 -- a digit more
-one_more : (n c : ℕ) (f : List ℕ) → continued n (c ∷ f) ≡ cond (fitting n (digit_value c)) (continued (10 * n + digit_value c) f) none
-one_more n c f = go (told c)
+one_more : (n c : ℕ) (f : List ℕ) → continued n (c ∷ f) ≡ cond (digit c && fitting n (figure c)) (continued (10 * n + figure c) f) none
+one_more n c f = go (digit c)
   where
     v : ℕ
-    v = 10 * n + (c - code "0")
+    v = 10 * n + figure c
 
     long : {y : Bool} → Compared n 0 y → (z : Bool) → leb v 65535 ≡ z → cond (all digit f && not y && leb (value v f) 65535) (some (value v f)) none ≡ cond (not y && z) (continued v f) none
     long (same e) z p = rw and-false
     long (other d) true p = rw (ne_eqb v 0 (λ e. d (omega arith)), or-true)
     long (other d) false p = let big = leb-false v 65535 p in rw (lt-leb (value v f) 65535 (omega (arith, value_grows v f)), and-false)
 
-    go : {z : Bool} {d : ℕ} → DigitTold c z d → cond ((z && all digit f) && not (eqb n 0) && leb (value v f) 65535) (some (value v f)) none ≡ cond (fitting n d) (continued (10 * n + d) f) none
-    go another = refl
-    go (figure low high) = rw (le-leb (c - code "0") 9 (omega arith)) (long (compared n 0) (leb v 65535) refl)
+    go : (z : Bool) → cond ((z && all digit f) && not (eqb n 0) && leb (value v f) 65535) (some (value v f)) none ≡ cond (z && fitting n (figure c)) (continued v f) none
+    go true = long (compared n 0) (leb v 65535) refl
+    go false = refl
 
 -- the numbers of pieces whose first is read by g
 abbrev first_by : (List ℕ → Option ℕ) → List (List ℕ) → Option (List ℕ)
 first_by g [] = none
 first_by g (f ∷ fs) = joined (g f) (numbers fs)
 
-fitting_small : (n d : ℕ) → fitting n d ≡ true → 10 * n + d ≤ 65535
-fitting_small n d e = T-leb (10 * n + d) 65535 (right (leb d 9 && not (eqb n 0)) (leb (10 * n + d) 65535) (true→T (fitting n d) e))
+fitting_small : (n c : ℕ) → (digit c && fitting n (figure c)) ≡ true → 10 * n + figure c ≤ 65535
+fitting_small n c e =
+    let m = 10 * n + figure c in
+    T-leb m 65535 (right (not (eqb n 0)) (leb m 65535) (right (digit c) (fitting n (figure c)) (true→T (digit c && fitting n (figure c)) e)))
 
 -- a field that goes on is the first piece
 goes_on_lem : (n : ℕ) (l : List ℕ) → n ≤ 65535 → goes_on n l ≡ first_by (continued n) (pieces space l)
@@ -99,149 +112,82 @@ goes_on_lem n [] h = rw (le-leb n 65535 h)
 goes_on_lem n (c ∷ l) h = go (compared c space) (λ k. goes_on_lem m l k)
   where
     m : ℕ
-    m = 10 * n + digit_value c
+    m = 10 * n + figure c
 
-    more : {r : List (List ℕ)} (z : Bool) → fitting n (digit_value c) ≡ z → Cut r → (m ≤ 65535 → goes_on m l ≡ first_by (continued m) r) → cond z (goes_on m l) none ≡ first_by (continued n) (onto c r)
-    more true e (cut f fs) ih = rw (one_more n c f, e) (ih (fitting_small n (digit_value c) e))
+    more : {r : List (List ℕ)} (z : Bool) → (digit c && fitting n (figure c)) ≡ z → Cut r → (m ≤ 65535 → goes_on m l ≡ first_by (continued m) r) → cond z (goes_on m l) none ≡ first_by (continued n) (onto c r)
+    more true e (cut f fs) ih = rw (one_more n c f, e) (ih (fitting_small n c e))
     more false e (cut f fs) ih = rw (one_more n c f, e)
 
-    go : {z : Bool} → Compared c space z → (m ≤ 65535 → goes_on m l ≡ first_by (continued m) (pieces space l)) → cond z (joined (some n) (numbers (pieces space l))) (cond (fitting n (digit_value c)) (goes_on m l) none) ≡ first_by (continued n) (cond z ([] ∷ pieces space l) (onto c (pieces space l)))
+    go : {z : Bool} → Compared c space z → (m ≤ 65535 → goes_on m l ≡ first_by (continued m) (pieces space l)) → cond z (joined (some n) (numbers (pieces space l))) (cond (digit c && fitting n (figure c)) (goes_on m l) none) ≡ first_by (continued n) (cond z ([] ∷ pieces space l) (onto c (pieces space l)))
     go (same e) ih = rw (le-leb n 65535 h)
-    go (other d) ih = more (fitting n (digit_value c)) refl (cut_line l) ih
+    go (other d) ih = more (digit c && fitting n (figure c)) refl (cut_line l) ih
 
 -- a number begins with a digit, and goes on from its value
-number_starts : (c : ℕ) (f : List ℕ) → number (c ∷ f) ≡ cond (leb (digit_value c) 9) (continued (digit_value c) f) none
+number_starts : (c : ℕ) (f : List ℕ) → number (c ∷ f) ≡ cond (digit c) (continued (figure c) f) none
 unfolding number
-number_starts c f = go (told c)
+number_starts c f = go (digit c) refl
   where
     v : ℕ
     v = value 0 (c ∷ [])
 
-    zero_digit : {y : Bool} → Compared c (code "0") y → code "0" ≤ c → y ≡ eqb (c - code "0") 0
+    zero_digit : {y : Bool} → Compared c (code "0") y → code "0" ≤ c → y ≡ eqb (figure c) 0
     zero_digit (same e) low = rw e
-    zero_digit (other d) low = sym (ne_eqb (c - code "0") 0 (λ e. d (omega arith)))
+    zero_digit (other d) low = sym (ne_eqb (figure c) 0 (λ e. d (omega arith)))
 
-    go : {z : Bool} {d : ℕ} → DigitTold c z d → cond ((z && all digit f) && (empty f || not (eqb c (code "0"))) && leb (value v f) 65535) (some (value v f)) none ≡ cond (leb d 9) (continued d f) none
-    go another = refl
-    go (figure low high) =
-        let e : v ≡ c - code "0" = omega arith in
-        rw (le-leb (c - code "0") 9 (omega arith), e, zero_digit (compared c (code "0")) low)
+    go : (z : Bool) → digit c ≡ z → cond ((z && all digit f) && (empty f || not (eqb c (code "0"))) && leb (value v f) 65535) (some (value v f)) none ≡ cond z (continued (figure c) f) none
+    go true p =
+        let e : v ≡ figure c = omega arith in
+        let low = within_low (code "0") (code "9") c (true→T (digit c) p) in
+        rw (e, zero_digit (compared c (code "0")) low)
+    go false p = refl
 
 -- a field begins with a digit, and goes on from its value
-field_starts : (c : ℕ) (l : List ℕ) → numbers (pieces space (c ∷ l)) ≡ cond (leb (digit_value c) 9) (goes_on (digit_value c) l) none
+field_starts : (c : ℕ) (l : List ℕ) → numbers (pieces space (c ∷ l)) ≡ cond (digit c) (goes_on (figure c) l) none
 unfolding number
 field_starts c l = go (compared c space)
   where
-    d : ℕ
-    d = digit_value c
-
-    first : {r : List (List ℕ)} (z : Bool) → leb d 9 ≡ z → Cut r → (d ≤ 65535 → goes_on d l ≡ first_by (continued d) r) → numbers (onto c r) ≡ cond z (goes_on d l) none
-    first true e (cut f fs) h = let small = leb-true d 9 e in rw (number_starts c f, e) (sym (h (omega arith)))
+    first : {r : List (List ℕ)} (z : Bool) → digit c ≡ z → Cut r → (figure c ≤ 65535 → goes_on (figure c) l ≡ first_by (continued (figure c)) r) → numbers (onto c r) ≡ cond z (goes_on (figure c) l) none
+    first true e (cut f fs) h = let small = figure_small c e in rw (number_starts c f, e) (sym (h (omega arith)))
     first false e (cut f fs) h = rw (number_starts c f, e)
 
-    go : {z : Bool} → Compared c space z → numbers (cond z ([] ∷ pieces space l) (onto c (pieces space l))) ≡ cond (leb d 9) (goes_on d l) none
+    go : {z : Bool} → Compared c space z → numbers (cond z ([] ∷ pieces space l) (onto c (pieces space l))) ≡ cond (digit c) (goes_on (figure c) l) none
     go (same e) = rw e
-    go (other n) = first (leb d 9) refl (cut_line l) (λ h. goes_on_lem d l h)
+    go (other n) = first (digit c) refl (cut_line l) (λ h. goes_on_lem (figure c) l h)
 
--- what may not stand behind a value, and what may
-pub unfit_byte : (n d : ℕ) → 9 < d → fitting n d ≡ false
-unfit_byte n d h = rw (lt-leb d 9 h)
-
-pub unfit_zero : (n d : ℕ) → n ≡ 0 → fitting n d ≡ false
-unfit_zero n d e = rw (eq-eqb n 0 e, and-false (leb d 9))
-
-pub unfit_value : (n d : ℕ) → 65535 < 10 * n + d → fitting n d ≡ false
-unfit_value n d h = rw (lt-leb (10 * n + d) 65535 h, and-false (leb d 9 && not (eqb n 0)))
-
-pub fits_behind : (n d : ℕ) → d ≤ 9 → n ≢ 0 → 10 * n + d ≤ 65535 → fitting n d ≡ true
-fits_behind n d h z k = rw (le-leb d 9 h, ne_eqb n 0 z, le-leb (10 * n + d) 65535 k)
-
--- a line at an index where a field ends
-module _ (line : List ℕ) (at : ℕ) (h : at < length line) where
-  behind_at : behind (drop at line) ≡ cond (eqb (get_or line at 0) space) (numbers (pieces space (drop (at + 1) line))) none
-  behind_at = rw (add-one, drop-cons line at 0)
-
-  -- another byte than a space
-  pub no_space : get_or line at 0 ≢ space → behind (drop at line) ≡ none
-  no_space d = behind_at ∙ rw (ne_eqb (get_or line at 0) space d)
-
-  -- a space that is the last byte
-  pub no_byte : get_or line at 0 ≡ space → at + 1 ≡ length line → behind (drop at line) ≡ none
-  unfolding number
-  no_byte e k = let l : length line ≤ at + 1 = omega arith in behind_at ∙ rw (eq-eqb (get_or line at 0) space e, drop_of_length-le line l)
-
-  -- a space and a byte
-  pub begins : (d : ℕ) → get_or line at 0 ≡ space → at + 1 < length line → d ≡ digit_value (get_or line (at + 1) 0) → behind (drop at line) ≡ cond (leb d 9) (goes_on d (drop (at + 1 + 1) line)) none
-  begins d e k f =
-      let b = get_or line (at + 1) 0 in
-      behind_at
-      ∙ rw (eq-eqb (get_or line at 0) space e, add-one (at + 1), drop-cons line (at + 1) 0 k, f) (field_starts b (drop (suc (at + 1)) line))
-
--- a line at an index in a field
-module _ (line : List ℕ) (i n : ℕ) where
-  -- another byte than a space
-  pub goes_on_at : (d : ℕ) → i < length line → get_or line i 0 ≢ space → d ≡ digit_value (get_or line i 0) → goes_on n (drop i line) ≡ cond (fitting n d) (goes_on (10 * n + d) (drop (i + 1) line)) none
-  goes_on_at d h s e = rw (add-one, drop-cons line i 0 h, ne_eqb (get_or line i 0) space s, e)
-
-  -- a space
-  pub ends_at : i < length line → get_or line i 0 ≡ space → goes_on n (drop i line) ≡ joined (some n) (behind (drop i line))
-  ends_at h e = rw (drop-cons line i 0 h, eq-eqb (get_or line i 0) space e)
-
-  -- the line's end
-  pub ends_line : length line ≤ i → goes_on n (drop i line) ≡ joined (some n) (behind (drop i line))
-  ends_line h = rw (drop_of_length-le line h)
-
--- numbers in a row
-
--- numbers, one more, and those after it
-few_more : (t : Option (List ℕ)) (n : ℕ) (r : Option (List ℕ)) → few (followed (few (followed t (some (n ∷ [])))) r) ≡ few (followed t (joined (some n) r))
-few_more none n r = refl
-few_more (some k) n none = go (leb (length (k ++ (n ∷ []))) 3)
+-- fields whose first is no number: a single byte, ..
+pub no_byte : (l : List ℕ) → 0 < length l → length l < 2 → behind l ≡ none
+unfolding number
+no_byte [] h k = absurd (omega arith)
+no_byte (c ∷ []) h k = go (eqb c space)
   where
-    go : (z : Bool) → few (followed (cond z (some (k ++ (n ∷ []))) none) none) ≡ none
+    go : (z : Bool) → cond z (numbers ([] ∷ [])) none ≡ none
     go true = refl
     go false = refl
-few_more (some k) n (some l) = go (leb (length (k ++ (n ∷ []))) 3) refl
-  where
-    go : (z : Bool) → leb (length (k ++ (n ∷ []))) 3 ≡ z → few (followed (cond z (some (k ++ (n ∷ []))) none) (some l)) ≡ few (some (k ++ (n ∷ l)))
-    go true e = rw append_assoc
-    go false e =
-        let long = leb-false (length (k ++ (n ∷ []))) 3 e in
-        rw (lt-leb (length (k ++ (n ∷ l))) 3 (omega (arith, length-append k (n ∷ []), length-append k (n ∷ l))))
+no_byte (c ∷ b ∷ l) h k = absurd (omega arith)
 
--- no number, and those after it
-pub few_first : (r : Option (List ℕ)) → few (followed (some []) r) ≡ few r
-few_first none = refl
-few_first (some l) = refl
+-- .. another byte than a space before it, ..
+pub no_space : (l : List ℕ) → 0 < length l → get_or l 0 0 ≢ space → behind l ≡ none
+no_space [] h d = absurd (omega arith)
+no_space (c ∷ l) h d = rw (ne_eqb c space d)
 
--- a field that is no number
-few_bad : (t : Option (List ℕ)) → few (followed t none) ≡ none
-few_bad none = refl
-few_bad (some k) = refl
+-- .. and a space and a byte that is no digit; a digit begins a number
+module _ (l : List ℕ) (h : 2 ≤ length l) (e : get_or l 0 0 ≡ space) where
+  begins_by : behind l ≡ cond (digit (get_or l 1 0)) (goes_on (figure (get_or l 1 0)) (drop 2 l)) none
+  begins_by = go l h e
+    where
+      go : (l : List ℕ) → 2 ≤ length l → get_or l 0 0 ≡ space → behind l ≡ cond (digit (get_or l 1 0)) (goes_on (figure (get_or l 1 0)) (drop 2 l)) none
+      go [] h e = absurd (omega arith)
+      go (c ∷ []) h e = absurd (omega arith)
+      go (c ∷ b ∷ l) h e = rw e (field_starts b l)
 
-few_last : (ns : Numbers) → few (followed (taken ns) (some [])) ≡ taken ns
-few_last read.None = refl
-few_last (read.One a) = refl
-few_last (read.Two a b) = refl
-few_last (read.Three a b c) = refl
-few_last read.Bad = refl
+  pub no_digit : None ≡ digit_value (get_or l 1 0) → behind l ≡ none
+  no_digit f = begins_by ∙ rw (no_figure (get_or l 1 0) f)
 
--- no number is behind the line's end
-pub few_all : (line : List ℕ) (at : ℕ) (ns : Numbers) → length line ≤ at → taken ns ≡ few (followed (taken ns) (behind (drop at line)))
-few_all line at ns h = rw (drop_of_length-le line h) (sym (few_last ns))
-
--- a field that was read
-module _ {line : List ℕ} {at : ℕ} {r : Field} (f : ReadField line at r) where
-  pub further : {n next : ℕ} → r ≡ field.Number n next → at < next
-  further e = subst (Further at) e f.further
-
-  -- its number and those behind it
-  pub few_next : {n next : ℕ} (t : Option (List ℕ)) → r ≡ field.Number n next → few (followed (few (followed t (some (n ∷ [])))) (behind (drop next line))) ≡ few (followed t (behind (drop at line)))
-  few_next {n} {next} t e = few_more t n (behind (drop next line)) ∙ ap (λ (o : Option (List ℕ)). few (followed t o)) (sym (f.numbers ∙ ap (onwards line) e))
-
-  -- it is no number
-  pub few_wrong : (t : Option (List ℕ)) → r ≡ field.Bad → none ≡ few (followed t (behind (drop at line)))
-  few_wrong t e = sym (few_bad t) ∙ ap (λ (o : Option (List ℕ)). few (followed t o)) (sym (f.numbers ∙ ap (onwards line) e))
+  pub begins : (d : ℕ) → Some d ≡ digit_value (get_or l 1 0) → (d ≤ 65535) × (behind l ≡ goes_on d (take (length l - 2) (drop 2 l)))
+  begins d f =
+      let g = is_figure (get_or l 1 0) d f in
+      let rest : take (length l - 2) (drop 2 l) ≡ drop 2 l = take_all (length l - 2) (drop 2 l) (omega (arith, length-drop 2 l)) in
+      (omega (arith, g.1, figure_small (get_or l 1 0) g.0), rw (rest, g.1) (begins_by ∙ rw g.0))
 
 -- commands
 
@@ -266,18 +212,46 @@ no_command letter ns b a d s h =
       mismatch letter (code "H") ns 0 h,
     )
 
--- letters that take no such number of numbers
-pub no_none : (letter : ℕ) → letter ≢ code "H" → none ≡ command_for letter []
-no_none letter h = sym (no_command letter [] (λ p q. omega arith) (λ p q. omega arith) (λ p q. omega arith) (λ p q. omega arith) (λ p q. h p))
+-- letters with other numbers than they take ..
+pub no_B : (n : Numbers) → ((x y : ℕ) → n ≢ read.Two x y) → none ≡ given (code "B") (taken (Some n))
+unfolding command_for
+no_B read.None h = refl
+no_B (read.One x) h = refl
+no_B (read.Two x y) h = absurd (h x y refl)
+no_B (read.Three x y z) h = refl
 
-pub no_one : (letter a : ℕ) → letter ≢ code "D" → letter ≢ code "S" → none ≡ command_for letter (a ∷ [])
-no_one letter a d s = sym (no_command letter (a ∷ []) (λ p q. omega arith) (λ p q. omega arith) (λ p q. d p) (λ p q. s p) (λ p q. omega arith))
+pub no_A : (n : Numbers) → ((x y z : ℕ) → n ≢ read.Three x y z) → none ≡ given (code "A") (taken (Some n))
+unfolding command_for
+no_A read.None h = refl
+no_A (read.One x) h = refl
+no_A (read.Two x y) h = refl
+no_A (read.Three x y z) h = absurd (h x y z refl)
 
-pub no_two : (letter a b : ℕ) → letter ≢ code "B" → none ≡ command_for letter (a ∷ b ∷ [])
-no_two letter a b h = sym (no_command letter (a ∷ b ∷ []) (λ p q. h p) (λ p q. omega arith) (λ p q. omega arith) (λ p q. omega arith) (λ p q. omega arith))
+pub no_D : (n : Numbers) → ((x : ℕ) → n ≢ read.One x) → none ≡ given (code "D") (taken (Some n))
+unfolding command_for
+no_D read.None h = refl
+no_D (read.One x) h = absurd (h x refl)
+no_D (read.Two x y) h = refl
+no_D (read.Three x y z) h = refl
 
-pub no_three : (letter a b c : ℕ) → letter ≢ code "A" → none ≡ command_for letter (a ∷ b ∷ c ∷ [])
-no_three letter a b c h = sym (no_command letter (a ∷ b ∷ c ∷ []) (λ p q. omega arith) (λ p q. h p) (λ p q. omega arith) (λ p q. omega arith) (λ p q. omega arith))
+pub no_S : (n : Numbers) → ((x : ℕ) → n ≢ read.One x) → none ≡ given (code "S") (taken (Some n))
+unfolding command_for
+no_S read.None h = refl
+no_S (read.One x) h = absurd (h x refl)
+no_S (read.Two x y) h = refl
+no_S (read.Three x y z) h = refl
+
+pub no_H : (n : Numbers) → n ≢ read.None → none ≡ given (code "H") (taken (Some n))
+unfolding command_for
+no_H read.None h = absurd (h refl)
+no_H (read.One x) h = refl
+no_H (read.Two x y) h = refl
+no_H (read.Three x y z) h = refl
+
+-- .. and another letter
+pub no_letter : (letter : ℕ) (r : Option (List ℕ)) → letter ≢ code "B" → letter ≢ code "A" → letter ≢ code "D" → letter ≢ code "S" → letter ≢ code "H" → none ≡ given letter r
+no_letter letter none b a d s h = refl
+no_letter letter (some ns) b a d s h = sym (no_command letter ns (λ p q. b p) (λ p q. a p) (λ p q. d p) (λ p q. s p) (λ p q. h p))
 
 -- no command takes more than three numbers
 given_few : (letter : ℕ) (r : Option (List ℕ)) → given letter (few r) ≡ given letter r
@@ -319,10 +293,9 @@ line_fields letter l = go (compared letter space)
     go (other d) = rest l
 
 -- a line of at most 40 bytes by its first byte and the fields behind it
-pub line_command : (line : List ℕ) → 0 < length line → length line ≤ 40 → given (get_or line 0 0) (few (behind (drop 1 line))) ≡ command line
+pub line_command : (line : List ℕ) (letter : ℕ) (l : List ℕ) → line ≡ letter ∷ l → length line ≤ 40 → given letter (few (behind l)) ≡ command line
 unfolding command
-line_command [] h k = absurd (omega arith)
-line_command (letter ∷ l) h k = rw (le-leb (length (letter ∷ l)) 40 k) (given_few letter (behind l) ∙ sym (line_fields letter l))
+line_command line letter l e k = rw (le-leb (length line) 40 k, e) (given_few letter (behind l) ∙ sym (line_fields letter l))
 
 -- a line without a byte has no letter
 pub empty_line : (line : List ℕ) → length line ≡ 0 → command line ≡ none
@@ -331,9 +304,9 @@ empty_line [] e = refl
 empty_line (c ∷ l) e = absurd (omega arith)
 
 -- a line's command is in document 01's numbers those that are due
-pub reading_of_lem : {line : List ℕ} {r : Reading} → reading_of r ≡ command line → ReadingOf line r
+pub reading_of_lem : {line : List ℕ} {r : std.Option Command} → reading_of r ≡ command line → ReadingOf line r
 reading_of_lem {line} {r} e = record { command = e; numbers = go r ∙ ap numbers_due e }
   where
-    go : (r : Reading) → reading_numbers r ≡ numbers_due (reading_of r)
-    go (Readable c) = refl
-    go Unreadable = refl
+    go : (r : std.Option Command) → reading_numbers r ≡ numbers_due (reading_of r)
+    go (Some c) = refl
+    go None = refl

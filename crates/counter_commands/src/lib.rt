@@ -1,10 +1,17 @@
 // A line of the counter program as a command.
 #![tactic(auto)]
 
-ghost use Rattle.std.specs.Prelude.{◌≡◌, [], ◌∷◌, ◌<◌, length, drop};
-ghost use Rattle.std.proofs.Math.Option.{some};
-ghost use Rattle.counter_commands.specs.Read.{reading_of, ReadingOf, digit_value, behind, ReadField};
+ghost use Rattle.std.specs.Prelude.{◌≡◌, ◌∷◌, [], ◌<◌, length, MatchOption, Some};
+ghost use Rattle.std.proofs.Math.Option.{none, some};
+ghost use Rattle.spec_counter.specs.Counter.{joined};
+ghost use Rattle.counter_commands.specs.Read.{reading_of, ReadingOf, digit_value, behind};
 ghost use Rattle.counter_commands.specs.Read.{few, followed, taken, given};
+
+// "At most 40 bytes before the line feed".
+const LONGEST_LINE: usize = 40;
+
+// "Numbers of 0 to 65,535".
+const LARGEST_NUMBER: usize = 65535;
 
 // A line's command, with its numbers.
 #[derive(Clone, Copy)]
@@ -19,20 +26,6 @@ pub enum Command {
     AskHeaviest,
 }
 
-// What a line reads as.
-#[derive(Clone, Copy)]
-pub enum Reading {
-    Readable(Command),
-    Unreadable,
-}
-
-// A field: a number and the index behind it.
-#[derive(Clone, Copy)]
-enum Field {
-    Number(usize, usize),
-    Bad,
-}
-
 // A line's numbers. No command takes more than three.
 #[derive(Clone, Copy)]
 enum Numbers {
@@ -40,133 +33,95 @@ enum Numbers {
     One(usize),
     Two(usize, usize),
     Three(usize, usize, usize),
-    // A field is no number, or there are more than three.
-    Bad,
-}
-
-// Gives a digit's value, 10 for another byte.
-fn digit_value(byte: u8) -> usize
-    ensures { result ≡ digit_value byte }
-{
-    if byte < b'0' {
-        return 10;
-    }
-    if b'9' < byte {
-        return 10;
-    }
-    (byte - b'0') as usize
-}
-
-// Reads the space at an index and the number after it.
-fn read_field(line: &[u8], at: usize) -> Field
-    requires { at < length line.now }
-    ensures { ReadField line.now at result }
-{
-    if line[at] != b' ' {
-        return Field::Bad;
-    }
-    let mut i = at + 1;
-    if i == line.len() {
-        return Field::Bad;
-    }
-    let mut n = digit_value(line[i]);
-    if 9 < n {
-        return Field::Bad;
-    }
-    i += 1;
-    while i < line.len() {
-        if line[i] == b' ' {
-            return Field::Number(n, i);
-        }
-        let digit = digit_value(line[i]);
-        if 9 < digit {
-            return Field::Bad;
-        }
-        if n == 0 {
-            return Field::Bad;
-        }
-        n = 10 * n + digit;
-        if 65535 < n {
-            return Field::Bad;
-        }
-        i += 1;
-    }
-    Field::Number(n, i)
 }
 
 impl Numbers {
-    // Adds one more number.
-    fn and(self, n: usize) -> Numbers
-        ensures { taken result ≡ few (followed (taken self) (some (n ∷ []))) }
+    // Adds one more number, unless there are three already.
+    fn and(self, n: usize) -> Option<Numbers>
+        ensures { taken result ≡ few (followed (taken (Some self)) (some (n ∷ []))) }
     {
         match self {
-            Numbers::None => Numbers::One(n),
-            Numbers::One(a) => Numbers::Two(a, n),
-            Numbers::Two(a, b) => Numbers::Three(a, b, n),
-            Numbers::Three(_, _, _) => Numbers::Bad,
-            Numbers::Bad => Numbers::Bad,
+            Numbers::None => Some(Numbers::One(n)),
+            Numbers::One(a) => Some(Numbers::Two(a, n)),
+            Numbers::Two(a, b) => Some(Numbers::Three(a, b, n)),
+            Numbers::Three(..) => None,
         }
     }
+}
+
+// Gives a digit's value.
+fn digit_value(byte: u8) -> Option<usize>
+    ensures { result ≡ digit_value byte }
+{
+    match byte {
+        b'0'..=b'9' => Some(usize::from(byte - b'0')),
+        _ => None,
+    }
+}
+
+// Reads a space and the number after it, and gives what is behind them too.
+fn read_field(fields: &[u8]) -> Option<(usize, &[u8])>
+    requires { 0 < length fields.now }
+    ensures { MatchOption result (behind fields.now ≡ none)
+        (λ field. (behind fields.now ≡ joined (some field.0) (behind field.1.now)) × (length field.1.now < length fields.now)) }
+{
+    let [before, first, rest @ ..] = fields else {
+        return None;
+    };
+    if *before != b' ' {
+        return None;
+    }
+    let mut n = digit_value(*first)?;
+    for (i, &byte) in rest.iter().enumerate() {
+        if byte == b' ' {
+            return Some((n, &rest[i..]));
+        }
+        let digit = digit_value(byte)?;
+        if n == 0 {
+            return None;
+        }
+        n = 10 * n + digit;
+        if LARGEST_NUMBER < n {
+            return None;
+        }
+    }
+    Some((n, &[]))
 }
 
 // Reads the fields behind the first byte.
-fn read_numbers(line: &[u8]) -> Numbers
-    ensures { taken result ≡ few (behind (drop 1 line.now)) }
+fn read_numbers(mut fields: &[u8]) -> Option<Numbers>
+    ensures { taken result ≡ few (behind fields.entry.now) }
 {
     let mut numbers = Numbers::None;
-    let mut at = 1;
-    while at < line.len() {
-        let Field::Number(n, next) = read_field(line, at) else {
-            return Numbers::Bad;
-        };
-        numbers = numbers.and(n);
-        at = next;
+    while !fields.is_empty() {
+        let (n, rest) = read_field(fields)?;
+        numbers = numbers.and(n)?;
+        fields = rest;
     }
-    numbers
+    Some(numbers)
 }
 
 // Finds the command of a letter and its numbers.
-fn command_for(letter: u8, numbers: Numbers) -> Reading
-    ensures { reading_of result ≡ given letter (taken numbers) }
+fn command_for(letter: u8, numbers: Numbers) -> Option<Command>
+    ensures { reading_of result ≡ given letter (taken (Some numbers)) }
 {
-    match numbers {
-        Numbers::None => {
-            if letter == b'H' {
-                return Reading::Readable(Command::AskHeaviest);
-            }
-        }
-        Numbers::One(n) => {
-            if letter == b'D' {
-                return Reading::Readable(Command::CloseJob(n));
-            }
-            if letter == b'S' {
-                return Reading::Readable(Command::AskTightSet(n));
-            }
-        }
-        Numbers::Two(benches, jobs) => {
-            if letter == b'B' {
-                return Reading::Readable(Command::SetTable(benches, jobs));
-            }
-        }
-        Numbers::Three(j, x, y) => {
-            if letter == b'A' {
-                return Reading::Readable(Command::TakeIn(j, x, y));
-            }
-        }
-        Numbers::Bad => {}
+    match (letter, numbers) {
+        (b'B', Numbers::Two(benches, jobs)) => Some(Command::SetTable(benches, jobs)),
+        (b'A', Numbers::Three(job, first, second)) => Some(Command::TakeIn(job, first, second)),
+        (b'D', Numbers::One(job)) => Some(Command::CloseJob(job)),
+        (b'S', Numbers::One(height)) => Some(Command::AskTightSet(height)),
+        (b'H', Numbers::None) => Some(Command::AskHeaviest),
+        _ => None,
     }
-    Reading::Unreadable
 }
 
 // Reads a line, without its line feed.
-pub fn read(line: &[u8]) -> Reading
+pub fn read(line: &[u8]) -> Option<Command>
     ensures { ReadingOf line.now result }
 {
-    if 40 < line.len() {
-        return Reading::Unreadable;
+    if LONGEST_LINE < line.len() {
+        return None;
     }
-    if line.len() == 0 {
-        return Reading::Unreadable;
-    }
-    command_for(line[0], read_numbers(line))
+    let (&letter, fields) = line.split_first()?;
+    command_for(letter, read_numbers(fields)?)
 }

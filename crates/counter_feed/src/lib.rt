@@ -1,131 +1,75 @@
 // The counter program on slices: its input comes in pieces of any size, and each complete line is replied to.
 #![tactic(auto)]
 
-ghost use Rattle.std.specs.Prelude.{◌≡◌, [], ◌∷◌, ◌+◌, ◌≤◌, length};
+ghost use Rattle.std.specs.Prelude.{[], ◌∷◌};
+ghost use Rattle.counter_printing.specs.Wrote.{HasRoom};
 ghost use Rattle.counter_answer_lines.specs.AnswerLines.{line_most};
-ghost use Rattle.counter_feed.specs.Feeding.{kept_most, place_of, Stands, TakesByte, Feeds, Finishes, Begins, Appended};
+ghost use Rattle.counter_feed.specs.Feeding.{place_of, Stands, TakesByte, Feeds, Finishes, Begins};
 
-use counter_state::Counter;
+use counter_answer_lines::LINE_MOST;
+use counter_printing::Output;
+use counter_state::{Counter, TableBytes};
+use kept_line::Line;
 use table_refusals::Refusal;
 
-// Where the program is in its input: its state, and how many bytes of the present line it keeps.
+mod kept_line;
+
+// Where the program is in its input: its state, and what it keeps of the present line.
 #[derive(Clone, Copy)]
 pub struct Reader {
     counter: Counter,
-    held: usize,
-}
-
-// The reader behind a byte, and how many bytes of the output are written.
-#[derive(Clone, Copy)]
-pub struct Consumed {
-    pub reader: Reader,
-    pub at: usize,
-}
-
-// The reader behind a part of a chunk, how many of the chunk's bytes it took, and how many of the output's are
-// written.
-#[derive(Clone, Copy)]
-pub struct Fed {
-    pub reader: Reader,
-    pub used: usize,
-    pub written: usize,
+    line: Line,
 }
 
 impl Reader {
-    // The bytes kept of a line: one more than a readable line may have.
-    pub const KEPT_MOST: usize = 41;
-
     // Begins before the first byte.
     pub fn new() -> Reader
         ensures { Begins result }
     {
         Reader {
             counter: Counter::new(),
-            held: 0,
+            line: Line::new(),
         }
     }
 }
 
-// Appends a byte to the line; of a line too long to be readable no more is kept.
-fn append(line: &mut [u8], held: usize, byte: u8) -> usize
-    requires { length line.old ≡ kept_most }
-    ensures { Appended line.old line.new held byte result }
-{
-    if held < line.len() {
-        line[held] = byte;
-        return held + 1;
-    }
-    held
-}
-
 // Takes one byte of the input: a line feed ends the line, which is replied to; any other byte belongs to it.
-fn take_byte(
-    r: Reader,
-    byte: u8,
-    bytes: &mut [u8],
-    line: &mut [u8],
-    out: &mut [u8],
-    at: usize,
-) -> Consumed
-    requires stands { Stands r bytes.old line.old }
-    requires line_most_in_bounds { at + line_most ≤ length out.old }
-    ensures { TakesByte (place_of r bytes.old line.old) (byte ∷ []) bytes.new
-        line.new out.old out.new at result }
+fn take_byte(reader: &mut Reader, byte: u8, bytes: &mut TableBytes, out: &mut Output<'_>)
+    requires stands { Stands reader.old bytes.old }
+    requires room { HasRoom out.old line_most }
+    ensures { TakesByte (place_of reader.old bytes.old) (byte ∷ []) reader.new bytes.new
+        out.old out.new }
 {
-    let counter = r.counter;
-    let held = r.held;
     if byte == b'\n' {
-        let reply = counter_reply::to_line(counter, &line[..held], bytes, out, at);
-        let next = reply.counter;
-        return Consumed {
-            reader: Reader {
-                counter: next,
-                held: 0,
-            },
-            at: reply.at,
-        };
-    }
-    let kept = append(line, held, byte);
-    Consumed {
-        reader: Reader {
-            counter,
-            held: kept,
-        },
-        at,
+        counter_reply::to_line(&mut reader.counter, reader.line.as_slice(), bytes, out);
+        reader.line.clear();
+    } else {
+        reader.line.append(byte);
     }
 }
 
-// Takes a chunk of the input, as far as the output has room for another reply.
-pub fn feed(r: Reader, chunk: &[u8], bytes: &mut [u8], line: &mut [u8], out: &mut [u8]) -> Fed
-    requires stands { Stands r bytes.old line.old }
-    requires line_most_in_bounds { line_most ≤ length out.old }
-    ensures { Feeds (place_of r bytes.old line.old) chunk.now
-        bytes.new line.new out.new result }
+// Takes a chunk of the input, as far as the output has room for another reply, and tells how many bytes that are.
+pub fn feed(reader: &mut Reader, chunk: &[u8], bytes: &mut TableBytes, out: &mut Output<'_>) -> usize
+    requires stands { Stands reader.old bytes.old }
+    requires room { HasRoom out.old line_most }
+    ensures { Feeds (place_of reader.old bytes.old) chunk.now reader.new bytes.new result
+        out.old out.new }
 {
-    let mut reader = r;
-    let mut used = 0;
-    let mut at = 0;
-    while used < chunk.len() && counter_answer_lines::LINE_MOST <= out.len() - at {
-        let h = take_byte(reader, chunk[used], bytes, line, out, at);
-        let next = h.reader;
-        reader = next;
-        at = h.at;
-        used += 1;
+    for (used, &byte) in chunk.iter().enumerate() {
+        if out.room() < LINE_MOST {
+            return used;
+        }
+        take_byte(reader, byte, bytes, out);
     }
-    Fed {
-        reader,
-        used,
-        written: at,
-    }
+    chunk.len()
 }
 
 // Ends the input: "a last line without a line feed, gives 10".
-pub fn finish(r: Reader, out: &mut [u8]) -> usize
-    requires { line_most ≤ length out.old }
-    ensures { Finishes r out.new result }
+pub fn finish(reader: &Reader, out: &mut Output<'_>)
+    requires { HasRoom out.old line_most }
+    ensures { Finishes reader.now out.old out.new }
 {
-    if r.held == 0 {
-        return 0;
+    if !reader.line.is_empty() {
+        counter_answer_lines::refusal(out, Refusal::Unreadable);
     }
-    counter_answer_lines::refusal(out, 0, Refusal::Unreadable.number() as usize)
 }

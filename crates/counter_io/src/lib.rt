@@ -1,194 +1,69 @@
 // The counter program between a reader and a writer: it reads and writes, and `counter_feed` does the rest.
 #![tactic(auto)]
 
-ghost use Rattle.std.specs.Prelude.{◌≡◌, ◌≤◌, length};
+ghost use Rattle.std.specs.Prelude.{◌≤◌, length};
 ghost use Rattle.counter_answer_lines.specs.AnswerLines.{line_most};
-ghost use Rattle.counter_state.specs.State.{table_most};
-ghost use Rattle.counter_feed.specs.Feeding.{kept_most, Stands};
-ghost use Rattle.counter_io.specs.Serving.{Serves};
+ghost use Rattle.counter_feed.specs.Feeding.{Stands};
 
 use counter_feed::Reader;
-use std::io::{Read, Write};
+use counter_printing::Output;
+use counter_state::TableBytes;
+use std::io::{self, Read, Write};
+use table_size::Size;
 
-// The reader behind what was answered of a chunk, how many bytes that are, and whether the answers could be written.
-#[derive(Drop)]
-struct Served {
-    reader: Reader,
-    used: usize,
-    open: bool,
+// The most bytes of a chunk of the input, and of what is written at once.
+const BUFFER_BYTES: usize = 65536;
+
+// Reads once, so many bytes at the most; gives none where the input ends or can't be read.
+fn read_some<'a, R: Read>(input: &mut R, chunk: &'a mut [u8], most: usize) -> &'a [u8] {
+    let most = most.min(chunk.len());
+    let count = input.read(&mut chunk[..most]).unwrap_or(0);
+    &chunk[..count]
 }
 
-// Makes the program's own bytes: room for every table.
-fn own_bytes() -> [u8; 33008]
-    ensures { length result ≡ table_most }
-{
-    [0; 33008]
-}
-
-// Makes room for the bytes kept of a line.
-fn line_bytes() -> [u8; Reader::KEPT_MOST]
-    ensures { length result ≡ kept_most }
-{
-    [0; Reader::KEPT_MOST]
-}
-
-// Makes room for a chunk of the input, and as much for the output.
-fn large_buffer() -> [u8; 65536]
-    ensures { length result ≡ 65536 }
-{
-    [0; 65536]
-}
-
-// Reads once, so many bytes at the most; 0 where the input ends or can't be read.
-fn read_some<R: Read>(input: &mut R, chunk: &mut [u8], most: usize) -> usize
-    ensures { result ≤ length chunk.new }
-{
-    if most < chunk.len() {
-        let part = &mut chunk[..most];
-        return input.read(part).unwrap_or(0);
-    }
-    input.read(chunk).unwrap_or(0)
-}
-
-// Answers the beginning of a chunk. What is answered is written before more is taken, so that each answer appears
-// as soon as its line is complete.
-fn answer_some<W: Write>(
-    r: Reader,
-    output: &mut W,
-    chunk: &[u8],
-    bytes: &mut [u8],
-    line: &mut [u8],
-    out: &mut [u8],
-) -> Served
-    requires stands { Stands r bytes.old line.old }
-    requires line_most_in_bounds { line_most ≤ length out.old }
-    ensures { Serves chunk.now bytes.new line.new result }
-{
-    let fed = counter_feed::feed(r, chunk, bytes, line, out);
-    let written = fed.written;
-    let open = output.write_all(&out[..written]).is_ok();
-    let reader = fed.reader;
-    Served {
-        reader,
-        used: fed.used,
-        open,
-    }
-}
-
-// Answers all of a chunk.
+// Answers all of a chunk. What is answered is written before more is taken, so that each answer appears as soon as
+// its line is complete.
 fn answer<W: Write>(
-    r: Reader,
+    reader: &mut Reader,
     output: &mut W,
-    chunk: &[u8],
-    bytes: &mut [u8],
-    line: &mut [u8],
+    mut chunk: &[u8],
+    bytes: &mut TableBytes,
     out: &mut [u8],
-) -> Served
-    requires stands { Stands r bytes.old line.old }
+) -> io::Result<()>
+    requires stands { Stands reader.old bytes.old }
     requires line_most_in_bounds { line_most ≤ length out.old }
-    ensures { Stands result.reader bytes.new line.new }
+    ensures { Stands reader.new bytes.new }
 {
-    let mut reader = r;
-    let mut from = 0;
-    let mut open = true;
-    while open && from < chunk.len() {
-        let s = answer_some(reader, output, &chunk[from..], bytes, line, out);
-        let next = s.reader;
-        reader = next;
-        from += s.used;
-        open = s.open;
+    while !chunk.is_empty() {
+        let mut text = Output::new(out);
+        let used = counter_feed::feed(reader, chunk, bytes, &mut text);
+        output.write_all(text.as_slice())?;
+        chunk = &chunk[used..];
     }
-    Served {
-        reader,
-        used: from,
-        open,
-    }
+    Ok(())
 }
 
-// Reads once and answers; used is 0 where nothing more can be read or written.
-fn read_and_answer<R: Read, W: Write>(
-    r: Reader,
-    input: &mut R,
-    output: &mut W,
-    most: usize,
-    bytes: &mut [u8],
-    line: &mut [u8],
-    chunk: &mut [u8],
-    out: &mut [u8],
-) -> Served
-    requires stands { Stands r bytes.old line.old }
-    requires line_most_in_bounds { line_most ≤ length out.old }
-    ensures { Stands result.reader bytes.new line.new }
-{
-    let n = read_some(input, chunk, most);
-    if n == 0 {
-        return Served {
-            reader: r,
-            used: 0,
-            open: true,
-        };
-    }
-    let s = answer(r, output, &chunk[..n], bytes, line, out);
-    if s.open {
-        return s;
-    }
-    let reader = s.reader;
-    Served {
-        reader,
-        used: 0,
-        open: false,
-    }
-}
-
-// Reads to the end of the input, at most so many bytes at a time, and answers. The loop counts down from a number
-// that no run uses up.
-fn converse<R: Read, W: Write>(
-    input: &mut R,
-    output: &mut W,
-    most: usize,
-    bytes: &mut [u8],
-    line: &mut [u8],
-    chunk: &mut [u8],
-    out: &mut [u8],
-) -> Served
-    requires bytes_len { length bytes.old ≡ table_most }
-    requires line_len { length line.old ≡ kept_most }
-    requires line_most_in_bounds { line_most ≤ length out.old }
-{
+// Answers the input, read at most so many bytes at a time, until it ends or an answer can't be written.
+fn converse<R: Read, W: Write>(input: &mut R, output: &mut W, most: usize) -> io::Result<()> {
     let mut reader = Reader::new();
-    let mut used = 1;
-    let mut open = true;
-    let mut rounds = u64::MAX;
-    while 0 < used && 0 < rounds {
-        let s = read_and_answer(reader, input, output, most, bytes, line, chunk, out);
-        let next = s.reader;
-        reader = next;
-        used = s.used;
-        open = s.open;
-        rounds -= 1;
+    let mut bytes = [0; Size::MOST_BYTES];
+    let mut chunk = [0; BUFFER_BYTES];
+    let mut out = [0; BUFFER_BYTES];
+    // Counts to a number that no run reaches, since every loop has to end.
+    for _ in 0..u64::MAX {
+        let part = read_some(input, &mut chunk, most);
+        if part.is_empty() {
+            break;
+        }
+        answer(&mut reader, output, part, &mut bytes, &mut out)?;
     }
-    Served { reader, used, open }
+    let mut text = Output::new(&mut out);
+    counter_feed::finish(&reader, &mut text);
+    output.write_all(text.as_slice())
 }
 
-// Answers a last line without a line feed.
-fn end<W: Write>(r: Reader, output: &mut W, out: &mut [u8])
-    requires { line_most ≤ length out.old }
-{
-    let n = counter_feed::finish(r, out);
-    let _ = output.write_all(&out[..n]);
-}
-
-// Runs the counter program, which reads at most so many bytes at a time. An answer that can't be written ends it.
+// Runs the counter program, which reads at most so many bytes at a time. An answer that can't be written ends it:
+// nobody is left to answer.
 pub fn serve<R: Read, W: Write>(input: &mut R, output: &mut W, most: usize) {
-    let mut bytes = own_bytes();
-    let mut line = line_bytes();
-    let mut chunk = large_buffer();
-    let mut out = large_buffer();
-    let s = converse(
-        input, output, most, &mut bytes, &mut line, &mut chunk, &mut out,
-    );
-    if s.open {
-        let reader = s.reader;
-        end(reader, output, &mut out);
-    }
+    let _ = converse(input, output, most);
 }

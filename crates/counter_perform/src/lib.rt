@@ -1,105 +1,124 @@
 // How the counter program performs each command: the call, and its line.
 #![tactic(auto)]
 
-ghost use Rattle.std.specs.Prelude.{◌+◌, ◌≤◌, length};
 ghost use Rattle.spec_counter.specs.Counter.{take_in, close_job, set_table, ask_tight_set, ask_heaviest};
+ghost use Rattle.counter_printing.specs.Wrote.{HasRoom};
 ghost use Rattle.counter_answer_lines.specs.AnswerLines.{line_most};
-ghost use Rattle.counter_state.specs.State.{Room, counter_of};
+ghost use Rattle.counter_state.specs.State.{counter_of};
 ghost use Rattle.counter_perform.specs.Performed.{Performs};
 
 use board_answers::Values;
 use board_tally::Tally;
-use counter_state::{Counter, Reply};
-use table_refusals::Refusal;
-use table_size::{Size, Sizing};
+use counter_answer_lines::Told;
+use counter_printing::Output;
+use counter_state::{Counter, TableBytes};
+use table_size::Size;
 
 // Performs "B benches jobs"; "a refused B keeps the old table".
 pub fn set_table(
-    c: Counter,
+    counter: &mut Counter,
     benches: usize,
     jobs: usize,
-    bytes: &mut [u8],
-    out: &mut [u8],
-    at: usize,
-) -> Reply
-    requires room { Room c bytes.old }
-    requires line_most_in_bounds { at + line_most ≤ length out.old }
-    ensures { Performs (set_table benches jobs) (counter_of c bytes.old) bytes.new
-        out.old out.new at result }
+    bytes: &mut TableBytes,
+    out: &mut Output<'_>,
+)
+    requires { HasRoom out.old line_most }
+    ensures { Performs (set_table benches jobs) (counter_of counter.old bytes.old) bytes.new
+        out.old out.new counter.new }
 {
     match Size::new(benches, jobs) {
-        Sizing::Misfit => counter_state::refuse(c, Refusal::Sizes, out, at),
-        Sizing::Fit(s) => {
-            let length = s.bytes();
-            let a = board_changes::blank(&mut bytes[..length], benches, jobs);
-            let tally = Tally::new();
-            counter_state::write_answer(
-                Counter { length, tally },
-                b'B',
-                Values::two(benches, jobs),
-                a,
-                out,
-                at,
-            )
+        Err(why) => counter_answer_lines::refusal(out, why),
+        Ok(size) => {
+            let length = size.bytes();
+            let answer = board_changes::blank(&mut bytes[..length], benches, jobs);
+            *counter = Counter {
+                length,
+                tally: Tally::new(),
+            };
+            let told = Told {
+                letter: b'B',
+                repeated: Values::of(&[benches, jobs]),
+                answer,
+            };
+            counter_answer_lines::answer(out, told);
         }
     }
 }
 
 // Performs "A job and two benches", and prints "A job, holder, bench that rose, moved", then the moved jobs.
 pub fn take_in(
-    c: Counter,
+    counter: &mut Counter,
     job: usize,
     first: usize,
     second: usize,
-    bytes: &mut [u8],
-    out: &mut [u8],
-    at: usize,
-) -> Reply
-    requires room { Room c bytes.old }
-    requires line_most_in_bounds { at + line_most ≤ length out.old }
-    ensures { Performs (take_in job first second) (counter_of c bytes.old) bytes.new
-        out.old out.new at result }
+    bytes: &mut TableBytes,
+    out: &mut Output<'_>,
+)
+    requires { HasRoom out.old line_most }
+    ensures { Performs (take_in job first second) (counter_of counter.old bytes.old) bytes.new
+        out.old out.new counter.new }
 {
-    let length = c.length;
     let mut list = counter_state::zero_list();
-    let a = board_changes::arrival(&mut bytes[..length], job, first, second, &mut list);
-    counter_state::write_listing(c.noted(a), b'A', Values::one(job), a, 3, &list, out, at)
+    let answer = board_changes::arrival(
+        &mut bytes[..counter.length],
+        job,
+        first,
+        second,
+        &mut list,
+    );
+    *counter = counter.noted(answer);
+    let told = Told {
+        letter: b'A',
+        repeated: Values::of(&[job]),
+        answer,
+    };
+    counter_answer_lines::listing(out, told, 3, &list);
 }
 
 // Performs "D job", and prints "D job, bench that fell, moved", then the moved jobs.
-pub fn close_job(c: Counter, job: usize, bytes: &mut [u8], out: &mut [u8], at: usize) -> Reply
-    requires room { Room c bytes.old }
-    requires line_most_in_bounds { at + line_most ≤ length out.old }
-    ensures { Performs (close_job job) (counter_of c bytes.old) bytes.new out.old
-        out.new at result }
+pub fn close_job(counter: &mut Counter, job: usize, bytes: &mut TableBytes, out: &mut Output<'_>)
+    requires { HasRoom out.old line_most }
+    ensures { Performs (close_job job) (counter_of counter.old bytes.old) bytes.new out.old
+        out.new counter.new }
 {
-    let length = c.length;
     let mut list = counter_state::zero_list();
-    let a = board_changes::closing(&mut bytes[..length], job, &mut list);
-    counter_state::write_listing(c.noted(a), b'D', Values::one(job), a, 2, &list, out, at)
+    let answer = board_changes::closing(&mut bytes[..counter.length], job, &mut list);
+    *counter = counter.noted(answer);
+    let told = Told {
+        letter: b'D',
+        repeated: Values::of(&[job]),
+        answer,
+    };
+    counter_answer_lines::listing(out, told, 2, &list);
 }
 
 // Performs "S height", and prints "S height, benches, inside jobs, then the benches".
-pub fn ask_tight_set(c: Counter, height: usize, bytes: &[u8], out: &mut [u8], at: usize) -> Reply
-    requires room { Room c bytes.now }
-    requires line_most_in_bounds { at + line_most ≤ length out.old }
-    ensures { Performs (ask_tight_set height) (counter_of c bytes.now) bytes.now
-        out.old out.new at result }
+pub fn ask_tight_set(counter: &Counter, height: usize, bytes: &TableBytes, out: &mut Output<'_>)
+    requires { HasRoom out.old line_most }
+    ensures { Performs (ask_tight_set height) (counter_of counter.now bytes.now) bytes.now
+        out.old out.new counter.now }
 {
-    let length = c.length;
     let mut list = counter_state::zero_list();
-    let a = board_questions::tight_set(&bytes[..length], height, &mut list);
-    counter_state::write_listing(c, b'S', Values::one(height), a, 1, &list, out, at)
+    let answer = board_questions::tight_set(&bytes[..counter.length], height, &mut list);
+    let told = Told {
+        letter: b'S',
+        repeated: Values::of(&[height]),
+        answer,
+    };
+    counter_answer_lines::listing(out, told, 1, &list);
 }
 
 // Performs "H", and prints "H heaviest".
-pub fn ask_heaviest(c: Counter, bytes: &[u8], out: &mut [u8], at: usize) -> Reply
-    requires room { Room c bytes.now }
-    requires line_most_in_bounds { at + line_most ≤ length out.old }
-    ensures { Performs ask_heaviest (counter_of c bytes.now) bytes.now out.old
-        out.new at result }
+pub fn ask_heaviest(counter: &Counter, bytes: &TableBytes, out: &mut Output<'_>)
+    requires { HasRoom out.old line_most }
+    ensures { Performs ask_heaviest (counter_of counter.now bytes.now) bytes.now out.old
+        out.new counter.now }
 {
-    let length = c.length;
-    let a = board_questions::heaviest(&bytes[..length]);
-    counter_state::write_answer(c, b'H', Values::none(), a, out, at)
+    let answer = board_questions::heaviest(&bytes[..counter.length]);
+    let told = Told {
+        letter: b'H',
+        repeated: Values::of(&[]),
+        answer,
+    };
+    counter_answer_lines::answer(out, told);
 }

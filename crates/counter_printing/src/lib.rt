@@ -1,79 +1,99 @@
-// The counter program's lines, written into a lent buffer. The first `at` bytes are written already; a function
-// returns how many are after it.
+// The counter program's lines, written into a lent buffer.
 #![tactic(auto)]
 
-ghost use Rattle.std.specs.Prelude.{[], ◌∷◌, ◌+◌, ◌*◌, ◌<◌, ◌≤◌, length, take};
-ghost use Rattle.spec_table.specs.Table.{words};
-ghost use Rattle.board_answers.specs.Answered.{values_of};
-ghost use Rattle.spec_text.specs.Numbers.{space, digits};
-ghost use Rattle.counter_printing.specs.Wrote.{Wrote, field_most, spaced};
+ghost use Rattle.std.specs.Prelude.{◌≤◌, length};
 
 use board_answers::Values;
 
-// Writes one byte.
-pub fn byte(out: &mut [u8], at: usize, b: u8) -> usize
-    requires { at < length out.old }
-    ensures { Wrote out.old out.new at result (b ∷ []) }
-{
-    out[at] = b;
-    at + 1
+// A lent buffer, and how many of its first bytes are written. The others are scratch.
+#[derive(Drop)]
+pub struct Output<'a> {
+    bytes: &'a mut [u8],
+    written: usize,
+    pub ghost within: { written ≤ length bytes.now },
 }
 
-// Writes the digits of a number, the last one behind the others: as many calls deep as there are digits.
-fn decimal(out: &mut [u8], at: usize, n: usize) -> usize
-    requires { at + length (digits n n) ≤ length out.old }
-    ensures { Wrote out.old out.new at result (digits n n) }
-{
-    if n < 10 {
-        return byte(out, at, b'0' + n as u8);
-    }
-    let next = decimal(out, at, n / 10);
-    byte(out, next, b'0' + (n % 10) as u8)
-}
+impl<'a> Output<'a> {
+    ghost use Rattle.std.specs.Prelude.{◌≡◌, [], ◌∷◌, ◌+◌, ◌*◌, ◌<◌, take};
+    ghost use Rattle.spec_table.specs.Table.{words};
+    ghost use Rattle.board_answers.specs.Answered.{values_of};
+    ghost use Rattle.spec_text.specs.Numbers.{space, digits};
+    ghost use Rattle.counter_printing.specs.Wrote.{Wrote, HasRoom, field_most, spaced};
 
-// Writes a space and a number.
-pub fn number(out: &mut [u8], at: usize, n: usize) -> usize
-    requires { at + field_most ≤ length out.old }
-    ensures wrote { Wrote out.old out.new at result (space ∷ digits n n) }
-    ensures short { result ≤ at + field_most }
-{
-    let next = byte(out, at, b' ');
-    decimal(out, next, n)
-}
+    // Begins with nothing written.
+    pub fn new(bytes: &'a mut [u8]) -> Output<'a>
+        ensures same_bytes { result.bytes.ghost_name ≡ bytes.entry.ghost_name }
+        ensures bytes { result.bytes.now ≡ bytes.old }
+        ensures written { result.written ≡ 0 }
+    {
+        Output { bytes, written: 0 }
+    }
 
-// Writes the values of an answer, a space before each.
-pub fn values(out: &mut [u8], at: usize, v: Values) -> usize
-    requires { at + 3 * field_most ≤ length out.old }
-    ensures wrote { Wrote out.old out.new at result (spaced (values_of v)) }
-    ensures short { result ≤ at + 3 * field_most }
-{
-    let count = v.count;
-    if count < 1 {
-        return at;
+    // Gives what is written.
+    pub fn as_slice(&self) -> &[u8]
+        ensures { result.now ≡ take self.now.written self.now.bytes.now }
+    {
+        &self.bytes[..self.written]
     }
-    let one = number(out, at, v.first);
-    if count < 2 {
-        return one;
-    }
-    let two = number(out, one, v.second);
-    if count < 3 {
-        return two;
-    }
-    number(out, two, v.third)
-}
 
-// Writes the first `count` words of a list, a space before each.
-pub fn listed(out: &mut [u8], at: usize, list: &[u8], count: usize) -> usize
-    requires count_in_bounds { 2 * count ≤ length list.now }
-    requires count_in_bounds_2 { at + field_most * count ≤ length out.old }
-    ensures wrote { Wrote out.old out.new at result (spaced (take count (words list.now))) }
-    ensures short { result ≤ at + field_most * count }
-{
-    let mut next = at;
-    let mut i = 0;
-    while i < count {
-        next = number(out, next, table_words::read(list, i));
-        i += 1;
+    // Tells how many bytes more there is room for.
+    pub fn room(&self) -> usize
+        ensures { self.now.written + result ≡ length self.now.bytes.now }
+    {
+        self.bytes.len() - self.written
     }
-    next
+
+    // Writes one byte.
+    pub fn byte(&mut self, b: u8)
+        requires { HasRoom self.old 1 }
+        ensures { Wrote self.old self.new (b ∷ []) }
+    {
+        self.bytes[self.written] = b;
+        self.written += 1;
+    }
+
+    // Writes the digits of a number, the last one behind the others: as many calls deep as there are digits.
+    // Kept: by hand, since `number` can't fail and `write!` may, for all that it promises.
+    fn decimal(&mut self, n: usize)
+        requires { HasRoom self.old (length (digits n n)) }
+        ensures { Wrote self.old self.new (digits n n) }
+    {
+        if 10 <= n {
+            self.decimal(n / 10);
+        }
+        self.byte(b'0' + (n % 10) as u8);
+    }
+
+    // Writes a space and a number.
+    pub fn number(&mut self, n: usize)
+        requires { HasRoom self.old field_most }
+        ensures wrote { Wrote self.old self.new (space ∷ digits n n) }
+        ensures short { self.new.written ≤ self.old.written + field_most }
+    {
+        self.byte(b' ');
+        self.decimal(n);
+    }
+
+    // Writes the values of an answer, a space before each.
+    pub fn values(&mut self, v: Values)
+        requires { HasRoom self.old (3 * field_most) }
+        ensures wrote { Wrote self.old self.new (spaced (values_of v)) }
+        ensures short { self.new.written ≤ self.old.written + 3 * field_most }
+    {
+        for &value in v.as_slice() {
+            self.number(value);
+        }
+    }
+
+    // Writes the first `count` words of a list, a space before each.
+    pub fn listed(&mut self, list: &[u8], count: usize)
+        requires count_in_bounds { 2 * count ≤ length list.now }
+        requires room { HasRoom self.old (field_most * count) }
+        ensures wrote { Wrote self.old self.new (spaced (take count (words list.now))) }
+        ensures short { self.new.written ≤ self.old.written + field_most * count }
+    {
+        for i in 0..count {
+            self.number(table_words::read(list, i));
+        }
+    }
 }

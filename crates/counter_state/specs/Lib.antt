@@ -1,2 +1,2 @@
--- What the counter program keeps, and a line that it prints.
+-- What the counter program keeps.
 pub mod State

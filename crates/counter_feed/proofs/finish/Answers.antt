@@ -1,12 +1,11 @@
 -- A line that has begun ends without a line feed.
+use Rattle.std.proofs.Common.{sym, ◌∙◌}
+use borrow.Author.Tests.{eqb-true, eqb-false}
 use Rattle.counter_feed.proofs.Consuming.{finishes_none, finishes_line}
 use Rattle.counter_feed.proofs.finish.Goals as goal
 
-pub returns-then-r-eq0 : goal.returns-then-r-eq0
-returns-then-r-eq0 c = finishes_none c.args.r c.args.out.now c.if-r-eq0.true
+pub returns-then-not-is_empty : goal.returns-then-not-is_empty
+returns-then-not-is_empty c = finishes_line c.args.reader.now c.args.out.now c.refusal.new.out (eqb-false c.args.reader.now.line.held 0 (sym c.is_empty.ensures ∙ c.if-not-is_empty.true)) c.refusal.ensures.wrote
 
-pub refusal-requires : goal.refusal-requires
-refusal-requires c = c.requires
-
-pub returns : goal.returns
-returns c = finishes_line c.args.r c.args.out.now c.refusal.new.out c.refusal.result c.number.result c.if-r-eq0.false c.requires c.number.ensures c.refusal.ensures.wrote c.refusal.ensures.short
+pub returns-else-not-is_empty : goal.returns-else-not-is_empty
+returns-else-not-is_empty c = finishes_none c.args.reader.now c.args.out.now (eqb-true c.args.reader.now.line.held 0 (sym c.is_empty.ensures ∙ c.if-not-is_empty.false))

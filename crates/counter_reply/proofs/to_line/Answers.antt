@@ -3,8 +3,8 @@ use Rattle.counter_state.specs.State.{counter_of}
 use Rattle.counter_reply.proofs.Replying.{unread_replies, read_replies}
 use Rattle.counter_reply.proofs.to_line.Goals as goal
 
-pub returns-in-Unreadable : goal.returns-in-Unreadable
-returns-in-Unreadable c = unread_replies c.requires.room c.args.line.now c.read.ensures.command c.in-Unreadable.is c.refuse.ensures
+pub returns-in-Some : goal.returns-in-Some
+returns-in-Some c = read_replies (counter_of c.args.counter.now c.args.bytes.now) c.args.line.now c.in-Some.ensures c.perform.ensures
 
-pub returns-in-Readable : goal.returns-in-Readable
-returns-in-Readable c = read_replies (counter_of c.args.c c.args.bytes.now) c.args.line.now c.read.ensures.command c.in-Readable.is c.perform.ensures
+pub returns-in-None : goal.returns-in-None
+returns-in-None c = unread_replies c.args.counter.now c.args.bytes.now c.told-bytes c.args.line.now c.in-None.ensures c.refusal.ensures

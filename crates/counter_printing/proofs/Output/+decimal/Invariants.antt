@@ -1,5 +1,5 @@
 -- `decimal` calls itself at n / 10, so its measure is n.
-use Rattle.counter_printing.proofs.+decimal.Given as goal
+use Rattle.counter_printing.proofs.Output.+decimal.Given as goal
 
 abbrev pub decreases-decimal : goal.decreases-decimal
 decreases-decimal l = l.n

@@ -1,2 +1,0 @@
--- What is proved of reading and writing.
-pub mod Serving

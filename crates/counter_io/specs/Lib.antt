@@ -1,2 +1,0 @@
--- What answering a chunk promises.
-pub mod Serving

@@ -1,2 +1,0 @@
--- What a line that is told is.
-pub mod Answering
