@@ -7,7 +7,7 @@ use mathlib.Core.Path.{◌≡◌, refl, sym, ap, subst, ◌∙◌}
 use mathlib.Core.Logic.{◌⊎◌}
 use mathlib.Core.Bool.{true, false}
 use mathlib.Core.List.{List, [], ◌∷◌}
-use mathlib.Core.Option.{none}
+use mathlib.Core.Option.{none, some}
 use lib.Dec.{T}
 use lib.ListN.{length, length-append}
 use Rattle.spec_lists.specs.Lists.{within, nth}
@@ -31,6 +31,10 @@ use Rattle.table_pair.specs.declared.Walked.{Walked}
 use Rattle.board_answers.specs.declared.Answer.{Answer}
 use Rattle.board_answers.specs.Answered.{accepted_of, Leaves}
 use Rattle.board_answers.proofs.Formal.{answered_leaves, refused_leaves}
+
+-- a job's number as a match
+match_in_lem : (j : ℕ) → 1 ≤ j → match_in (Some j) ≡ some j
+match_in_lem j l = refl
 
 -- a walk that the code tells as refused is broken ..
 walk_refused : (w : Walk) {r : Refusal} → Err r ≡ walk_of w → (w.end ≡ broken) × (r ≡ code.Unsound)

@@ -1,8 +1,8 @@
 -- What noting an answer adds.
 use Prim.Native.Nat.{ℕ, ◌+◌}
 use native.Mathlib.Omega.{arith}
-use mathlib.Core.Path.{◌≡◌, refl, ap, ◌∙◌}
-use mathlib.Core.Bool.{true, false}
+use mathlib.Core.Path.{◌≡◌, refl, sym, ap, ◌∙◌}
+use mathlib.Core.Bool.{Bool, true, false, ◌&&◌, false≢true}
 use Rattle.spec_lists.proofs.Tests.{T→true}
 use Rattle.spec_calls.specs.Answers as paper
 use Rattle.spec_calls.specs.Tally.{counts_fit, noted}
@@ -14,6 +14,23 @@ use Rattle.board_tally.specs.Counts.{tally_of, RaisesBy}
 use Rattle.board_tally.specs.declared.Added.{Added}
 use Rattle.table_refusals.specs.declared.Refusal.{Refusal}
 use Rattle.std.specs.Prelude.{Result, Ok}
+
+-- the first count has no room ..
+pub first_full : (x y z r : Bool) → r ≡ x → r ≡ false → false ≡ (x && y && z)
+first_full x y z false e h = λ i. e i && y && z
+first_full x y z true e h = absurd (false≢true (sym h))
+
+-- .. or the second ..
+pub second_full : (x y z r s : Bool) → r ≡ x → r ≡ true → s ≡ y → s ≡ false → false ≡ (x && y && z)
+second_full x y z true false e h f g = λ i. e i && f i && z
+second_full x y z true true e h f g = absurd (false≢true (sym g))
+second_full x y z false s e h f g = absurd (false≢true h)
+
+-- .. or it is as the third says
+pub third_tells : (x y z r s u : Bool) → r ≡ x → r ≡ true → s ≡ y → s ≡ true → u ≡ z → u ≡ (x && y && z)
+third_tells x y z true true u e h f g k = λ i. e i && f i && k i
+third_tells x y z false s u e h f g k = absurd (false≢true h)
+third_tells x y z true false u e h f g k = absurd (false≢true g)
 
 -- no answer but an arrival's and a closing's changes a count
 pub no_change : (a : Answer) → ((h r m : ℕ) → a ≡ Arrived h r m → ⊥) → ((f m : ℕ) → a ≡ Closed f m → ⊥) → is_change (accepted_of a) ≡ false
