@@ -4,8 +4,7 @@
 ghost use Rattle.std.specs.Prelude.{[], ◌++◌, suc, ◌+◌, ◌*◌, ◌≤◌, length, take};
 ghost use Rattle.spec_lists.specs.Lists.{nth};
 ghost use Rattle.spec_table.specs.Table.{most_benches, words};
-ghost use Rattle.spec_calls.specs.Answers.{in_numbers, refusal_number};
-ghost use Rattle.table_refusals.specs.Refusals.{refusal_of};
+ghost use Rattle.spec_calls.specs.Answers.{in_numbers};
 ghost use Rattle.board_answers.specs.Answered.{answer_of, values_of};
 ghost use Rattle.spec_counter.specs.Counter.{printed};
 ghost use Rattle.counter_printing.specs.Wrote.{HasRoom, Wrote};
@@ -50,12 +49,12 @@ fn line(
 }
 
 // Prints "R and the refusal".
-pub fn refusal(out: &mut Output<'_>, why: Refusal)
+// Kept: the refusal's number, what may not change: the clause `wrote` speaks of every number.
+pub fn refusal(out: &mut Output<'_>, number: usize)
     requires { HasRoom out.old line_most }
-    ensures wrote { Wrote out.old out.new (refusal_text (refusal_number (refusal_of why))) }
+    ensures wrote { Wrote out.old out.new (refusal_text number) }
     ensures short { out.new.written ≤ out.old.written + line_most }
 {
-    let number = why.number() as usize;
     line(out, b'R', Values::of(&[number]), Values::of(&[]), &[], 0);
 }
 
@@ -68,7 +67,7 @@ pub fn answer(out: &mut Output<'_>, told: Told)
 {
     match told.answer {
         Ok(accepted) => line(out, told.letter, told.repeated, accepted.values(), &[], 0),
-        Err(why) => refusal(out, why),
+        Err(why) => refusal(out, why.number() as usize),
     }
 }
 
@@ -88,6 +87,6 @@ pub fn listing(out: &mut Output<'_>, told: Told, k: usize, list: &[u8])
             let count = values.get(k).unwrap_or(0);
             line(out, told.letter, told.repeated, values, list, count);
         }
-        Err(why) => refusal(out, why),
+        Err(why) => refusal(out, why.number() as usize),
     }
 }

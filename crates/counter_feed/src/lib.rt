@@ -49,7 +49,12 @@ fn take_byte(reader: &mut Reader, byte: u8, bytes: &mut TableBytes, out: &mut Ou
 }
 
 // Takes a chunk of the input, as far as the output has room for another reply, and tells how many bytes that are.
-pub fn feed(reader: &mut Reader, chunk: &[u8], bytes: &mut TableBytes, out: &mut Output<'_>) -> usize
+pub fn feed(
+    reader: &mut Reader,
+    chunk: &[u8],
+    bytes: &mut TableBytes,
+    out: &mut Output<'_>,
+) -> usize
     requires stands { Stands reader.old bytes.old }
     requires room { HasRoom out.old line_most }
     ensures { Feeds (place_of reader.old bytes.old) chunk.now reader.new bytes.new result
@@ -70,6 +75,6 @@ pub fn finish(reader: &Reader, out: &mut Output<'_>)
     ensures { Finishes reader.now out.old out.new }
 {
     if !reader.line.is_empty() {
-        counter_answer_lines::refusal(out, Refusal::Unreadable);
+        counter_answer_lines::refusal(out, Refusal::Unreadable.number() as usize);
     }
 }

@@ -27,7 +27,7 @@ pub fn set_table(
         out.old out.new counter.new }
 {
     match Size::new(benches, jobs) {
-        Err(why) => counter_answer_lines::refusal(out, why),
+        Err(why) => counter_answer_lines::refusal(out, why.number() as usize),
         Ok(size) => {
             let length = size.bytes();
             let answer = board_changes::blank(&mut bytes[..length], benches, jobs);

@@ -40,6 +40,6 @@ pub fn to_line(counter: &mut Counter, line: &[u8], bytes: &mut TableBytes, out: 
 {
     match counter_commands::read(line) {
         Some(command) => perform(counter, command, bytes, out),
-        None => counter_answer_lines::refusal(out, Refusal::Unreadable),
+        None => counter_answer_lines::refusal(out, Refusal::Unreadable.number() as usize),
     }
 }
