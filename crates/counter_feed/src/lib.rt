@@ -49,7 +49,12 @@ fn take_byte(reader: &mut Reader, byte: u8, bytes: &mut TableBytes, out: &mut Ou
 }
 
 // Takes a chunk of the input, as far as the output has room for another reply, and tells how many bytes that are.
-pub fn feed(reader: &mut Reader, chunk: &[u8], bytes: &mut TableBytes, out: &mut Output<'_>) -> usize
+pub fn feed(
+    reader: &mut Reader,
+    chunk: &[u8],
+    bytes: &mut TableBytes,
+    out: &mut Output<'_>,
+) -> usize
     requires stands { Stands reader.old bytes.old }
     requires room { HasRoom out.old line_most }
     ensures { Feeds (place_of reader.old bytes.old) chunk.now reader.new bytes.new result
