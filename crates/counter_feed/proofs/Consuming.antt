@@ -1,10 +1,10 @@
 -- A byte of the input, a chunk up to a byte, and the end.
 use Prim.Native.Nat.{ℕ, zero, suc, ◌+◌, ◌<◌, ◌≤◌}
 use native.Mathlib.Omega.{arith}
-use native.Mathlib.Decide.{ℕ_discrete, dec_lt}
+use native.Mathlib.Decide.{dec_lt}
 use native.Mathlib.Numerals.{add-one}
 use mathlib.Core.Path.{◌≡◌, refl, sym, ap, ap₂, subst, ◌∙◌}
-use mathlib.Core.Logic.{◌⊎◌, inl, inr, ◌≢◌}
+use mathlib.Core.Logic.{◌≢◌}
 use mathlib.Core.List.{List, [], ◌∷◌, ◌++◌}
 use lib.ListN.{length, take, get_or}
 use lib.Seq.{take-suc, length-take-le}
@@ -14,15 +14,15 @@ use Rattle.spec_counter.specs.Counter as paper
 use Rattle.spec_text.specs.Numbers.{line_feed}
 use Rattle.spec_counter.specs.Counter.{unreadable_line}
 use Rattle.spec_counter.specs.Stream.{Place, at_end, Unended, Consumes, line_text}
-use Rattle.spec_counter.proofs.Stream.{consumes_line, consumes_byte, consumes_past, goes_none, consumes_then, output_end}
+use Rattle.spec_counter.proofs.Stream.{consumes_line, consumes_byte, consumes_past, consumes_then, output_end}
 use Rattle.counter_printing.specs.Wrote.{Wrote}
 use Rattle.counter_printing.specs.declared.Output.{Output}
 use Rattle.counter_printing.proofs.WrittenText.{wrote_none, wrote_then}
-use Rattle.counter_answer_lines.specs.AnswerLines.{line_most, refusal_text}
+use Rattle.counter_answer_lines.specs.AnswerLines.{refusal_text}
 use Rattle.counter_state.specs.State.{counter_of}
 use Rattle.counter_state.specs.declared.Counter.{Counter}
 use Rattle.counter_reply.specs.Replies.{RepliesTo}
-use Rattle.counter_feed.specs.Feeding.{kept_most, place_of, Stands, Appended, TakesByte, Feeds, Finishes}
+use Rattle.counter_feed.specs.Feeding.{kept_most, place_of, Stands, Appended, TakesByte, Finishes}
 use Rattle.counter_feed.specs.declared.Reader.{Reader}
 use Rattle.counter_feed.specs.declared.kept_line.Line.{Line}
 

@@ -9,24 +9,23 @@ use mathlib.Core.Option.{Option, none, some}
 use lib.ListN.{length, take, drop}
 use lib.Seq.{take_at, length-take-le, length_front}
 use Rattle.spec_lists.specs.Lists.{nth}
-use Rattle.spec_table.specs.Table.{in_list, length_for, sizes_fit, decode, blank_table, most_benches}
+use Rattle.spec_table.specs.Table.{in_list, length_for, sizes_fit, decode, blank_table}
 use Rattle.spec_sharing.specs.Sharing.{arrive, close, tight_set}
-use Rattle.spec_calls.specs.Answers.{Outcome, in_numbers, refused_or, first_holding, sizes, said, blanked, refusal_number}
+use Rattle.spec_calls.specs.Answers.{Outcome, in_numbers, refused_or, first_holding, said, blanked, refusal_number}
 use Rattle.spec_calls.specs.Answers.{Refusal as Why}
 use Rattle.spec_calls.specs.Calls.{Call, Arriving, Closing, outcome, blanking, arrival, closing, ask, heaviest_load, tight_set_of, lent_to, arrival_outcome, closing_outcome, telling, answering, asked, accepted, tight_set_told, refusals}
-use Rattle.spec_calls.specs.Tally.{Tally, zero_tally, noted}
+use Rattle.spec_calls.specs.Tally.{zero_tally, noted}
 use Rattle.spec_calls.proofs.Blanking.{blanking_refused}
 use Rattle.spec_table.proofs.Words.{in_list_long}
 use Rattle.spec_counter.specs.Counter as paper
 use Rattle.spec_counter.specs.Counter.{take_in, close_job, set_table, ask_tight_set, ask_heaviest, counter_list, line_for, done, after}
-use Rattle.spec_counter.proofs.Counter.{list_holds_all}
 use Rattle.spec_counter.proofs.CounterRun.{room_fits}
 use Rattle.std.specs.Prelude.{Result, Ok, Err}
 use Rattle.table_refusals.specs.Refusals.{refusal_of}
 use Rattle.table_refusals.specs.declared.Refusal.{Refusal}
 use Rattle.table_size.specs.Sizes.{SizeFor}
 use Rattle.table_size.specs.declared.Size.{Size}
-use Rattle.table_size.proofs.Sizes.{limits_of, fit_sizing, sizes_fit_lem, sizes_refused}
+use Rattle.table_size.proofs.Sizes.{fit_sizing, sizes_fit_lem, sizes_refused}
 use Rattle.board_answers.specs.Answered.{answer_of, Leaves}
 use Rattle.board_answers.specs.declared.Answer.{Answer}
 use Rattle.board_tally.specs.Counts.{tally_of}
@@ -34,7 +33,7 @@ use Rattle.counter_printing.specs.Wrote.{Wrote}
 use Rattle.counter_printing.specs.declared.Output.{Output}
 use Rattle.counter_printing.proofs.WrittenText.{wrote_as}
 use Rattle.counter_answer_lines.specs.AnswerLines.{line_most, refusal_text, answer_text, listing_text}
-use Rattle.counter_state.specs.State.{table_most, counter_of, Room}
+use Rattle.counter_state.specs.State.{table_most, counter_of}
 use Rattle.counter_state.specs.declared.Counter.{Counter}
 use Rattle.counter_perform.specs.Performed.{Replies, Performs}
 
