@@ -1,10 +1,9 @@
 -- Levelling: the bench that the search finds starts the rule's path, and a loop that flips such paths is levelling.
 use Prim.Native.Nat.{ℕ, ◌+◌, ◌-◌, ◌≤◌, ◌<◌}
 use native.Mathlib.Omega.{arith}
-use native.Mathlib.Decide.{ℕ_discrete}
 use native.Mathlib.Numerals.{add-one}
 use mathlib.Core.Path.{◌≡◌, refl, sym, ap, subst, ◌∙◌}
-use mathlib.Core.Logic.{inl, ⊎_elim, ◌≢◌}
+use mathlib.Core.Logic.{inl, ⊎_elim}
 use mathlib.Core.List.{List}
 use mathlib.Core.Option.{Option, none, some}
 use lib.Dec.{T, eqb}
@@ -27,7 +26,8 @@ use Rattle.sharing_paths_from.specs.ArrivalSearch.{WithJob}
 use Rattle.sharing_start.specs.PathStart.{StartOf}
 use Rattle.sharing_levelling.specs.LevellingResult.{IsLevelling, LevellingOf}
 use Rattle.sharing_levelling.specs.declared.Levelling.{Levelling}
-use Rattle.spec_lists.proofs.Tests.{tests_same, T-eqb, eqb_T}
+use Rattle.spec_lists.proofs.Tests.{T→true, never→false}
+use Rattle.std.specs.Prelude.{Bool, true, false, None, Some, is_some, not}
 use Rattle.spec_lists.proofs.Raising.{get_d_raised, get_d_lowered}
 use Rattle.spec_sharing.proofs.Paths.{improving_from_only, improving_from_every, improves_loads, loads_improve}
 use Rattle.spec_sharing.proofs.Choice.{arrival_choice_lem, arrival_none, level_choice}
@@ -45,6 +45,10 @@ order_loads i l = loads_in (order_holds i) l
 
 -- the first bench
 
+-- a bench that starts a path, where one does
+abbrev pub Start : Type 0
+Start = Rattle.std.specs.Prelude.Option ℕ
+
 -- a bench that starts an improving path has one that an arrival there would flip
 starts_choice : (b : Board) → Valid b → (x : ℕ) → StartsOne b x → (p : BenchPath) × (arrival_choice b x ≡ some p)
 starts_choice b v x (y, r, d) = go (arrival_choice b x) refl
@@ -56,32 +60,29 @@ starts_choice b v x (y, r, d) = go (arrival_choice b x) refl
         let i = improving_from_every b v p h (loads_improve b p (omega (arith, ap (load b.holders) f, ap (load b.holders) g))) in
         absurd (subst (In p) (ap (improving_from b) f ∙ arrival_none b x e) i)
 
-module _ {t : List ℕ} {s : Size} {x : ℕ} (i : InOrder t s) (n : StartOf (decode t) s x) where
+module _ {t : List ℕ} {s : Size} (i : InOrder t s) where
   valid : Valid (decode t)
   valid = i.sound.storable.valid
 
-  -- the test for 0 tells whether the board is level
-  pub zero_level : eqb x 0 ≡ level (decode t)
-  zero_level = tests_same (eqb x 0) (level (decode t)) (λ h. n.none (T-eqb x 0 h), λ h. eqb_T x 0 (level_none h))
-    where
-      level_none : T (level (decode t)) → x ≡ 0
-      level_none h = elim (ℕ_discrete x 0) [
-        | yes e ↦ e
-        | no d ↦
-            let f = n.some d in
-            absurd ((level_starts (decode t) valid).0 h x (on_board (order_holds i) f.bench) f.starts)
-      ]
+  -- where no bench starts a path, and only there, the board is level
+  pub none_level : (start : Start) (r : Bool) → is_some start ≡ not r → StartOf (decode t) s start → r ≡ level (decode t)
+  none_level None true e n = sym (T→true (level (decode t)) (n.none refl))
+  none_level None false e n = cc
+  none_level (Some x) true e n = cc
+  none_level (Some x) false e n =
+      let f = n.some x refl in
+      sym (never→false (level (decode t)) (λ h. (level_starts (decode t) valid).0 h x (on_board (order_holds i) f.bench) f.starts))
 
   -- an arrival at the bench found would flip what levelling flips
-  next_choice : x ≢ 0 → (p : BenchPath) × (arrival_choice (decode t) x ≡ some p) × (levelling_choice (decode t) ≡ some p)
-  next_choice d =
-      let f = n.some d in
+  next_choice : {start : Start} {x : ℕ} → StartOf (decode t) s start → start ≡ Some x → (p : BenchPath) × (arrival_choice (decode t) x ≡ some p) × (levelling_choice (decode t) ≡ some p)
+  next_choice {x = x} n d =
+      let f = n.some x d in
       let (p, e) = starts_choice (decode t) valid x f.starts in
       (p, e, levelling_found (decode t) valid x p e (λ w h. f.first w (board_bench w i.sound.size h)))
 
 -- of a copy in order it tells so of the board
-pub copy_level : {u : List ℕ} {s : Size} {b : Board} {x : ℕ} → TableOf u s b → StartOf (decode u) s x → eqb x 0 ≡ level b
-copy_level k n = zero_level k.in_order n ∙ ap level k.board
+pub copy_level : {u : List ℕ} {s : Size} {b : Board} {start : Start} {r : Bool} → TableOf u s b → StartOf (decode u) s start → is_some start ≡ not r → r ≡ level b
+copy_level {start = start} {r} k n e = none_level k.in_order start r e n ∙ ap level k.board
 
 -- one path
 
@@ -178,31 +179,27 @@ choice_shifts {t} {s} {loads} {x} p k l i e =
 
 -- the loop
 
--- levelling of the board b has come to the table t with these loads: so many paths were flipped, and x starts the next path, 0 where there is
--- none
-pub record Flipping (b : Board) (t : List ℕ) (s : Size) (allowance : ℕ) (loads path : List ℕ) (paths x : ℕ) : Type 0 where
+-- levelling of the board b has come to the table t with these loads: so many paths were flipped, and `start` is the bench that starts
+-- the next path, where there is one
+pub record Flipping (b : Board) (t : List ℕ) (s : Size) (allowance : ℕ) (loads path : List ℕ) (paths : ℕ) (start : Start) : Type 0 where
   pub in_order : InOrder t s
   pub loaded : Loaded (decode t) loads
-  pub next : StartOf (decode t) s x
+  pub next : StartOf (decode t) s start
   pub flipped : Flips paths b (decode t)
   pub allowed : paths ≤ allowance
   pub long : length path ≡ most_benches + 1
 
 -- at first no path was flipped
-pub flipping_start : {t : List ℕ} {s : Size} {allowance : ℕ} {loads path : List ℕ} {x : ℕ} → InOrder t s → Loaded (decode t) loads → length path ≡ most_benches + 1 → StartOf (decode t) s x → Flipping (decode t) t s allowance loads path 0 x
+pub flipping_start : {t : List ℕ} {s : Size} {allowance : ℕ} {loads path : List ℕ} {start : Start} → InOrder t s → Loaded (decode t) loads → length path ≡ most_benches + 1 → StartOf (decode t) s start → Flipping (decode t) t s allowance loads path 0 start
 flipping_start {t} i l m n =
     record { in_order = i; loaded = l; next = n; flipped = no_flip (decode t); allowed = omega arith; long = m }
 
-module _ {b : Board} {t : List ℕ} {s : Size} {allowance : ℕ} {loads path : List ℕ} {paths x : ℕ} (i : Flipping b t s allowance loads path paths x) where
-  module _ {path' : List ℕ} {r : FoundPath} (d : x ≢ 0) (f : FoundFrom t s loads x path' r) where
+module _ {b : Board} {t : List ℕ} {s : Size} {allowance : ℕ} {loads path : List ℕ} {paths : ℕ} {start : Start} (i : Flipping b t s allowance loads path paths start) where
+  module _ {path' : List ℕ} {r : FoundPath} {x : ℕ} (d : start ≡ Some x) (f : FoundFrom t s loads x path' r) where
     found : PathFound (arrival_choice (decode t) x) (last_of x (arrival_choice (decode t) x)) path' r
     found = f (decode t) (same_board i.in_order x) i.loaded
 
-    -- the path's jobs have places in the array ..
-    pub flipping_few : (r.jobs ≤ most_benches) × (length path' ≡ most_benches + 1)
-    flipping_few = (found.few, found.long)
-
-    -- .. and stand there
+    -- the path's jobs stand in the array
     pub flipping_route : (z : ℕ) × (q : List Step) × RouteIn (decode t) path' 0 r.jobs r.bench z q
     flipping_route =
         let (p, e, g) = next_choice i.in_order i.next d in
@@ -225,10 +222,10 @@ module _ {b : Board} {t : List ℕ} {s : Size} {allowance : ℕ} {loads path : L
       flipping_shifts =
           let (p, e, g, o) = turned in
           rw (found.bench ∙ ap (last_of x) e, o.board)
-          (choice_shifts p (order_holds i.in_order) i.loaded (i.next.some d).bench e)
+          (choice_shifts p (order_holds i.in_order) i.loaded (i.next.some x d).bench e)
 
       -- .. and then one more path is flipped
-      pub flipping_turn : {loads' queue : List ℕ} {x' : ℕ} → paths < allowance → Loaded (decode u) loads' → length queue ≡ most_benches + 1 → StartOf (decode u) s x' → Flipping b u s allowance loads' queue (paths + 1) x'
+      pub flipping_turn : {loads' queue : List ℕ} {start' : Start} → paths < allowance → Loaded (decode u) loads' → length queue ≡ most_benches + 1 → StartOf (decode u) s start' → Flipping b u s allowance loads' queue (paths + 1) start'
       flipping_turn less l m n =
           let (p, e, g, o) = turned in
           record {
@@ -241,10 +238,10 @@ module _ {b : Board} {t : List ℕ} {s : Size} {allowance : ℕ} {loads path : L
           }
 
   -- where none is left or the allowance is used up, that is levelling
-  pub flipping_end : (t₀ : List ℕ) → b ≡ decode t₀ → (paths < allowance → x ≡ 0) → LevellingOf t₀ t allowance (record { paths = paths; level = eqb x 0 })
-  flipping_end t₀ same done =
+  pub flipping_end : {r : Bool} (t₀ : List ℕ) → b ≡ decode t₀ → (paths < allowance → start ≡ None) → is_some start ≡ not r → LevellingOf t₀ t allowance (record { paths = paths; level = r })
+  flipping_end {r} t₀ same done told =
       let c = decode t in
       let e = flips_relevel paths allowance b c i.flipped i.allowed (λ h. level_choice c (i.next.none (done h))) in
-      let r : Levelling = record { paths = paths; level = eqb x 0 } in
-      rw (sym same) (subst (λ (m : Levelled). IsLevelling t m r) (sym e)
-      (record { bytes = i.in_order.bytes; paths = refl; ended = zero_level i.in_order i.next }))
+      let a : Levelling = record { paths = paths; level = r } in
+      rw (sym same) (subst (λ (m : Levelled). IsLevelling t m a) (sym e)
+      (record { bytes = i.in_order.bytes; paths = refl; ended = none_level i.in_order start r told i.next }))

@@ -1,9 +1,9 @@
 // Levelling, and whether a board is level.
 #![tactic(auto)]
 
-ghost use Rattle.std.specs.Prelude.{◌+◌, ◌≡◌, ◌↔◌, T, length};
+ghost use Rattle.std.specs.Prelude.{◌≡◌, ◌↔◌, T, length};
 ghost use Rattle.spec_sharing.specs.Sharing.{level};
-ghost use Rattle.spec_table.specs.Table.{most_benches, decode, encode};
+ghost use Rattle.spec_table.specs.Table.{decode, encode};
 ghost use Rattle.table_size.specs.Sizes.{SoundTable};
 ghost use Rattle.table_board.specs.BoardView.{Loaded};
 ghost use Rattle.sharing_levelling.specs.LevellingResult.{LevellingOf};
@@ -28,12 +28,11 @@ fn is_level_copy(
 ) -> bool
     requires sound_table { SoundTable t.now s }
     requires loaded { Loaded (decode t.now) loads.now }
-    requires queue_len { length queue.old ≡ most_benches + 1 }
     requires copy_len { length copy.old ≡ length t.now }
     ensures { result ≡ level (decode t.now) }
 {
     table_copies::copy_in_order(t, s, copy);
-    sharing_start::first_start(copy, s, loads, queue) == 0
+    sharing_start::first_start(copy, s, loads, queue).is_none()
 }
 
 // Tells whether no improving path is left. What the queue holds does not matter.
@@ -47,11 +46,10 @@ pub fn is_level(
     requires sound_table { SoundTable t.now s }
     requires variant { T rising ↔ (t.now ≡ encode (decode t.now)) }
     requires loaded { Loaded (decode t.now) loads.now }
-    requires queue_len { length queue.old ≡ most_benches + 1 }
     ensures { result ≡ level (decode t.now) }
 {
     if rising {
-        sharing_start::first_start(t, s, loads, queue) == 0
+        sharing_start::first_start(t, s, loads, queue).is_none()
     } else {
         let mut copy = [0; Size::MOST_BYTES];
         let n = s.bytes();
@@ -73,24 +71,24 @@ pub fn relevel(
     requires sound_table { SoundTable t.old s }
     requires variant { T rising ↔ (t.old ≡ encode (decode t.old)) }
     requires loaded { Loaded (decode t.old) loads.old }
-    requires path_len { length path.old ≡ most_benches + 1 }
     ensures { LevellingOf t.old t.new allowance result }
 {
     table_copies::put_in_order(t, s, rising);
-    let mut paths = 0;
     // Between two paths the path's array is the queue of the search for the next start.
-    let mut x = sharing_start::first_start(t, s, loads, path);
-    while x != 0 && paths < allowance {
-        let found = sharing_paths_from::find_from(t, s, loads, x, 0, 0, path);
+    let mut start = sharing_start::first_start(t, s, loads, path);
+    for paths in 0..allowance {
+        let Some(x) = start else {
+            return Levelling { paths, level: true };
+        };
+        let found = sharing_paths_from::find_from(t, s, loads, x, None, path);
         let y = found.bench;
         sharing_paths::hand_along(t, s, path, 0, found.jobs, y);
         loads[x] -= 1;
         loads[y] += 1;
-        paths += 1;
-        x = sharing_start::first_start(t, s, loads, path);
+        start = sharing_start::first_start(t, s, loads, path);
     }
     Levelling {
-        paths,
-        level: x == 0,
+        paths: allowance,
+        level: start.is_none(),
     }
 }

@@ -20,8 +20,7 @@ pub struct Expansion {
 }
 
 // Appends bench y, found by job j, to the queue, unless it was found before; tells how many are found then.
-// Kept: counts stand beside the queue, since a search holds three of one queue: where a level begins and ends, and what
-// is found.
+// Kept: `found` beside the queue, since a search holds three counts of one queue: a level's begin and end, and this.
 pub fn discover(
     y: usize,
     j: u16,

@@ -4,12 +4,11 @@
 ghost use Rattle.std.specs.Prelude.{◌≡◌, false, ◌≤◌, ◌+◌, ◌*◌, length, replicate};
 ghost use Rattle.spec_table.specs.Table.{in_list, most_benches, decode};
 ghost use Rattle.spec_sharing.specs.Sharing.{tight_set};
-ghost use Rattle.table_size.specs.Sizes.{Limits, SoundTable};
+ghost use Rattle.table_size.specs.Sizes.{SoundTable};
 ghost use Rattle.table_board.specs.BoardView.{Loaded};
 ghost use Rattle.graph_lists.specs.Arrays.{Tells, LoadsIn};
 ghost use Rattle.sharing_tight_set.specs.MarkedSets.{marked, HeavyMarked, Lighter, Measured, TightSet};
 
-use graph_lists::scratch;
 use table_size::{PerBench, Size};
 
 // How many benches are in a set, and how many jobs they hold.
@@ -19,33 +18,18 @@ pub struct Extent {
     pub jobs: usize,
 }
 
-// Makes marks of which none is set.
-pub fn unmarked() -> [bool; Size::MOST_BENCHES + 1]
-    ensures { result ≡ replicate (most_benches + 1) false }
-{
-    [false; Size::MOST_BENCHES + 1]
-}
-
 // Counts the marked benches, and adds up their loads.
-fn measure(
-    s: Size,
-    loads: &PerBench<u16>,
-    marks: &PerBench<bool>,
-) -> Extent
-    requires limits { Limits s }
-    requires loads_in { LoadsIn s loads.now }
+fn measure(s: Size, loads: &PerBench<u16>, marks: &PerBench<bool>) -> Extent
+    requires { LoadsIn s loads.now }
     ensures { Measured s loads.now marks.now result }
 {
-    let benches = s.benches();
     let mut count = 0;
     let mut jobs = 0;
-    let mut x = 1;
-    while x <= benches {
+    for x in 1..s.benches() + 1 {
         if marks[x] {
             count += 1;
-            jobs += loads[x] as usize;
+            jobs += usize::from(loads[x]);
         }
-        x += 1;
     }
     Extent {
         benches: count,
@@ -54,48 +38,33 @@ fn measure(
 }
 
 // Marks the benches with load h or more; tells whether one has less.
-fn mark_heavy(
-    s: Size,
-    loads: &PerBench<u16>,
-    h: usize,
-    marks: &mut PerBench<bool>,
-) -> bool
-    requires limits { Limits s }
+fn mark_heavy(s: Size, loads: &PerBench<u16>, h: usize, marks: &mut PerBench<bool>) -> bool
     requires loads_in { LoadsIn s loads.now }
     requires marks_value { marks.old ≡ replicate (most_benches + 1) false }
     ensures heavy_marked { HeavyMarked s loads.now h marks.new }
     ensures tells { Tells (Lighter s loads.now h) result }
 {
-    let benches = s.benches();
     let mut less = false;
-    let mut x = 1;
-    while x <= benches {
-        if h <= loads[x] as usize {
+    for x in 1..s.benches() + 1 {
+        if h <= usize::from(loads[x]) {
             marks[x] = true;
         } else {
             less = true;
         }
-        x += 1;
     }
     less
 }
 
 // Marks what the chains of the benches with load h or more bring in; these benches are marked already.
-fn mark_closure(
-    t: &[u8],
-    s: Size,
-    loads: &PerBench<u16>,
-    h: usize,
-    marks: &mut PerBench<bool>,
-)
+fn mark_closure(t: &[u8], s: Size, loads: &PerBench<u16>, h: usize, marks: &mut PerBench<bool>)
     requires sound_table { SoundTable t.now s }
     requires loaded { Loaded (decode t.now) loads.now }
     requires heavy_marked { HeavyMarked s loads.now h marks.old }
     ensures { marked s marks.new ≡ tight_set (decode t.now) h }
 {
-    let mut head = scratch::benches();
-    let mut next = scratch::jobs();
-    let mut to = scratch::jobs();
+    let mut head = [0; Size::MOST_BENCHES + 1];
+    let mut next = [0; Size::MOST_JOBS + 1];
+    let mut to = [0; Size::MOST_JOBS + 1];
     sharing_chains::copy_chains(t, s, &mut head, &mut next, &mut to);
     sharing_visits::walk_heavy(s, &head, &next, &to, loads, h, marks);
 }
@@ -123,18 +92,14 @@ pub fn tight_set(
 
 // Writes the marked benches, rising, as words at the list's beginning.
 pub fn write(s: Size, marks: &PerBench<bool>, list: &mut [u8])
-    requires limits { Limits s }
-    requires marks_in_bounds { 2 * length (marked s marks.now) ≤ length list.old }
+    requires { 2 * length (marked s marks.now) ≤ length list.old }
     ensures { list.new ≡ in_list (marked s marks.now) list.old }
 {
-    let benches = s.benches();
     let mut count = 0;
-    let mut x = 1;
-    while x <= benches {
+    for x in 1..s.benches() + 1 {
         if marks[x] {
             table_words::write(list, count, x);
             count += 1;
         }
-        x += 1;
     }
 }

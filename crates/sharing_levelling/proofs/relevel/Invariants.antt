@@ -1,12 +1,8 @@
--- The loop flips one path after the other. Its invariant: the table is in order, the loads are the board's, x starts the next path, and the
--- paths flipped are levelling's (`Flipping`). The measure is what is left of the allowance.
-use Prim.Native.Nat.{◌-◌}
+-- The loop flips one path after the other. Its invariant: the table is in order, the loads are the board's, `start` is where the next path
+-- starts, and the paths flipped are levelling's (`Flipping`).
 use Rattle.spec_table.specs.Table.{decode}
 use Rattle.sharing_levelling.proofs.Flipping.{Flipping}
 use Rattle.sharing_levelling.proofs.relevel.Given as goal
 
-abbrev pub invariant-loop-x : goal.invariant-loop-x
-invariant-loop-x l = Flipping (decode l.initial.t) l.t l.s l.allowance l.loads l.path l.paths l.x
-
-abbrev pub decreases-loop-x : goal.decreases-loop-x
-decreases-loop-x l = l.allowance - l.paths
+abbrev pub invariant-loop-paths : goal.invariant-loop-paths
+invariant-loop-paths l = Flipping (decode l.initial.t) l.t l.s l.allowance l.loads l.path l.paths l.start

@@ -13,6 +13,9 @@ in_size e l = omega arith
 past : {n m x : ℕ} → m ≡ n → m + 1 ≤ x → n < x
 past e l = omega arith
 
+pub loop-x-init : goal.loop-x-init
+loop-x-init c = c.requires.searched
+
 pub returns-then-is_some : goal.returns-then-is_some
 returns-then-is_some c = searched_stop c.search_from-searched.ensures (is_told c.search_from-searched.result.start (sym c.is_some.ensures ∙ c.if-is_some.true))
 

@@ -11,11 +11,11 @@ use Rattle.sharing_tight_set.proofs.AsSet.{all_tight, measured_tight}
 use Rattle.sharing_tight_set.proofs.tight_set.Goals as goal
 use Rattle.sharing_tight_set.proofs.tight_set.Goals.{Joined-mark_heavy, then-mark_heavy, else-mark_heavy}
 
-pub mark_heavy-requires : goal.mark_heavy-requires
-mark_heavy-requires c = record { limits = c.requires.sound_table.size.limits; loads_in = loads_in (sound_holds_board _ _ c.requires.sound_table) c.requires.loaded; marks_value = c.requires.marks_value }
+pub mark_heavy-requires-clause-loads_in : goal.mark_heavy-requires-clause-loads_in
+mark_heavy-requires-clause-loads_in c = loads_in (sound_holds_board _ _ c.requires.sound_table) c.requires.loaded
 
 pub measure-requires : goal.measure-requires
-measure-requires c = record { limits = c.requires.sound_table.size.limits; loads_in = loads_in (sound_holds_board _ _ c.requires.sound_table) c.requires.loaded }
+measure-requires c = loads_in (sound_holds_board _ _ c.requires.sound_table) c.requires.loaded
 
 -- the marked benches are the tight set
 tight : (c : Joined-mark_heavy) → marked c.args.s c.if-mark_heavy.marks ≡ tight_set (decode c.args.t.now) c.args.h
