@@ -3,4 +3,4 @@ use Rattle.jobboard.proofs.Reports.{reported_values}
 use Rattle.jobboard.proofs.jobboard_closing.Goals as goal
 
 pub returns : goal.returns
-returns c = reported_values _ _ c.closing-a.ensures tt c.two.ensures
+returns c = reported_values _ _ c.closing-answer.ensures tt c.two.ensures
