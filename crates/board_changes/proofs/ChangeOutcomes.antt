@@ -18,10 +18,8 @@ use Rattle.spec_table.proofs.Named.{pair_fits}
 use Rattle.spec_calls.proofs.Outcomes.{arrival_accepted, closing_accepted, levelling_accepted}
 use Rattle.spec_calls.proofs.Refused.{arrival_number_refused, arrival_bench_refused, arrival_standing_refused, arrival_list_refused, closing_number_refused, closing_standing_refused, closing_list_refused, arrival_exact, closing_exact}
 use Rattle.table_size.specs.declared.Size.{Size}
-use Rattle.table_size.specs.Sizes.{JobIn, SoundTable}
-use Rattle.table_size.proofs.Sizes.{job_in, job_of_board, bench_of_board}
-use Rattle.table_board.specs.BoardView.{HoldsBoard}
-use Rattle.table_board.proofs.RecordsAsBoard.{sound_holds_board}
+use Rattle.table_size.specs.Sizes.{SoundTable}
+use Rattle.table_size.proofs.Sizes.{job_of_board, bench_of_board}
 use Rattle.table_refusals.specs.declared.Refusal.{Refusal}
 use Rattle.sharing_effects.specs.Effects.{lent, TooShort}
 use Rattle.sharing_effects.specs.declared.Effect.{Effect}

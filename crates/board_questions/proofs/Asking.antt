@@ -103,10 +103,6 @@ module _ {t : List ℕ} {s : Size} (z : SoundTable t s) where
     set_most = omega (arith, m.benches, ap length m.set, passing_few (mark marks) s.benches, z.size.limits.benches_most)
 
     module _ (list : List ℕ) where
-      -- a list that is not too short has room for the marked benches
-      pub list_room : 2 * r.benches ≤ length list → 2 * length (marked s marks) ≤ length list
-      list_room f = omega (arith, m.benches, ap length m.set)
-
       -- a height of 1 or more whose set has no bench gives 7
       pub high_refused : h ≢ 0 → r.benches ≡ 0 → Leaves (outcome (ask (tight_set_of h) list) t) (Err code.Height) t list
       high_refused p e =

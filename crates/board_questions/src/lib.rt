@@ -73,7 +73,7 @@ fn tight_set_on(
     if height == 0 {
         return Err(Refusal::Height);
     }
-    let mut marks = sharing_tight_set::unmarked();
+    let mut marks = [false; Size::MOST_BENCHES + 1];
     let extent = sharing_tight_set::tight_set(t, s, loads, height, &mut marks);
     // No bench has this load: the height is above the heaviest.
     if extent.benches == 0 {

@@ -13,7 +13,7 @@ use Rattle.table_size.specs.declared.Size.{Size}
 use Rattle.table_size.specs.Sizes.{SoundTable}
 use Rattle.table_board.specs.BoardView.{Loaded}
 use Rattle.sheet_jobs.specs.JobLists.{JobLists}
-use Rattle.sheet_lines.specs.WrittenLines.{LoadedBoard, LoadsOf, LengthOf, Sheeted, RoomForAll, SheetWritten}
+use Rattle.sheet_lines.specs.WrittenLines.{LoadedBoard, LengthOf, Sheeted, SheetWritten}
 use Rattle.std.specs.Prelude.{Ok, Err}
 use Rattle.board_answers.specs.Answered.{Leaves}
 use Rattle.table_refusals.specs.declared.Refusal.TheVariants as code

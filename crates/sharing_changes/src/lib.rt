@@ -20,6 +20,8 @@ use table_refusals::Refusal;
 use table_size::{PerBench, Size};
 
 // What is to be done.
+// Kept: no plainer as a closure: it would take the table, the loads, the path and the list, all changed, and do_in_copy
+// would have to say by F.post what the call left of each of the four, for what TaskOf now says in one line.
 #[derive(Clone, Copy)]
 enum Task {
     // A job arrives, for two benches.

@@ -199,11 +199,7 @@ module _ {b : Board} {t : List ℕ} {s : Size} {allowance : ℕ} {loads path : L
     found : PathFound (arrival_choice (decode t) x) (last_of x (arrival_choice (decode t) x)) path' r
     found = f (decode t) (same_board i.in_order x) i.loaded
 
-    -- the path's jobs have places in the array ..
-    pub flipping_few : (r.jobs ≤ most_benches) × (length path' ≡ most_benches + 1)
-    flipping_few = (found.few, found.long)
-
-    -- .. and stand there
+    -- the path's jobs stand in the array
     pub flipping_route : (z : ℕ) × (q : List Step) × RouteIn (decode t) path' 0 r.jobs r.bench z q
     flipping_route =
         let (p, e, g) = next_choice i.in_order i.next d in

@@ -1,14 +1,13 @@
 -- Marks as a set: counted, written to a list, and the tight set of a board.
 use Prim.Native.Nat.{ℕ, zero, suc, ◌+◌, ◌*◌, ◌≤◌, ◌<◌}
 use native.Mathlib.Omega.{arith}
-use native.Mathlib.Decide.{ℕ_discrete, dec_le}
+use native.Mathlib.Decide.{dec_le}
 use mathlib.Core.Path.{◌≡◌, refl, sym, ap, ◌∙◌}
 use mathlib.Core.Logic.{◌↔◌}
 use mathlib.Core.Bool.{Bool, true, false, cond}
 use mathlib.Core.List.{List, [], ◌∷◌, ◌++◌, append-nil}
 use lib.Dec.{T, T_not}
-use lib.ListN.{length, set, replicate, length-append}
-use lib.Seq.{get_or-set_same, get_or-set_other}
+use lib.ListN.{length, replicate, length-append}
 use Rattle.spec_lists.specs.Lists.{bit, within, member, range, total, filter, In}
 use Rattle.spec_table.specs.Board.{Board, load}
 use Rattle.spec_sharing.specs.Paths.{Step, steps}
@@ -35,7 +34,7 @@ use Rattle.sharing_steps.proofs.AsSteps.{on_board, load_at, jobs_reach}
 use Rattle.sharing_chains.specs.StoredChains.{StoredChains}
 use Rattle.sharing_visits.specs.ArrayChains.{Leads}
 use Rattle.sharing_visits.specs.Marks.{mark, Marks, Heavy, FromHeavy, ClosedOver}
-use Rattle.sharing_visits.proofs.Visiting.{marks_set, Passed, passed_on, passed_before, passed_light, passed_all}
+use Rattle.sharing_visits.proofs.Visiting.{Passed}
 use Rattle.sharing_tight_set.specs.MarkedSets.{marked, HeavyMarked, Lighter, Measured, TightSet}
 use Rattle.sharing_tight_set.proofs.AlongChains.{leads_job, step_leads}
 use Rattle.sharing_tight_set.specs.declared.Extent.{Extent}
@@ -95,10 +94,6 @@ pub record Measuring (loads : List ℕ) (marks : List Bool) (count jobs x : ℕ)
   pub counted : count ≡ length (passing (mark marks) done)
   pub added : jobs ≡ total done (marked_load loads marks)
 
--- no bench is counted yet
-pub measure_start : (loads : List ℕ) (marks : List Bool) → Measuring loads marks 0 0 1
-measure_start loads marks = record { done = 0; next = refl; counted = refl; added = refl }
-
 -- bench x is counted if it is marked
 pub measure_turn : {loads : List ℕ} {marks : List Bool} {count jobs x : ℕ} (count' jobs' : ℕ) → Measuring loads marks count jobs x → count' ≡ count + bit (mark marks x) → jobs' ≡ jobs + marked_load loads marks x → Measuring loads marks count' jobs' (x + 1)
 measure_turn {loads} {marks} {count} {jobs} {x} count' jobs' m e f =
@@ -124,12 +119,6 @@ measure_room {loads} {marks} {count} {jobs} {x} s l i m =
     summed zero = omega arith
     summed (suc n) = omega (arith, summed n, one (suc n) (omega arith) (mark marks (suc n)))
 
--- all benches are counted
-pub measure_end : {s : Size} {loads : List ℕ} {marks : List Bool} {count jobs x : ℕ} → Measuring loads marks count jobs x → x ≡ s.benches + 1 → Measured s loads marks (record { benches = count; jobs = jobs })
-measure_end {s} m e =
-    let d : m.done ≡ s.benches = omega (arith, m.next) in
-    record { benches = rw d at m.counted; jobs = rw d at m.added }
-
 -- writing
 
 -- the marked benches before x are written
@@ -139,10 +128,6 @@ pub record Writing (list₀ : List ℕ) (marks : List Bool) (list : List ℕ) (c
   pub counted : count ≡ length (passing (mark marks) done)
   pub bytes : list ≡ in_list (passing (mark marks) done) list₀
   pub long : length list ≡ length list₀
-
--- no bench is written yet
-pub write_start : (list : List ℕ) (marks : List Bool) → Writing list marks list 0 1
-write_start list marks = record { done = 0; next = refl; counted = refl; bytes = refl; long = refl }
 
 -- there is room for a marked bench
 pub write_room : {list₀ : List ℕ} {marks : List Bool} {list : List ℕ} {count x : ℕ} (s : Size) → Writing list₀ marks list count x → mark marks x ≡ true → x ≤ s.benches → 2 * length (marked s marks) ≤ length list₀ → 2 * count + 1 < length list
@@ -183,11 +168,6 @@ write_end s m e =
 
 -- marking the heavy benches
 
--- a test tells what is the same
-tells_same : {P Q : Type 0} → P ↔ Q → (z : Bool) → Tells P z → Tells Q z
-tells_same e true p = e.0 p
-tells_same e false n = λ q. n (e.1 q)
-
 -- a bench before x has less
 abbrev Less : List ℕ → ℕ → ℕ → Type 0
 Less loads h x = (y : ℕ) × (1 ≤ y) × (y < x) × (at loads y < h)
@@ -210,59 +190,6 @@ mark_start loads h benches {marks} e =
       heavy = λ y. (λ t. absurd (T_not (mark marks y) (false→not (mark marks y) (array_at (most_benches + 1) e y)) t), λ p. absurd (omega (arith, p.least, p.before)));
       others = λ (y, p, q, r). omega arith;
     }
-
-module _ {loads : List ℕ} {h benches : ℕ} {marks : List Bool} {less : Bool} {x : ℕ} (m : Marking loads h benches marks less x) where
-  module _ (u : x ≤ benches) where
-    -- bench x is heavy, and marked ..
-    pub mark_turn : x ≤ most_benches → h ≤ at loads x → Marking loads h benches (set marks x true) less (x + 1)
-    mark_turn b l =
-        record {
-          least = omega arith;
-          most = omega arith;
-          long = marks_set marks x m.long;
-          heavy = λ y. heavy y (compared y x);
-          others = tells_same (λ (y, p, q, r). (y, p, omega arith, r), before) less m.others;
-        }
-      where
-        heavy : (y : ℕ) → {z : Bool} → Compared y x z → T (mark (set marks x true) y) ↔ Passed loads h (x + 1) y
-        heavy y (same e) =
-            rw e (
-              λ t. record { least = m.least; before = omega arith; heavy = l },
-              λ p. true→T (mark (set marks x true) x) (get_or-set_same marks x true false (omega (arith, m.long.long))),
-            )
-        heavy y (other d) =
-            rw (get_or-set_other marks x y true false d) (
-              λ t. passed_on ((m.heavy y).0 t),
-              λ p. (m.heavy y).1 (passed_before d p),
-            )
-
-        before : Less loads h (x + 1) → Less loads h x
-        before (y, p, q, r) = elim (ℕ_discrete y x) [ yes e ↦ absurd (omega (arith, ap (at loads) e)) | no d ↦ (y, p, omega arith, r) ]
-
-    -- .. or has less
-    pub mark_pass : at loads x < h → Marking loads h benches marks true (x + 1)
-    mark_pass l =
-        record {
-          least = omega arith;
-          most = omega arith;
-          long = m.long;
-          heavy = λ y. (λ t. passed_on ((m.heavy y).0 t), λ p. (m.heavy y).1 (passed_light l p));
-          others = (x, m.least, omega arith, l);
-        }
-
-  -- the heavy benches are marked ..
-  pub mark_end : (s : Size) → benches ≡ s.benches → benches < x → HeavyMarked s loads h marks
-  mark_end s e u =
-      let all = passed_all loads h x s (omega (arith, m.most)) in
-      record { long = m.long; heavy = λ y. (λ t. (all y).0 ((m.heavy y).0 t), λ b. (m.heavy y).1 ((all y).1 b)) }
-
-  -- .. and it is told whether there are others
-  pub mark_told : (s : Size) → benches ≡ s.benches → benches < x → Tells (Lighter s loads h) less
-  mark_told s e u =
-      tells_same (
-        λ (y, p, q, r). (y, record { least = p; most = omega (arith, m.most) }, r),
-        λ (y, b, r). (y, b.least, omega (arith, b.most), r),
-      ) less m.others
 
 -- the tight set as marks
 

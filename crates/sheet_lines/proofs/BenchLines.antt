@@ -9,7 +9,7 @@ use Rattle.spec_sheet.proofs.SheetLengths.{first_length, more_lines, more_count,
 use Rattle.sheet_fields.specs.Page.{with_text}
 use Rattle.sheet_fields.proofs.Page.{text_none, text_then}
 use Rattle.sheet_jobs.specs.JobLists.{ListFrom}
-use Rattle.sheet_lines.specs.WrittenLines.{Listed, LineWritten, PageRoom, BenchWritten}
+use Rattle.sheet_lines.specs.WrittenLines.{LineWritten, PageRoom, BenchWritten}
 use Rattle.sheet_lines.proofs.ListedJobs.{list_small, list_none, list_some}
 
 -- some lines behind the first are written: what is left of the list makes the whole
@@ -19,11 +19,7 @@ pub record LinesLeft (next page₀ page : List ℕ) (end₀ end j : ℕ) (js : L
   pub whole : with_text page end (more_lines left) ≡ with_text page₀ end₀ (more_lines js)
   pub ends : end + 69 * more_count left ≡ end₀ + 69 * more_count js
 
--- none
-pub lines_start : {next js : List ℕ} {j : ℕ} (page : List ℕ) (end : ℕ) → ListFrom next j js → LinesLeft next page page end end j js
-lines_start {next} {js} {j} page end l = record { left = js; from = l; whole = refl; ends = refl }
-
--- one more
+-- one more is written
 pub lines_turn : {next page₀ page page' js : List ℕ} {end₀ end j r : ℕ} → (j ≡ 0 → ⊥) → end ≤ length page → LinesLeft next page₀ page end₀ end j js → LineWritten next page page' more_head end j r → LinesLeft next page₀ page' end₀ (end + 69) r js
 lines_turn {next} {page₀} {page} {page'} {js} {end₀} {end} {j} {r} n h c w =
     let some = list_some c.from n in
@@ -44,11 +40,7 @@ module _ {next page page₀ page' head : List ℕ} {at first j₀ end j : ℕ} (
   jobs_left {js} l = c (drop 12 js) (w.rest js l)
 
   module _ (room : PageRoom next page at first) where
-    -- job j begins a list ..
-    pub left_listed : Listed next j
-    left_listed = let left = jobs_left room.from in (left.left, left.from)
-
-    -- .. and as long as it is a job, the page has room for a line
+    -- as long as j is a job, the page has room for a line
     pub left_room : (j ≡ 0 → ⊥) → end + 69 ≤ length page
     left_room n =
         let left = jobs_left room.from in
