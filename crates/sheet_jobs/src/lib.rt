@@ -11,7 +11,7 @@ use table_size::{PerBench, PerJob, Size};
 
 // Lists the jobs by the benches that hold them, whatever the order of the chains is: `head` gets each bench's first
 // job, `next` the one after each. The numbers without a job come under 0.
-// Kept: no call of lists::list_by, which reads its keys from an array: writing the holders there is one more pass.
+// Kept: no call of lists::list_by, no plainer: a loop as long as this one would first fill the array of its keys.
 pub fn list_jobs(t: &[u8], s: Size, head: &mut PerBench<u16>, next: &mut PerJob<u16>)
     requires sound_table { SoundTable t.now s }
     requires head_value { head.old ≡ replicate (most_benches + 1) 0 }
