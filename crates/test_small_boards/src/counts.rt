@@ -43,6 +43,7 @@ pub enum Deed {
     Closed(usize),
     Levelled(u32),
     Stopped(u32),
+    // Kept: the number; no plainer as an enum, since the board's refusal and the solver's are two, and counted alike.
     Refused(u32),
     Answered,
 }

@@ -35,6 +35,7 @@ fn read_full(input: &mut impl Read, bytes: &mut [u8]) -> usize
     ensures { result ≤ length bytes.new }
 {
     let mut done = 0;
+    // Kept: counts by what each read gives, and the count is the answer; a subslice that gets shorter is no plainer.
     while done < bytes.len() {
         let n = input.read(&mut bytes[done..]).unwrap_or(0);
         if n == 0 {
