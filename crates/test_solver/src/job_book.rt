@@ -5,6 +5,7 @@ use crate::bench_loads::{Excesses, Loads};
 use crate::{MOST_JOBS, Size};
 
 // Why a call is to be refused, with document 01's number.
+// Kept: beside the board's own enum, what may not change: the solver takes nothing from what it tests.
 #[derive(Clone, Copy, PartialEq, Eq)]
 pub enum Refusal {
     Sizes = 1,
