@@ -22,6 +22,9 @@ pub struct Reader {
 }
 
 impl Reader {
+    // The bytes kept of a line: one more than a readable line may have.
+    pub const KEPT_MOST: usize = 41;
+
     // Begins before the first byte.
     pub fn new() -> Reader
         ensures { Begins result }
