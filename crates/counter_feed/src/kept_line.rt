@@ -1,10 +1,12 @@
 // What is kept of the present line.
 ghost use Rattle.std.specs.Prelude.{◌≤◌, length};
 
+use crate::Reader;
+
 // The line's first bytes: of a longer line they stand for all of it.
 #[derive(Clone, Copy)]
 pub struct Line {
-    bytes: [u8; Line::KEPT_MOST],
+    bytes: [u8; Reader::KEPT_MOST],
     held: usize,
     pub ghost within: { held ≤ length bytes },
 }
@@ -13,16 +15,13 @@ impl Line {
     ghost use Rattle.std.specs.Prelude.{◌≡◌, ◌==◌, take};
     ghost use Rattle.counter_feed.specs.Feeding.{kept_most, Appended};
 
-    // The bytes kept of a line: one more than a readable line may have.
-    const KEPT_MOST: usize = 41;
-
     // Begins a line.
     pub fn new() -> Line
         ensures long { length result.bytes ≡ kept_most }
         ensures held { result.held ≡ 0 }
     {
         Line {
-            bytes: [0; Line::KEPT_MOST],
+            bytes: [0; Reader::KEPT_MOST],
             held: 0,
         }
     }
@@ -45,7 +44,7 @@ impl Line {
     pub fn append(&mut self, byte: u8)
         ensures { Appended self.old self.new byte }
     {
-        if self.held < Line::KEPT_MOST {
+        if self.held < Reader::KEPT_MOST {
             self.bytes[self.held] = byte;
             self.held += 1;
         }

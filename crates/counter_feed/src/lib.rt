@@ -1,7 +1,8 @@
 // The counter program on slices: its input comes in pieces of any size, and each complete line is replied to.
 #![tactic(auto)]
 
-ghost use Rattle.std.specs.Prelude.{[], ◌∷◌};
+ghost use Rattle.std.specs.Prelude.{[], ◌∷◌, ◌≡◌, ◌≢◌};
+ghost use Rattle.spec_text.specs.Numbers.{line_feed};
 ghost use Rattle.counter_printing.specs.Wrote.{HasRoom};
 ghost use Rattle.counter_answer_lines.specs.AnswerLines.{line_most};
 ghost use Rattle.counter_feed.specs.Feeding.{place_of, Stands, TakesByte, Feeds, Finishes, Begins};
@@ -22,6 +23,9 @@ pub struct Reader {
 }
 
 impl Reader {
+    // The bytes kept of a line: one more than a readable line may have.
+    pub const KEPT_MOST: usize = 41;
+
     // Begins before the first byte.
     pub fn new() -> Reader
         ensures { Begins result }
@@ -37,8 +41,9 @@ impl Reader {
 fn take_byte(reader: &mut Reader, byte: u8, bytes: &mut TableBytes, out: &mut Output<'_>)
     requires stands { Stands reader.old bytes.old }
     requires room { HasRoom out.old line_most }
-    ensures { TakesByte (place_of reader.old bytes.old) (byte ∷ []) reader.new bytes.new
+    ensures takes { TakesByte (place_of reader.old bytes.old) (byte ∷ []) reader.new bytes.new
         out.old out.new }
+    ensures silent { byte ≢ line_feed → out.new ≡ out.old }
 {
     if byte == b'\n' {
         counter_reply::to_line(&mut reader.counter, reader.line.as_slice(), bytes, out);
@@ -61,10 +66,11 @@ pub fn feed(
         out.old out.new }
 {
     for (used, &byte) in chunk.iter().enumerate() {
-        if out.room() < LINE_MOST {
-            return used;
-        }
         take_byte(reader, byte, bytes, out);
+        // Only a reply takes room.
+        if byte == b'\n' && out.room() < LINE_MOST {
+            return used + 1;
+        }
     }
     chunk.len()
 }

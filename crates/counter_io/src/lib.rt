@@ -15,7 +15,9 @@ use table_size::Size;
 const BUFFER_BYTES: usize = 65536;
 
 // Reads once, so many bytes at the most; gives none where the input ends or can't be read.
-fn read_some<'a, R: Read>(input: &mut R, chunk: &'a mut [u8], most: usize) -> &'a [u8] {
+fn read_some<'a, R: Read>(input: &mut R, chunk: &'a mut [u8], most: usize) -> &'a [u8]
+    ensures { length result.now ≤ length chunk.old }
+{
     let most = most.min(chunk.len());
     let count = input.read(&mut chunk[..most]).unwrap_or(0);
     &chunk[..count]

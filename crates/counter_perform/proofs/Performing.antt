@@ -14,7 +14,7 @@ use Rattle.spec_sharing.specs.Sharing.{arrive, close, tight_set}
 use Rattle.spec_calls.specs.Answers.{Outcome, in_numbers, refused_or, first_holding, said, blanked, refusal_number}
 use Rattle.spec_calls.specs.Answers.{Refusal as Why}
 use Rattle.spec_calls.specs.Calls.{Call, Arriving, Closing, outcome, blanking, arrival, closing, ask, heaviest_load, tight_set_of, lent_to, arrival_outcome, closing_outcome, telling, answering, asked, accepted, tight_set_told, refusals}
-use Rattle.spec_calls.specs.Tally.{zero_tally, noted}
+use Rattle.spec_calls.specs.Tally.{Tally, zero_tally, noted}
 use Rattle.spec_calls.proofs.Blanking.{blanking_refused}
 use Rattle.spec_table.proofs.Words.{in_list_long}
 use Rattle.spec_counter.specs.Counter as paper
@@ -33,7 +33,7 @@ use Rattle.counter_printing.specs.Wrote.{Wrote}
 use Rattle.counter_printing.specs.declared.Output.{Output}
 use Rattle.counter_printing.proofs.WrittenText.{wrote_as}
 use Rattle.counter_answer_lines.specs.AnswerLines.{line_most, refusal_text, answer_text, listing_text}
-use Rattle.counter_state.specs.State.{table_most, counter_of}
+use Rattle.counter_state.specs.State.{table_most, counter_of, Room}
 use Rattle.counter_state.specs.declared.Counter.{Counter}
 use Rattle.counter_perform.specs.Performed.{Replies, Performs}
 
@@ -45,13 +45,24 @@ part_kept n d e h k = (take_at e (drop n d) n (k ∙ length-take-le n d h), leng
 abbrev pub Printed : Output → Output → List ℕ → Type 0
 Printed o p text = record { wrote : Wrote o p text; short : p.written ≤ o.written + line_most }
 
+-- a counter, its table of so many bytes and this tally, with a text that was written, no longer than a line
+pub record AnswerPrinted (size : ℕ) (counts : Tally) (text : List ℕ) (before after : Output) (c : Counter) : Type 0 where
+  pub length : c.length ≡ size
+  pub tally : tally_of c.tally ≡ counts
+  pub wrote : Wrote before after text
+  pub short : after.written ≤ before.written + line_most
+
+-- a counter as it is, with a line that is written
+pub printed_as : (c : Counter) {text text' : List ℕ} {before after : Output} → text ≡ text' → Wrote before after text → after.written ≤ before.written + line_most → AnswerPrinted c.length (tally_of c.tally) text' before after c
+printed_as c e w h = record { length = refl; tally = refl; wrote = wrote_as e w; short = h }
+
 -- what is told is the reply, where the bytes hold the state's table
-replied : {next : paper.Counter} {text text' bytes : List ℕ} {before after : Output} {c : Counter} → length bytes ≡ table_most → take c.length bytes ≡ next.table → tally_of c.tally ≡ next.tally → text ≡ text' → Printed before after text → Replies next text' bytes before after c
-replied {next} {text} {text'} {bytes} {before} {after} {c} l t y e told =
+replied : {next : paper.Counter} {n : ℕ} {tally : Tally} {text bytes : List ℕ} {before after : Output} {c : Counter} → length bytes ≡ table_most → n ≤ table_most → take n bytes ≡ next.table → tally ≡ next.tally → AnswerPrinted n tally text before after c → Replies next text bytes before after c
+replied {next} {n} {tally} {text} {bytes} {before} {after} {c} l h t y told =
     record {
-      room = record { long = l; within = c.within };
-      state = λ i. record { table = t i; tally = y i };
-      wrote = wrote_as e told.wrote;
+      room = record { long = l; within = subst (λ (m : ℕ). m ≤ table_most) (sym told.length) h };
+      state = λ i. record { table = (ap (λ (m : ℕ). take m bytes) told.length ∙ t) i; tally = (told.tally ∙ y) i };
+      wrote = told.wrote;
       short = told.short;
     }
 
@@ -89,15 +100,19 @@ blanks : (benches jobs : ℕ) (t : List ℕ) → sizes_fit (length t) benches jo
 unfolding blanking
 blanks benches jobs t e = rw e
 
+-- the program has bytes for every size
+size_within : (benches jobs : ℕ) {s : Size} {n : ℕ} → SizeFor benches jobs (Ok s) → n ≡ length_for s.benches s.jobs → n ≤ table_most
+size_within benches jobs {s} {n} e b = omega (arith, (fit_sizing benches jobs s e).0)
+
 -- a part is as long as it is taken
-part_long : (n : ℕ) (d : List ℕ) → length d ≡ table_most → n ≤ table_most → n ≡ length (take n d)
+pub part_long : (n : ℕ) (d : List ℕ) → length d ≡ table_most → n ≤ table_most → n ≡ length (take n d)
 part_long n d l h = sym (length-take-le n d (omega arith))
 
-module _ (c : Counter) (d : List ℕ) (long : length d ≡ table_most) where
+module _ {c : Counter} {d : List ℕ} (room : Room c d) where
   module _ {before after : Output} where
     -- the state stays
     pub stays : {text text' : List ℕ} → text ≡ text' → Printed before after text → Replies (counter_of c d) text' d before after c
-    stays e told = replied long refl refl e told
+    stays e told = replied room.long room.within refl refl (printed_as c e told.wrote told.short)
 
     -- "a refused B keeps the old table"
     pub misfit_replies : (benches jobs : ℕ) {r : Refusal} → SizeFor benches jobs (Err r) → Printed before after (refusal_text (refusal_number (refusal_of r))) → Performs (set_table benches jobs) (counter_of c d) d before after c
@@ -124,11 +139,11 @@ module _ (c : Counter) (d : List ℕ) (long : length d ≡ table_most) where
           -- an arrival or a closing: its answer is noted, and the jobs that it moved are listed
           changes : (letter k : ℕ) {o : Outcome} {ms : List ℕ} → Leaves o a u l → ns ≡ ms → Printed before after (listing_text letter ns k (answer_of a) l) → Replies (record { table = o.table; tally = (noted (tally_of c.tally) o.answer).tally }) (listing_text letter ms k o.answer o.lent) (u ++ drop c.length d) before after b
           changes letter k {o} v e told =
-              let w = part_kept c.length d u (omega (arith, c.within)) kept in
-              replied (w.1 ∙ long)
+              let w = part_kept c.length d u (omega (arith, room.long, room.within)) kept in
+              replied (w.1 ∙ room.long) (subst (λ (m : ℕ). m ≤ table_most) (sym same) room.within)
               (ap (λ (m : ℕ). take m (u ++ drop c.length d)) same ∙ w.0 ∙ v.bytes)
               (counts ∙ (λ i. (noted (tally_of c.tally) (v.answer i)).tally))
-              (λ i. listing_text letter (e i) k (v.answer i) (v.lent i)) told
+              (printed_as b (λ i. listing_text letter (e i) k (v.answer i) (v.lent i)) told.wrote told.short)
 
           -- "A job, holder, bench that rose, moved", then the moved jobs
           pub arrival_replies : (j x y : ℕ) → Leaves (outcome (arrival (record { job = j; given = x ∷ y ∷ []; list = list })) (take c.length d)) a u l → ns ≡ j ∷ [] → Printed before after (listing_text (code "A") ns 3 (answer_of a) l) → Performs (take_in j x y) (counter_of c d) (u ++ drop c.length d) before after b
@@ -144,10 +159,11 @@ module _ (c : Counter) (d : List ℕ) (long : length d ≡ table_most) where
       pub table_replies : (benches jobs : ℕ) (s : Size) {b : Counter} → SizeFor benches jobs (Ok s) → b.length ≡ length_for s.benches s.jobs → Leaves (blanking benches jobs (take b.length d)) a u [] → length u ≡ length (take b.length d) → tally_of b.tally ≡ zero_tally → ns ≡ benches ∷ jobs ∷ [] → Printed before after (answer_text (code "B") ns (answer_of a) []) → Performs (set_table benches jobs) (counter_of c d) (u ++ drop b.length d) before after b
       unfolding line_for done after
       table_replies benches jobs s {b} e n v kept z f told =
-          let k = part_kept b.length d u (omega (arith, b.within)) kept in
-          let own = blanks benches jobs (take b.length d) (sizes_fit_lem (length (take b.length d)) benches jobs s e (sym (part_long b.length d long b.within) ∙ n)) in
+          let within = size_within benches jobs e n in
+          let k = part_kept b.length d u (omega (arith, room.long, within)) kept in
+          let own = blanks benches jobs (take b.length d) (sizes_fit_lem (length (take b.length d)) benches jobs s e (sym (part_long b.length d room.long within) ∙ n)) in
           let fits = sizes_fit_lem (length_for benches jobs) benches jobs s e (let q = (fit_sizing benches jobs s e) in λ i. length_for (sym q.1 i) (sym q.2 i)) in
           let theirs = blanks benches jobs (paper.room benches jobs) (ap (λ (m : ℕ). sizes_fit m benches jobs) (room_fits benches jobs fits) ∙ fits) in
           let w : answer_of a ≡ said blanked = v.answer ∙ ap (λ (o : Outcome). o.answer) own in
           rw theirs
-          (replied (k.1 ∙ long) (k.0 ∙ v.bytes ∙ ap (λ (o : Outcome). o.table) own) z (λ i. answer_text (code "B") (f i) (w i) []) told)
+          (replied (k.1 ∙ room.long) within (k.0 ∙ v.bytes ∙ ap (λ (o : Outcome). o.table) own) z (printed_as b (λ i. answer_text (code "B") (f i) (w i) []) told.wrote told.short))

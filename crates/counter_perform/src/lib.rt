@@ -4,7 +4,7 @@
 ghost use Rattle.spec_counter.specs.Counter.{take_in, close_job, set_table, ask_tight_set, ask_heaviest};
 ghost use Rattle.counter_printing.specs.Wrote.{HasRoom};
 ghost use Rattle.counter_answer_lines.specs.AnswerLines.{line_most};
-ghost use Rattle.counter_state.specs.State.{counter_of};
+ghost use Rattle.counter_state.specs.State.{Room, counter_of};
 ghost use Rattle.counter_perform.specs.Performed.{Performs};
 
 use board_answers::Values;
@@ -22,7 +22,8 @@ pub fn set_table(
     bytes: &mut TableBytes,
     out: &mut Output<'_>,
 )
-    requires { HasRoom out.old line_most }
+    requires room { Room counter.old bytes.old }
+    requires out_room { HasRoom out.old line_most }
     ensures { Performs (set_table benches jobs) (counter_of counter.old bytes.old) bytes.new
         out.old out.new counter.new }
 {
@@ -54,7 +55,8 @@ pub fn take_in(
     bytes: &mut TableBytes,
     out: &mut Output<'_>,
 )
-    requires { HasRoom out.old line_most }
+    requires room { Room counter.old bytes.old }
+    requires out_room { HasRoom out.old line_most }
     ensures { Performs (take_in job first second) (counter_of counter.old bytes.old) bytes.new
         out.old out.new counter.new }
 {
@@ -77,7 +79,8 @@ pub fn take_in(
 
 // Performs "D job", and prints "D job, bench that fell, moved", then the moved jobs.
 pub fn close_job(counter: &mut Counter, job: usize, bytes: &mut TableBytes, out: &mut Output<'_>)
-    requires { HasRoom out.old line_most }
+    requires room { Room counter.old bytes.old }
+    requires out_room { HasRoom out.old line_most }
     ensures { Performs (close_job job) (counter_of counter.old bytes.old) bytes.new out.old
         out.new counter.new }
 {
@@ -94,7 +97,8 @@ pub fn close_job(counter: &mut Counter, job: usize, bytes: &mut TableBytes, out:
 
 // Performs "S height", and prints "S height, benches, inside jobs, then the benches".
 pub fn ask_tight_set(counter: &Counter, height: usize, bytes: &TableBytes, out: &mut Output<'_>)
-    requires { HasRoom out.old line_most }
+    requires room { Room counter.now bytes.now }
+    requires out_room { HasRoom out.old line_most }
     ensures { Performs (ask_tight_set height) (counter_of counter.now bytes.now) bytes.now
         out.old out.new counter.now }
 {
@@ -110,7 +114,8 @@ pub fn ask_tight_set(counter: &Counter, height: usize, bytes: &TableBytes, out: 
 
 // Performs "H", and prints "H heaviest".
 pub fn ask_heaviest(counter: &Counter, bytes: &TableBytes, out: &mut Output<'_>)
-    requires { HasRoom out.old line_most }
+    requires room { Room counter.now bytes.now }
+    requires out_room { HasRoom out.old line_most }
     ensures { Performs ask_heaviest (counter_of counter.now bytes.now) bytes.now out.old
         out.new counter.now }
 {

@@ -52,16 +52,19 @@ impl<'a> Output<'a> {
         self.written += 1;
     }
 
-    // Writes the digits of a number, the last one behind the others: as many calls deep as there are digits.
+    // Writes the digits of a number, the last one behind the others: as many calls deep as there are digits. Most
+    // numbers have one, which needs neither a division nor a call.
     // Kept: by hand, since `number` can't fail and `write!` may, for all that it promises.
     fn decimal(&mut self, n: usize)
         requires { HasRoom self.old (length (digits n n)) }
         ensures { Wrote self.old self.new (digits n n) }
     {
-        if 10 <= n {
+        if n < 10 {
+            self.byte(b'0' + n as u8);
+        } else {
             self.decimal(n / 10);
+            self.byte(b'0' + (n % 10) as u8);
         }
-        self.byte(b'0' + (n % 10) as u8);
     }
 
     // Writes a space and a number.

@@ -4,7 +4,7 @@
 ghost use Rattle.counter_commands.specs.Read.{command_of};
 ghost use Rattle.counter_printing.specs.Wrote.{HasRoom};
 ghost use Rattle.counter_answer_lines.specs.AnswerLines.{line_most};
-ghost use Rattle.counter_state.specs.State.{counter_of};
+ghost use Rattle.counter_state.specs.State.{Room, counter_of};
 ghost use Rattle.counter_perform.specs.Performed.{Performs};
 ghost use Rattle.counter_reply.specs.Replies.{RepliesTo};
 
@@ -15,7 +15,8 @@ use table_refusals::Refusal;
 
 // Makes a command's call and prints its line.
 fn perform(counter: &mut Counter, command: Command, bytes: &mut TableBytes, out: &mut Output<'_>)
-    requires { HasRoom out.old line_most }
+    requires room { Room counter.old bytes.old }
+    requires out_room { HasRoom out.old line_most }
     ensures { Performs (command_of command) (counter_of counter.old bytes.old) bytes.new
         out.old out.new counter.new }
 {
@@ -34,7 +35,8 @@ fn perform(counter: &mut Counter, command: Command, bytes: &mut TableBytes, out:
 
 // Replies to a line, given without its line feed.
 pub fn to_line(counter: &mut Counter, line: &[u8], bytes: &mut TableBytes, out: &mut Output<'_>)
-    requires { HasRoom out.old line_most }
+    requires room { Room counter.old bytes.old }
+    requires out_room { HasRoom out.old line_most }
     ensures { RepliesTo line.now (counter_of counter.old bytes.old) bytes.new
         out.old out.new counter.new }
 {

@@ -1,8 +1,7 @@
 // What the counter program keeps.
 #![tactic(auto)]
 
-ghost use Rattle.std.specs.Prelude.{◌≡◌, ◌≤◌};
-ghost use Rattle.spec_table.specs.Table.{length_for, most_benches, most_jobs};
+ghost use Rattle.std.specs.Prelude.{◌≡◌};
 ghost use Rattle.spec_counter.specs.Counter.{counter_list};
 
 use board_answers::Answer;
@@ -22,7 +21,6 @@ pub type TableBytes = [u8; Size::MOST_BYTES];
 pub struct Counter {
     pub length: usize,
     pub tally: Tally,
-    pub ghost within: { length ≤ length_for most_benches most_jobs },
 }
 
 impl Counter {

@@ -1,0 +1,2 @@
+-- What is proved of reading and writing.
+pub mod Serving
