@@ -1,2 +1,3 @@
--- Lists by key.
+-- Lists by key, keys of benches.
 pub mod Listing
+pub mod Keying

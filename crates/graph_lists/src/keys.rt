@@ -6,6 +6,7 @@ use table_size::PerBench;
 
 // Tells whether a wanted bench, one with a key of at most `limit`, stands in the queue from place `begin` to
 // `end`.
+#[tactic(auto, using(crate::proofs::Keying::wanted_turn, crate::proofs::Keying::wanted_end))]
 pub fn wanted_among(
     queue: &PerBench<u16>,
     begin: usize,

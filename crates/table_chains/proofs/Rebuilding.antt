@@ -207,12 +207,23 @@ pub record Pushing (t u : List ℕ) (s : Size) (n j : ℕ) : Type 0 where
   pub rest : pushed_from j (layout_in u) ≡ pushed_from s.jobs (layout_in t)
   pub count : n ≡ standing_after (decode t) j
 
+-- at first none was pushed ..
+pub pushing_start : (t : List ℕ) (s : Size) → HoldsBoard t s → Pushing t t s 0 s.jobs
+pushing_start t s k =
+    record {
+      number = omega arith;
+      holds_board = k;
+      board = refl;
+      rest = refl;
+      count = rw (sym k.size.board_jobs, drop-length (decode t).named);
+    }
+
 -- what stands counts 1
 from_bit : (b : Bool) → from_bool b ≡ bit b
 from_bit true = refl
 from_bit false = refl
 
--- each turn pushes the next one down ..
+-- .. each turn pushes the next one down ..
 pub pushing_turn : {t u v : List ℕ} {s : Size} {n m j : ℕ} {stood : Bool} → 1 ≤ j → Pushing t u s n j → Pushed u v s j stood → m ≡ from_bool stood → Pushing t v s (n + m) (j - 1)
 pushing_turn {j = zero} l p q f = absurd (omega arith)
 pushing_turn {t} {m} {j = suc j} {stood} l p q f =
@@ -229,7 +240,11 @@ pushing_turn {t} {m} {j = suc j} {stood} l p q f =
       count = omega (arith, p.count, standing_step (decode t) j few);
     })
 
--- .. and those that were pushed and stand are no more than the jobs ..
+-- .. and at last all were pushed
+pub pushing_end : {t u : List ℕ} {s : Size} {n : ℕ} → Pushing t u s n 0 → Linked t u s n
+pushing_end p = record { holds_board = p.holds_board; board = p.board; layout = p.rest; count = p.count }
+
+-- those that were pushed and stand are no more than the jobs ..
 pub pushing_few : {t u : List ℕ} {s : Size} {n j : ℕ} → Pushing t u s n j → n ≤ s.jobs
 pushing_few {t} {u} {s} {n} {j} p =
     let named : List (List ℕ) = (decode t).named in

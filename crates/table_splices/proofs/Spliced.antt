@@ -3,19 +3,19 @@ use Prim.Native.Nat.{ℕ, zero, suc, ◌+◌, ◌-◌, ◌≤◌, ◌<◌}
 use native.Mathlib.Omega.{arith}
 use native.Mathlib.Decide.{ℕ_discrete}
 use mathlib.Core.Path.{◌≡◌, refl, sym, ap, subst, ◌∙◌}
-use mathlib.Core.Logic.{◌≢◌}
+use mathlib.Core.Logic.{◌⊎◌, ◌≢◌}
 use mathlib.Core.Bool.{false, not}
 use mathlib.Core.List.{List, [], ◌∷◌}
 use lib.Dec.{T, not_T}
 use lib.ListN.{length, get_or}
 use Rattle.spec_lists.specs.Lists.{bit, member, empty, update}
 use Rattle.spec_table.specs.Board.{names_of, holder_of, stands, standing, put, held_by, names_fit}
-use Rattle.spec_table.specs.Table.{Entry, vacant, Layout, entry_for, decode, Storable}
+use Rattle.spec_table.specs.Table.{Entry, vacant, Layout, position_of, entry_for, decode, Storable}
 use Rattle.spec_lists.proofs.Tests.{T→true, false→not}
 use Rattle.spec_lists.proofs.Elements.{empty_in, is_empty, length_filter, two_elements, each_nth, length_update, update_same}
 use Rattle.spec_lists.proofs.NumberLists.{member_in}
 use Rattle.spec_table.proofs.Named.{fit_bench, holder_none, holder_bench, named_stands, named_bench}
-use Rattle.spec_table.proofs.Splicing.{Lowest, Before, Linked, link_in, Recorded, entry_names, entry_next, standing_put}
+use Rattle.spec_table.proofs.Splicing.{Lowest, Before, Linked, link_in, Recorded, entry_names, entry_next, holder_two, standing_put}
 use Rattle.table_words.specs.Bytes.{layout_in}
 use Rattle.table_size.specs.Sizes.{JobIn, BenchIn}
 use Rattle.table_size.specs.Written.{record_in, HasLayout, with_entry, with_standing}
@@ -37,6 +37,19 @@ use Rattle.table_splices.proofs.Chained.{gap_before, kept_chain, other_chain, pu
 -- the bench that is to hold it is one of 1 to B
 pub fillable_bench : {s : Size} {j h : ℕ} {names : List ℕ} → Fillable s j names h → BenchIn s h
 fillable_bench {s} {h} {names} f = bench_in s h (fit_bench s.benches names h f.fit (member_in h names f.held))
+
+-- the word p for the holder h of a job whose first-named bench is a: 1 for that one, 2 for the other
+abbrev pub PlaceFor : ℕ → ℕ → ℕ → Type 0
+PlaceFor a h p = ((a ≡ h) × (p ≡ 1)) ⊎ ((a ≡ h → ⊥) × (p ≡ 2))
+
+-- its record is written and then the link to it
+pub put_in : {t u v : List ℕ} {s : Size} {j first second h w : ℕ} (gap : Gap) → Fillable s j (first ∷ second ∷ []) h → PlaceFor first h w → HasLayout u s (with_entry (layout_in t) j (record { names = first ∷ second ∷ []; holder = w; next = gap.behind })) → HasLayout v s (linked (layout_in u) h gap.before j) → Inserted t v s j (first ∷ second ∷ []) h gap
+put_in {t} {u} {v} {s} {j} {first} {second} {h} {w} gap f word one two =
+    let names : List ℕ = first ∷ second ∷ [] in
+    let at : w ≡ position_of h names = holder_two names h w refl (member_in h names f.held) word in
+    let written : layout_in u ≡ with_entry (layout_in t) j (entry_for names h gap.behind) =
+    one.layout ∙ ap (λ (p : ℕ). with_entry (layout_in t) j (record { names = names; holder = p; next = gap.behind })) at in
+    record { layout = record { size = two.size; layout = two.layout ∙ ap (λ (l : Layout). linked l h gap.before j) written } }
 
 -- two names, one by one
 two_names : {names : List ℕ} → length names ≡ 2 → get_or names 0 0 ∷ get_or names 1 0 ∷ [] ≡ names

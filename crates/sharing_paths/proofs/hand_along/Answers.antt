@@ -1,9 +1,12 @@
 use Prim.Native.Nat.{◌+◌}
 use native.Mathlib.Omega.{arith}
 use Rattle.spec_table.specs.Table.{decode}
-use Rattle.sharing_paths.proofs.HandingAlong.{Handing, handing_job, handing_named, handing_turn}
+use Rattle.sharing_paths.proofs.HandingAlong.{Handing, handing_start, handing_job, handing_named, handing_turn, handing_end}
 use Rattle.sharing_paths.proofs.hand_along.Goals as goal
 use Rattle.sharing_paths.proofs.hand_along.Goals.{At-loop-place}
+
+pub loop-place-init : goal.loop-place-init
+loop-place-init c = λ x r k. handing_start c.requires.in_order k
 
 -- the route that there is, as far as it has gone
 handing : (c : At-loop-place) → Handing (decode c.args.t.now) c.requires.by_index.1 c.loop-place.t c.args.s c.args.path.now c.loop-place.place c.args.n c.args.end
@@ -20,3 +23,6 @@ hand_job-requires-clause-t c =
 pub loop-place-preserved : goal.loop-place-preserved
 loop-place-preserved c = λ x r k.
     handing_turn (c.loop-place.invariant x r k) c.loop-place-test.true c.bench_after-y.ensures (rw c.from.ensures at c.hand_job.ensures)
+
+pub returns : goal.returns
+returns c = λ x r k. handing_end (c.loop-place.invariant x r k) c.loop-place-test.false

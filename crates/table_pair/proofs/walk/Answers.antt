@@ -1,7 +1,7 @@
 use Rattle.std.proofs.Common.{arith}
 use Rattle.std.proofs.lemmas.Grind.{common_steps}
 use Rattle.std.proofs.lemmas.Result.{err_from_is_err_and}
-use Rattle.table_pair.proofs.AlongChain.{ToRead, along_start, along_broken, along_match, along_turn}
+use Rattle.table_pair.proofs.AlongChain.{ToRead, along_start, along_end, along_broken, along_match, along_turn}
 use Rattle.table_pair.proofs.walk.Goals as goal
 use Rattle.table_pair.proofs.walk.Goals.{After-step_at}
 
@@ -29,3 +29,6 @@ returns-in_default c =
 pub loop-j-preserved : goal.loop-j-preserved
 loop-j-preserved c =
     along_turn c.requires.size_of c.loop-j.invariant (to_read (goal.at.loop-j-preserved c).After-step_at) (rw c.in-Some.is at c.in_ok-next.ensures)
+
+pub returns : goal.returns
+returns c = along_end c.requires.size_of c.loop-j.invariant (omega arith)
