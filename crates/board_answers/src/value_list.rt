@@ -1,16 +1,14 @@
 // The values of an answer.
-ghost use Rattle.std.specs.Prelude.{◌≤◌};
 
 // Up to three numbers, of an answer or of a command.
 #[derive(Clone, Copy)]
 pub struct Values {
-    count: usize,
-    numbers: [usize; Values::MOST],
-    pub ghost count_most: { count ≤ 3 },
+    pub count: usize,
+    pub numbers: [usize; Values::MOST],
 }
 
 impl Values {
-    ghost use Rattle.std.specs.Prelude.{◌≡◌, length, ℕ};
+    ghost use Rattle.std.specs.Prelude.{◌≡◌, take, ℕ};
     ghost use Rattle.std.specs.Option.{unwrap_or};
     ghost use Rattle.spec_lists.specs.Lists.{nth};
     ghost use Rattle.board_answers.specs.Answered.{values_of};
@@ -18,14 +16,13 @@ impl Values {
     // The most numbers that there are.
     pub const MOST: usize = 3;
 
-    // Holds these numbers.
+    // Holds the first three of these numbers, all of them where there are no more.
     pub fn of(numbers: &[usize]) -> Values
-        requires { length numbers.now ≤ 3 }
-        ensures { values_of result ≡ numbers.now }
+        ensures { values_of result ≡ take 3 numbers.now }
     {
-        let count = numbers.len();
+        let count = numbers.len().min(Values::MOST);
         let mut held = [0; Values::MOST];
-        held[..count].copy_from_slice(numbers);
+        held[..count].copy_from_slice(&numbers[..count]);
         Values {
             count,
             numbers: held,
@@ -36,7 +33,7 @@ impl Values {
     pub fn as_slice(&self) -> &[usize]
         ensures { result.now ≡ values_of self.now }
     {
-        &self.numbers[..self.count]
+        &self.numbers[..self.count.min(Values::MOST)]
     }
 
     // Gives value k, counted from 1.

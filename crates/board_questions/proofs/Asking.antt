@@ -82,12 +82,15 @@ module _ {t : List ℕ} {s : Size} (z : SoundTable t s) where
 
   module _ (x : ℕ) where
     -- the load of a bench of 1 to B ..
-    pub load_told : {h : Bool} {loads : List ℕ} (n : ℕ) → Loaded (decode t) loads → h ≡ within 1 s.benches x → h ≡ true → n ≡ get_or loads x 0 → Leaves (outcome (ask (load_of x) []) t) (Ok (told.Load n)) t []
+    pub load_told : {h : Bool} (n : ℕ) → h ≡ within 1 s.benches x → h ≡ true → n ≡ load (decode t).holders x → Leaves (outcome (ask (load_of x) []) t) (Ok (told.Load n)) t []
     unfolding question_conditions asked accepted
-    load_told n l b w e =
+    load_told n b w e = answered_leaves (sound_outcome (ask (load_of x) []) tt t z.sound ∙ rw (sym (bench_of_board z x b) ∙ w, e))
+
+    -- .. as it is read from the loads ..
+    pub load_read : {h : Bool} {loads : List ℕ} (n : ℕ) → Loaded (decode t) loads → h ≡ within 1 s.benches x → h ≡ true → n ≡ get_or loads x 0 → Leaves (outcome (ask (load_of x) []) t) (Ok (told.Load n)) t []
+    load_read n l b w e =
         let own : BenchIn s x = bench_in s x (true→T (within 1 s.benches x) (sym b ∙ w)) in
-        let load = e ∙ load_at (sound_holds_board t s z) l own in
-        answered_leaves (sound_outcome (ask (load_of x) []) tt t z.sound ∙ rw (sym (bench_of_board z x b) ∙ w, load))
+        load_told n b w (e ∙ load_at (sound_holds_board t s z) l own)
 
     -- .. and 4 for any other number
     pub bench_refused : {h : Bool} → h ≡ within 1 s.benches x → h ≡ false → Leaves (outcome (ask (load_of x) []) t) (Err code.BenchNumber) t []

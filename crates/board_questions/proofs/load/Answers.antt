@@ -2,7 +2,7 @@
 use mathlib.Core.List.{[]}
 use Rattle.spec_calls.specs.Calls.{ask, load_of}
 use Rattle.board_answers.proofs.Formal.{form_refused, passed_on}
-use Rattle.board_questions.proofs.Asking.{load_told, bench_refused}
+use Rattle.board_questions.proofs.Asking.{load_read, bench_refused}
 use Rattle.board_questions.proofs.load.Goals as goal
 
 pub returns-in_err-form : goal.returns-in_err-form
@@ -12,4 +12,4 @@ pub returns-then-not-has_bench : goal.returns-then-not-has_bench
 returns-then-not-has_bench c = bench_refused c.in_ok-form.ensures.says.sound c.args.bench c.has_bench.ensures c.if-not-has_bench.true
 
 pub returns : goal.returns
-returns c = load_told c.in_ok-form.ensures.says.sound c.args.bench c.from.result c.in_ok-form.ensures.says.loaded c.has_bench.ensures c.if-not-has_bench.false c.from.ensures
+returns c = load_read c.in_ok-form.ensures.says.sound c.args.bench c.from.result c.in_ok-form.ensures.says.loaded c.has_bench.ensures c.if-not-has_bench.false c.from.ensures

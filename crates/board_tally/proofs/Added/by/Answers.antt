@@ -1,8 +1,9 @@
 -- An arrival and a closing add to their own count and to the jobs moved, any other answer and a refusal add nothing.
-use Rattle.std.proofs.Common.{refl}
+use mathlib.Core.Path.{refl}
+use Rattle.std.specs.Prelude.{Ok}
 use Rattle.spec_calls.specs.Answers.{refused}
 use Rattle.table_refusals.specs.Refusals.{refusal_of}
-use Rattle.board_answers.specs.Answered.{accepted_of}
+use Rattle.board_answers.specs.Answered.{answer_of}
 use Rattle.board_tally.proofs.Noting.{arrival_adds, closing_adds, other_adds, no_change}
 use Rattle.board_tally.proofs.Added.by.Goals as goal
 
@@ -19,4 +20,5 @@ pub returns-in_default-accepted : goal.returns-in_default-accepted
 returns-in_default-accepted c =
     let a = c.in-Ok.accepted in
     let added = c.default-in_default-accepted in
-    rw c.in-Ok.is (other_adds (accepted_of a) added.result (no_change a c.in_default-accepted.not-Arrived c.in_default-accepted.not-Closed) added.ensures)
+    let same = no_change (Ok a) (λ h r m e. c.in_default-accepted.not-Arrived h r m cc) (λ f m e. c.in_default-accepted.not-Closed f m cc) in
+    rw c.in-Ok.is (other_adds (answer_of (Ok a)) added.result same added.ensures)
