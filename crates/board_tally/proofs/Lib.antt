@@ -1,3 +1,4 @@
--- What noting an answer adds; the contracts of the tally.
+-- Noting an answer, and tallies, answers and notes as machine values.
 pub mod Noting
+pub mod Machine
 pub mod Contracts
