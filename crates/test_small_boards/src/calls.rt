@@ -34,8 +34,7 @@ impl Reply {
 
     // Tells whether the call was refused with the number that is due and left all bytes.
     pub fn is_refused(&self, before: &Board, due: job_book::Refusal) -> bool {
-        matches!(self.answer, Err(refusal) if refusal.number() == due.number())
-            && self.left_all(before)
+        board_answers::number(self.answer) == due.number() && self.left_all(before)
     }
 }
 
