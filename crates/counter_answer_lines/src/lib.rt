@@ -72,6 +72,7 @@ pub fn answer(out: &mut Output<'_>, told: Told)
 }
 
 // Prints an answer's line with the words of a list, as many as its value k says; a refusal lists none.
+#[tactic(auto, using(crate::proofs::Lines::value_number))]
 pub fn listing(out: &mut Output<'_>, told: Told, k: usize, list: &[u8])
     requires room { HasRoom out.old line_most }
     requires le_k { 1 ≤ k }

@@ -101,7 +101,7 @@ unfolding blanking
 blanks benches jobs t e = rw e
 
 -- the program has bytes for every size
-size_within : (benches jobs : ℕ) {s : Size} {n : ℕ} → SizeFor benches jobs (Ok s) → n ≡ length_for s.benches s.jobs → n ≤ table_most
+pub size_within : (benches jobs : ℕ) {s : Size} {n : ℕ} → SizeFor benches jobs (Ok s) → n ≡ length_for s.benches s.jobs → n ≤ table_most
 size_within benches jobs {s} {n} e b = omega (arith, (fit_sizing benches jobs s e).0)
 
 -- a part is as long as it is taken

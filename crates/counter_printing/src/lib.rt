@@ -52,8 +52,8 @@ impl<'a> Output<'a> {
         self.written += 1;
     }
 
-    // Writes the digits of a number, the last one behind the others: as many calls deep as there are digits. Most
-    // numbers have one, which needs neither a division nor a call.
+    // Writes the digits of a number, the last one behind the others: as many calls deep as there are digits. One
+    // digit needs no division, and no call of itself.
     // Kept: by hand, since `number` can't fail and `write!` may, for all that it promises.
     fn decimal(&mut self, n: usize)
         requires { HasRoom self.old (length (digits n n)) }
