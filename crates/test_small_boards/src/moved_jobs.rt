@@ -38,7 +38,10 @@ impl Moves {
             bench = hand_over(&mut table, rest.word(k), bench);
             rest.put(k, 65535);
         }
-        bench.is_some() && bench == self.to && moved(&table, &reply.board.table, self.but) == 0 && rest == full_list()
+        bench.is_some()
+            && bench == self.to
+            && moved(&table, &reply.board.table, self.but) == 0
+            && rest == full_list()
     }
 
     // Tells whether the call is refused with 8, and leaves all bytes, where its list is one byte too short for them.
