@@ -1,13 +1,15 @@
 // What the calls answer: an accepted call's answer, or why the call was refused.
 #![tactic(auto)]
 
-ghost use Rattle.std.specs.Prelude.{◌≡◌, drop};
+ghost use Rattle.std.specs.Prelude.{◌≡◌, ◌≤◌, drop};
 ghost use Rattle.spec_calls.specs.Answers.{in_numbers};
 ghost use Rattle.board_answers.specs.Answered.{accepted_of, answer_of, returned, values_of};
 
 use table_refusals::Refusal;
 pub use value_list::Values;
 
+#[cfg(test)]
+mod tests;
 mod value_list;
 
 // What an accepted call answers.
@@ -41,7 +43,8 @@ pub enum Answer {
 impl Answer {
     // Gives its values, in document 01's order; yes and level are 1, no, stopped and no job 0.
     pub fn values(self) -> Values
-        ensures { values_of result ≡ drop 1 (in_numbers (accepted_of self)) }
+        ensures numbers { values_of result ≡ drop 1 (in_numbers (accepted_of self)) }
+        ensures count_most { result.count ≤ 3 }
     {
         match self {
             Answer::Blanked | Answer::Sound => Values::of(&[]),
@@ -72,7 +75,8 @@ pub fn number(answer: Result<Answer, Refusal>) -> u32
 
 // Gives the answer's values; a refusal has none.
 pub fn values_told(answer: Result<Answer, Refusal>) -> Values
-    ensures { values_of result ≡ drop 1 (in_numbers (answer_of answer)) }
+    ensures numbers { values_of result ≡ drop 1 (in_numbers (answer_of answer)) }
+    ensures count_most { result.count ≤ 3 }
 {
     match answer {
         Ok(accepted) => accepted.values(),

@@ -8,7 +8,7 @@ pub struct Values {
 }
 
 impl Values {
-    ghost use Rattle.std.specs.Prelude.{◌≡◌, take, ℕ};
+    ghost use Rattle.std.specs.Prelude.{◌≡◌, ◌≤◌, take, ℕ};
     ghost use Rattle.std.specs.Option.{unwrap_or};
     ghost use Rattle.spec_lists.specs.Lists.{nth};
     ghost use Rattle.board_answers.specs.Answered.{values_of};
@@ -18,7 +18,8 @@ impl Values {
 
     // Holds the first three of these numbers, all of them where there are no more.
     pub fn of(numbers: &[usize]) -> Values
-        ensures { values_of result ≡ take 3 numbers.now }
+        ensures numbers { values_of result ≡ take 3 numbers.now }
+        ensures count_most { result.count ≤ 3 }
     {
         let count = numbers.len().min(Values::MOST);
         let mut held = [0; Values::MOST];

@@ -6,4 +6,4 @@ pub listing-requires-clause-k_in_bounds : goal.listing-requires-clause-k_in_boun
 listing-requires-clause-k_in_bounds c = tight_fits _ _ _ c.tight_set-answer.ensures
 
 pub returns : goal.returns
-returns c = tight_replies c.requires.room c.zero_list-list.ensures c.args.height c.tight_set-answer.ensures c.of.ensures c.listing.ensures
+returns c = tight_replies c.requires.room c.zero_list-list.ensures c.args.height c.tight_set-answer.ensures c.of.ensures.numbers c.listing.ensures

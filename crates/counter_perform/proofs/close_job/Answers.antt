@@ -6,4 +6,4 @@ pub listing-requires-clause-k_in_bounds : goal.listing-requires-clause-k_in_boun
 listing-requires-clause-k_in_bounds c = closing_fits _ _ c.closing-answer.ensures
 
 pub returns : goal.returns
-returns c = closing_replies c.requires.room c.zero_list-list.ensures c.noted.ensures.length c.noted.ensures.tally c.closing-answer.auto.t c.args.job c.closing-answer.ensures c.of.ensures c.listing.ensures
+returns c = closing_replies c.requires.room c.zero_list-list.ensures c.noted.ensures.length c.noted.ensures.tally c.closing-answer.auto.t c.args.job c.closing-answer.ensures c.of.ensures.numbers c.listing.ensures
