@@ -1,12 +1,12 @@
 -- What is read of a line, in the words of `Rattle.spec_counter.specs.Counter`.
 use Rattle.std.specs.Prelude as std
-use Rattle.std.specs.Prelude.{ℕ, ◌-◌, ◌≡◌, cond, List, [], ◌∷◌, ◌++◌, eqb, leb, length, Some, None}
+use Rattle.std.specs.Prelude.{ℕ, ◌-◌, ◌<◌, ◌≡◌, cond, List, [], ◌∷◌, ◌++◌, eqb, leb, length, Some, None}
 use Prim.Native.Char.{code}
 use Rattle.std.proofs.Math.Option.{Option, none, some}
 use Rattle.spec_calls.specs.Answers.{refusal_number, unreadable}
 use Rattle.spec_counter.specs.Counter as paper
 use Rattle.spec_text.specs.Numbers.{space, digit}
-use Rattle.spec_counter.specs.Counter.{pieces, numbers, command_for, numbers_of}
+use Rattle.spec_counter.specs.Counter.{pieces, numbers, joined, command_for, numbers_of}
 use Rattle.counter_commands.specs.declared.Command.{Command}
 use Rattle.counter_commands.specs.declared.Command.TheVariants as told
 use Rattle.counter_commands.specs.declared.Numbers.{Numbers}
@@ -49,6 +49,14 @@ abbrev pub behind : List ℕ → Option (List ℕ)
 behind [] = some []
 behind (c ∷ l) = cond (eqb c space) (numbers (pieces space l)) none
 
+-- these bytes cannot be read as fields
+abbrev pub NoFields : List ℕ → Type 0
+NoFields fields = behind fields ≡ none
+
+-- the first field is the number n, and the rest, which is shorter, is what is behind it
+abbrev pub FieldRead : List ℕ → ℕ → List ℕ → Type 0
+FieldRead fields n rest = (behind fields ≡ joined (some n) (behind rest)) × (length rest < length fields)
+
 -- numbers, and the numbers after them
 abbrev pub followed : Option (List ℕ) → Option (List ℕ) → Option (List ℕ)
 followed none r = none
@@ -59,6 +67,10 @@ followed (some k) (some l) = some (k ++ l)
 abbrev pub few : Option (List ℕ) → Option (List ℕ)
 few none = none
 few (some ns) = cond (leb (length ns) 3) (some ns) none
+
+-- the numbers and one more behind them, three at most
+abbrev pub with_one : Option (List ℕ) → ℕ → Option (List ℕ)
+with_one ns n = few (followed ns (some (n ∷ [])))
 
 -- the numbers that were read
 abbrev pub taken : std.Option Numbers → Option (List ℕ)

@@ -1,11 +1,9 @@
 // A line of the counter program as a command.
 #![tactic(auto)]
 
-ghost use Rattle.std.specs.Prelude.{◌≡◌, ◌∷◌, [], ◌<◌, length, MatchOption, Some};
-ghost use Rattle.std.proofs.Math.Option.{none, some};
-ghost use Rattle.spec_counter.specs.Counter.{joined};
-ghost use Rattle.counter_commands.specs.Read.{reading_of, ReadingOf, digit_value, behind};
-ghost use Rattle.counter_commands.specs.Read.{few, followed, taken, given};
+ghost use Rattle.std.specs.Prelude.{◌≡◌, ◌<◌, length, MatchOption, Some};
+ghost use Rattle.counter_commands.specs.Read.{reading_of, ReadingOf, digit_value, behind, NoFields, FieldRead};
+ghost use Rattle.counter_commands.specs.Read.{few, with_one, taken, given};
 
 // "At most 40 bytes before the line feed".
 const LONGEST_LINE: usize = 40;
@@ -38,7 +36,7 @@ enum Numbers {
 impl Numbers {
     // Adds one more number, unless there are three already.
     fn and(self, n: usize) -> Option<Numbers>
-        ensures { taken result ≡ few (followed (taken (Some self)) (some (n ∷ []))) }
+        ensures { taken result ≡ with_one (taken (Some self)) n }
     {
         match self {
             Numbers::None => Some(Numbers::One(n)),
@@ -62,8 +60,8 @@ fn digit_value(byte: u8) -> Option<usize>
 // Reads a space and the number after it, and gives what is behind them too.
 fn read_field(fields: &[u8]) -> Option<(usize, &[u8])>
     requires { 0 < length fields.now }
-    ensures { MatchOption result (behind fields.now ≡ none)
-        (λ field. (behind fields.now ≡ joined (some field.0) (behind field.1.now)) × (length field.1.now < length fields.now)) }
+    ensures { MatchOption result (NoFields fields.now)
+        (λ field. FieldRead fields.now field.0 field.1.now) }
 {
     let [before, first, rest @ ..] = fields else {
         return None;
